@@ -1,0 +1,20 @@
+use std::alloc::{AllocError, AllocFailed};
+use thiserror::Error;
+
+/// Memory was not there. It is the one answer that may come at any call that takes memory, and it is merged with no
+/// other refusal.
+#[derive(Clone, Copy, Debug, PartialEq, Eq, Error)]
+#[error("out of memory")]
+pub struct Memory;
+
+impl From<AllocError> for Memory {
+    fn from(_error: AllocError) -> Memory {
+        Memory
+    }
+}
+
+impl<T: Drop> From<AllocFailed<T>> for Memory {
+    fn from(_error: AllocFailed<T>) -> Memory {
+        Memory
+    }
+}
