@@ -1,0 +1,7 @@
+pub mod Keys
+pub mod Changes
+pub mod State
+pub mod Answers
+pub mod Obstacles
+pub mod Steps
+pub mod Text
