@@ -1,0 +1,4 @@
+pub mod CalendarLemmas
+pub mod DateLemmas
+pub mod FitLemmas
+pub mod Rounding
