@@ -44,12 +44,14 @@ day_number-jiff y m d year day =
     let step : jiff.days_from_civil (pos y) m d ≡ pos (jiff.day_count (pos y) m d) -ℤ pos (jiff.day_count (pos 1970) 1 1) = unfold jiff.days_from_civil in refl in
     step ∙ omega (arith, signed_arith, day_count-jiff y m d year day, day_count-jiff 1970 1 1 (omega arith) (omega arith))
 
+pub first_day-count : jiff.day_count (pos 1) 1 1 ≡ 3_652_791
+first_day-count = day_count-early (pos 1) 10000 1 1 refl (omega arith) (omega arith) (omega arith)
+
 pub first_day-number : first_day ≡ negsuc 719161
 unfolding first_day
 first_day-number =
-    let count : jiff.day_count (pos 1) 1 1 ≡ 3_652_791 = day_count-early (pos 1) 10000 1 1 refl (omega arith) (omega arith) (omega arith) in
     sym (day_number-jiff 1 1 1 (omega arith) (omega arith))
-    ∙ omega (arith, signed_arith, lemma.days_from_civil-day_count (pos 1) 1 1, count)
+    ∙ omega (arith, signed_arith, lemma.days_from_civil-day_count (pos 1) 1 1, first_day-count)
 
 pub last_day-number : last_day ≡ pos 2932896
 unfolding last_day

@@ -53,9 +53,9 @@ impl ColumnType {
     }
 }
 
-/// A power of ten.
+/// A power of ten that 128 bits hold.
 #[tactic(auto, using(crate::proofs::FitLemmas::powers))]
-fn power(exponent: u8) -> u128
+pub(crate) fn power(exponent: u8) -> u128
     requires { exponent ≤ 38 }
     ensures value { result ≡ 10 ^ exponent }
     ensures positive { 0 < result }
