@@ -1,5 +1,5 @@
 -- The calendar: leap years, months, and days counted from 1970-01-01.
-use Rattle.std.specs.Prelude.{ℕ, zero, suc, ◌+◌, ◌-◌, ◌*◌, ◌%◌, nat_le, Bool, not, ◌&&◌, ◌||◌, ◌==◌, if◌then◌else◌, ℤ, pos, ◌-ℤ◌, int_le, unsigned_abs, List, ◌++◌, ◌∷◌, [], take, drop, length, fold, slice_index, Option, Some, None}
+use Rattle.std.specs.Prelude.{ℕ, zero, suc, ◌+◌, ◌-◌, ◌*◌, ◌%◌, nat_le, Bool, not, ◌&&◌, ◌||◌, ◌==◌, if◌then◌else◌, ℤ, pos, ◌-ℤ◌, int_le, unsigned_abs, List, take, drop, length, fold, slice_index, Option, Some, None}
 use Rattle.std.specs.List.{list_all}
 
 -- every fourth year, but of the centuries only every fourth
@@ -72,7 +72,7 @@ digits_value text = fold (λ n c. 10 * n + (c - 48)) 0 text
 -- the day of a year, a month and a day of the month, each in digits
 abbrev pub date_of_parts : List ℕ → List ℕ → List ℕ → Option ℤ
 date_of_parts y m d =
-    if list_all is_digit (y ++ m ++ d) && is_date (digits_value y) (digits_value m) (digits_value d)
+    if list_all is_digit y && list_all is_digit m && list_all is_digit d && is_date (digits_value y) (digits_value m) (digits_value d)
     then Some (day_number (digits_value y) (digits_value m) (digits_value d))
     else None
 

@@ -1,5 +1,5 @@
 -- The printed text of values.
-use Rattle.std.specs.Prelude.{ℕ, ◌-◌, ◌/◌, ◌%◌, ◌^◌, ◌==◌, ℤ, pos, int_lt, unsigned_abs, List, [], ◌∷◌, ◌++◌, length, replicate, decimal, codes, if◌then◌else◌}
+use Rattle.std.specs.Prelude.{ℕ, ◌-◌, ◌/◌, ◌%◌, ◌^◌, ◌==◌, ℤ, pos, int_lt, unsigned_abs, List, [], ◌∷◌, ◌++◌, length, replicate, decimal, codes, IsTrue, if◌then◌else◌}
 use Rattle.std.specs.Fmt.{sign_text}
 use Rattle.std.specs.List.{flat_map}
 use Rattle.cs_types.specs.declared.ColumnType.{ColumnType}
@@ -8,7 +8,8 @@ use Rattle.cs_types.specs.declared.Loose.{Loose}
 use Rattle.cs_types.specs.declared.Loose.TheVariants as loose
 use Rattle.cs_types.specs.declared.Value.{Value}
 use Rattle.cs_types.specs.declared.Value.TheVariants.{Null, Number, Text}
-use Rattle.cs_types.specs.Calendar.{year_of, month_of, day_of_month}
+use Rattle.cs_types.specs.Calendar.{first_day, last_day, year_of, month_of, day_of_month}
+use Rattle.cs_types.specs.Kinds.{is_between}
 
 -- n in at least so many digits
 abbrev pub padded_decimal : ℕ → ℕ → List ℕ
@@ -65,3 +66,10 @@ loose_of kind (Text t) = loose.Text t
 -- the text of a column's value
 abbrev pub value_text : ColumnType → Value → List ℕ
 value_text kind v = loose_text (loose_of kind v)
+
+-- what can be printed: anything but a day outside the calendar
+abbrev pub IsPrintable : Loose → Type 0
+IsPrintable loose.Null = Unit {0}
+IsPrintable (loose.Number m s) = Unit {0}
+IsPrintable (loose.Text t) = Unit {0}
+IsPrintable (loose.Day d) = IsTrue (is_between first_day last_day d)

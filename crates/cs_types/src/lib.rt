@@ -9,11 +9,19 @@
 ghost use Rattle.std.specs.Prelude.{◌≡◌, IfOk};
 ghost use Rattle.cs_types.specs.Values.{value_cmp};
 
+mod date;
+mod fit;
 mod line;
+mod print;
+mod refusal;
 mod row;
 
 use cs_base::{Items, Memory};
+pub use date::read_date;
+pub use fit::{FIRST_DAY, LAST_DAY, fits};
 pub use line::Line;
+pub use print::{loose_of, print_loose, print_number, print_value};
+pub use refusal::ValueRefusal;
 pub use row::{Row, Version, key_of};
 use std::cmp::Ordering;
 

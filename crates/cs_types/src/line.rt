@@ -106,6 +106,29 @@ impl Line {
         Ok(())
     }
 
+    /// Adds five pieces. After `Memory` nothing has changed.
+    pub(crate) fn append_pieces(
+        &mut self,
+        a: &[u8],
+        b: &[u8],
+        c: &[u8],
+        d: &[u8],
+        e: &[u8],
+    ) -> Result<(), Memory>
+        requires { length a.now + length b.now + length c.now + length d.now + length e.now < 2 ^ 32 }
+        ensures ok { OnOk result (self.new ≡ self.old ++ a.now ++ b.now ++ c.now ++ d.now ++ e.now) }
+        ensures err { OnErr result (self.new ≡ self.old) }
+    {
+        let bytes = &mut self.bytes;
+        bytes.reserve(a.len() + b.len() + c.len() + d.len() + e.len())?;
+        bytes.extend_from_slice(a)?;
+        bytes.extend_from_slice(b)?;
+        bytes.extend_from_slice(c)?;
+        bytes.extend_from_slice(d)?;
+        bytes.extend_from_slice(e)?;
+        Ok(())
+    }
+
     /// Adds a number in decimal digits. After `Memory` nothing has changed.
     pub fn append_number(&mut self, number: u64) -> Result<(), Memory>
         ensures ok { OnOk result (self.new ≡ self.old ++ decimal number) }
