@@ -1,5 +1,5 @@
 -- Committed changes, and the table that they make.
-use Rattle.std.specs.Prelude.{ℕ, List, [], map, filter, fold, nat_le, ◌&&◌, if◌then◌else◌, Option, None, Some}
+use Rattle.std.specs.Prelude.{ℕ, List, [], map, filter, fold, nat_le, if◌then◌else◌, Option, None, Some}
 use Rattle.std.specs.BTreeMap.{insert_entry, is_at}
 use Rattle.std.specs.Map.{remove_entry}
 use Rattle.cs_types.specs.declared.Value.{Value}

@@ -5,3 +5,4 @@ pub mod Answers
 pub mod Obstacles
 pub mod Steps
 pub mod Text
+pub mod Places

@@ -1,11 +1,10 @@
 -- Why a write is refused: its least key that has an obstacle.
-use Rattle.std.specs.Prelude.{◌≡◌, ◌≢◌, ◌⊎◌, ℕ, List, map, nat_lt, count_by, All, Contains, Bool, true, false, ◌||◌, is_some, Option, None, Some}
+use Rattle.std.specs.Prelude.{◌≡◌, ◌≢◌, ◌⊎◌, List, map, nat_lt, count_by, All, Contains, Bool, true, false, ◌||◌, is_some, Option, None, Some}
 use Rattle.std.specs.declared.cmp.Ordering.TheVariants.{Greater}
 use Rattle.std.specs.BTreeMap.{is_at}
 use Rattle.std.specs.Map.{lookup}
 use Rattle.cs_types.specs.declared.Key.{Key}
 use Rattle.cs_types.specs.declared.Schema.{Schema}
-use Rattle.cs_types.specs.declared.Value.{Value}
 use Rattle.cs_model.specs.declared.entry.Bound.{Bound}
 use Rattle.cs_model.specs.declared.entry.Bound.TheVariants.{Insert, Select, Refused}
 use Rattle.cs_model.specs.declared.entry.Refusal.{Refusal}

@@ -12,7 +12,7 @@ use Rattle.cs_model.specs.declared.entry.Reply.TheVariants as reply
 use Rattle.cs_model.specs.declared.entry.Entry.{Entry}
 use Rattle.cs_model.specs.declared.entry.Entry.TheVariants.{Start, Finish, End}
 use Rattle.cs_model.specs.Keys.{key_cmp}
-use Rattle.cs_model.specs.Changes.{Edit, Table, Change}
+use Rattle.cs_model.specs.Changes.{Edit, Change}
 use Rattle.cs_model.specs.State.{Txn, Half, State, start, with, txn_set, half_set, seen}
 use Rattle.cs_model.specs.Answers.{reads_table, answer, writes}
 use Rattle.cs_model.specs.Obstacles.{keys_of, is_present, IsObstacle, IsJudged}

@@ -1,5 +1,5 @@
 -- The printed text of replies and events, and of a log.
-use Rattle.std.specs.Prelude.{ℕ, ◌+◌, List, [], ◌∷◌, ◌++◌, length, codes, decimal, count_by, Bool, false, ◌==◌, slice_get, Option, None, Some}
+use Rattle.std.specs.Prelude.{ℕ, ◌+◌, List, [], ◌∷◌, ◌++◌, length, codes, decimal, count_by, Bool, false, ◌==◌, slice_get, All, IsTrue, Option, None, Some}
 use Rattle.std.specs.List.{flat_map}
 use Rattle.cs_types.specs.declared.Column.{Column}
 use Rattle.cs_types.specs.declared.ColumnType.{ColumnType}
@@ -8,7 +8,8 @@ use Rattle.cs_types.specs.declared.Key.{Key}
 use Rattle.cs_types.specs.declared.Loose.{Loose}
 use Rattle.cs_types.specs.declared.Schema.{Schema}
 use Rattle.cs_types.specs.declared.Value.TheVariants.{Number}
-use Rattle.cs_types.specs.Text.{loose_text, value_text}
+use Rattle.cs_types.specs.Kinds.{keeps}
+use Rattle.cs_types.specs.Text.{loose_text, value_text, IsPrintable}
 use Rattle.cs_model.specs.declared.entry.Refusal.{Refusal}
 use Rattle.cs_model.specs.declared.entry.Refusal.TheVariants.{Reading, Duplicate, Memory}
 use Rattle.cs_model.specs.declared.entry.Reply.{Reply}
@@ -93,3 +94,23 @@ text_after schema before (entry ∷ entries) = line_after schema before entry ++
 -- the text of a log
 abbrev pub text : Schema → List Entry → List ℕ
 text schema log = text_after schema [] log
+
+-- ---- what can be printed: values that a column keeps
+
+abbrev pub IsPrintableRefusal : Schema → Refusal → Type 0
+IsPrintableRefusal schema (Reading number at) = Unit {0}
+IsPrintableRefusal schema (Duplicate key) = IsTrue (keeps (key_kind schema) (Number key.0))
+IsPrintableRefusal schema Memory = Unit {0}
+
+abbrev pub IsPrintableRow : List Loose → Type 0
+IsPrintableRow row = All IsPrintable row
+
+abbrev pub IsPrintableReply : Schema → Reply → Type 0
+IsPrintableReply schema (Affected count) = Unit {0}
+IsPrintableReply schema (Rows rows segments) = All IsPrintableRow rows
+IsPrintableReply schema (Refused refusal) = IsPrintableRefusal schema refusal
+
+abbrev pub IsPrintableEntry : Schema → Entry → Type 0
+IsPrintableEntry schema (Start session bound short) = Unit {0}
+IsPrintableEntry schema (Finish session reply) = IsPrintableReply schema reply
+IsPrintableEntry schema (End session) = Unit {0}

@@ -6,5 +6,9 @@
 #![tactic(auto)]
 
 mod entry;
+mod log;
+mod print;
 
 pub use entry::{AnswerRow, Bound, Entry, Refusal, Reply};
+pub use log::print_log;
+pub use print::print_entry;

@@ -54,3 +54,8 @@ AreTurns schema session (Whole s text ∷ lines) entries =
 pub record Turns (script : Script) (log : List Entry) : Type 0 where
   pub each : (session : ℕ) → Contains script.sessions session → AreTurns script.schema session (lines_of session script.lines) (entries_of session log)
   pub none : (session : ℕ) → (Contains script.sessions session → ⊥) → entries_of session log ≡ []
+
+-- the same of a run that stopped: each session's entries are a front of such turns
+pub record FrontTurns (script : Script) (log : List Entry) : Type 0 where
+  pub each : (session : ℕ) → Contains script.sessions session → (rest : List Entry) × AreTurns script.schema session (lines_of session script.lines) (entries_of session log ++ rest)
+  pub none : (session : ℕ) → (Contains script.sessions session → ⊥) → entries_of session log ≡ []
