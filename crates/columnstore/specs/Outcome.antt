@@ -36,11 +36,11 @@ pub record Performed (bytes whole : List ℕ) : Type 0 where
   pub is : whole ≡ text script.schema log
 
 -- ` error <number>`, for a refused setup statement
-abbrev pub number_text : ℕ → List ℕ
-number_text number = if number == 0 then [] else codes " error " ++ decimal number
+abbrev pub setup_error_text : ℕ → List ℕ
+setup_error_text number = if number == 0 then [] else codes " error " ++ decimal number
 
 abbrev pub bad_line_text : ℕ → ℕ → ℕ → List ℕ
-bad_line_text line reason number = codes "refused line " ++ decimal line ++ codes " reason " ++ decimal reason ++ number_text number ++ codes "\n"
+bad_line_text line reason number = codes "refused line " ++ decimal line ++ codes " reason " ++ decimal reason ++ setup_error_text number ++ codes "\n"
 
 -- the script has a first bad line, and this is the refusal that names it
 pub record HasBadLine (bytes whole : List ℕ) : Type 0 where
@@ -51,53 +51,55 @@ pub record HasBadLine (bytes whole : List ℕ) : Type 0 where
   pub is : whole ≡ bad_line_text line reason number
 
 -- the whole text that is to be written for an input that was read, with the status that goes with it
-abbrev pub IsAnswer : List ℕ → Status → List ℕ → Type 0
-IsAnswer bytes status.Done whole = Performed bytes whole
-IsAnswer bytes status.Script whole = HasBadLine bytes whole
-IsAnswer bytes status.Usage whole = ⊥
-IsAnswer bytes status.ReadFault whole = ⊥
-IsAnswer bytes status.WriteFault whole = ⊥
-IsAnswer bytes status.Memory whole = ⊥
+abbrev pub IsAnswered : List ℕ → Status → List ℕ → Type 0
+IsAnswered bytes status.Done whole = Performed bytes whole
+IsAnswered bytes status.Script whole = HasBadLine bytes whole
+IsAnswered bytes status.Usage whole = ⊥
+IsAnswered bytes status.ReadFault whole = ⊥
+IsAnswered bytes status.WriteFault whole = ⊥
+IsAnswered bytes status.Memory whole = ⊥
 
 -- the whole text that is to be written, with the status that goes with it: came are the bytes that were read, and left
 -- those that are left then, where that is told
 pub data Asks (words : Words) (came : List ℕ) (left : Option (List ℕ)) : Status → List ℕ → Type 0 where
   usage : are_words words ≡ false → came ≡ [] → Asks words came left status.Usage (codes "usage refused\n")
   too_long : are_words words ≡ true → limit < length came → Asks words came left status.Script (codes "refused too long\n")
-  answered : {s : Status} {whole : List ℕ} → are_words words ≡ true → length came ≤ limit → IsAtEnd left → IsAnswer came s whole → Asks words came left s whole
+  answered : {s : Status} {whole : List ℕ} → are_words words ≡ true → length came ≤ limit → IsAtEnd left → IsAnswered came s whole → Asks words came left s whole
 
 -- added is a front of whole
 abbrev pub IsFront : List ℕ → List ℕ → Type 0
 IsFront added whole = (rest : List ℕ) × (whole ≡ added ++ rest)
 
--- no step was made, or those of the script's front, with a legal log
-abbrev pub AreSteps : List ℕ → Schema → List Entry → Type 0
-AreSteps bytes schema log = (log ≡ []) ⊎ ((script : Script) × (script_of bytes ≡ Ok script) × (schema ≡ script.schema) × IsFrontLogOf script log)
+-- no step was made, or, where the input was read to its end, a front of the script's steps
+abbrev pub AreSteps : List ℕ → Option (List ℕ) → Schema → List Entry → Type 0
+AreSteps came left schema log =
+    (log ≡ []) ⊎ ((script : Script) × (length came ≤ limit) × IsAtEnd left × (script_of came ≡ Ok script) × (schema ≡ script.schema) × IsFrontLogOf script log)
 
 -- memory gave out: what was added is a front of the text of the steps that were made
-pub record IsStopped (came added : List ℕ) : Type 0 where
+pub record IsStopped (came : List ℕ) (left : Option (List ℕ)) (added : List ℕ) : Type 0 where
   pub schema : Schema
   pub log : List Entry
-  pub steps : AreSteps came schema log
+  pub steps : AreSteps came left schema log
   pub front : IsFront added (text schema log)
 
--- what a status says of the bytes that were read and of those that were added to the output
+-- what a status says of the bytes that were read and of those that were added to the output; that a fault has its cause
+-- is said by the counts of the source and the sink
 abbrev pub Ends : Words → List ℕ → Option (List ℕ) → List ℕ → Status → Type 0
 Ends words came left added status.Done = Asks words came left status.Done added
 Ends words came left added status.Usage = Asks words came left status.Usage added
 Ends words came left added status.Script = Asks words came left status.Script added
 Ends words came left added status.ReadFault = (are_words words ≡ true) × (added ≡ [])
 Ends words came left added status.WriteFault = (s : Status) × (whole : List ℕ) × Asks words came left s whole × IsFront added whole
-Ends words came left added status.Memory = (are_words words ≡ true) × IsStopped came added
+Ends words came left added status.Memory = (are_words words ≡ true) × IsStopped came left added
 
 -- the run was done, or memory or a stream gave out
-abbrev pub IsAnswered : Status → Type 0
-IsAnswered status.Done = Unit {0}
-IsAnswered status.Usage = ⊥
-IsAnswered status.Script = ⊥
-IsAnswered status.ReadFault = Unit {0}
-IsAnswered status.WriteFault = Unit {0}
-IsAnswered status.Memory = Unit {0}
+abbrev pub IsDoneOrStopped : Status → Type 0
+IsDoneOrStopped status.Done = Unit {0}
+IsDoneOrStopped status.Usage = ⊥
+IsDoneOrStopped status.Script = ⊥
+IsDoneOrStopped status.ReadFault = Unit {0}
+IsDoneOrStopped status.WriteFault = Unit {0}
+IsDoneOrStopped status.Memory = Unit {0}
 
 -- the exit status
 abbrev pub code_of : Status → ℕ

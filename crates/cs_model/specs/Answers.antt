@@ -11,11 +11,11 @@ use Rattle.cs_model.specs.declared.entry.Bound.{Bound}
 use Rattle.cs_model.specs.declared.entry.Bound.TheVariants.{Insert, Select, Refused}
 use Rattle.cs_model.specs.Changes.{Edit, Table}
 
--- whether a statement is one of the table, which opens a transaction and takes a snapshot
-abbrev pub reads_table : Bound → Bool
-reads_table (Insert rows) = true
-reads_table Select = true
-reads_table (Refused refusal) = false
+-- whether a statement is one of the table, which takes a snapshot, in a transaction of its own where none is open
+abbrev pub is_of_table : Bound → Bool
+is_of_table (Insert rows) = true
+is_of_table Select = true
+is_of_table (Refused refusal) = false
 
 -- the cells of a row by these columns, from the i-th cell on
 abbrev pub cells_from : ℕ → List Column → List Value → List Loose
@@ -26,7 +26,7 @@ cells_from i (column ∷ columns) row = loose_of column.kind (cell_at row i) ∷
 abbrev pub answer : Schema → Table → List (List Loose)
 answer schema table = map (λ (entry : Key × List Value). cells_from 0 schema.columns entry.1) table
 
--- what a statement writes, in its order: for an INSERT each row at its key, where a key may stand twice
+-- what a statement writes: for an INSERT each row at its key, where a key may stand twice; their order decides nothing
 abbrev pub writes : Schema → Bound → List Edit
 writes schema (Insert rows) = map (λ row. (key_in schema.key row, Some row)) rows
 writes schema Select = []

@@ -32,7 +32,7 @@ edited table edit = edited_by table edit.0 edit.1
 abbrev pub laid : Table → List Edit → Table
 laid table edits = fold edited table edits
 
--- the changes numbered at most s
+-- the changes numbered at most s, in the order of the list, which is that of their numbers
 abbrev pub until : ℕ → List Change → List Change
 until s changes = filter (λ (change : Change). nat_le change.commit s) changes
 

@@ -1,5 +1,5 @@
 -- Why a write is refused: its least key that has an obstacle.
-use Rattle.std.specs.Prelude.{◌≡◌, ◌≢◌, ◌⊎◌, List, map, nat_lt, count_by, All, Contains, Bool, true, false, ◌||◌, is_some, Option, None, Some}
+use Rattle.std.specs.Prelude.{◌≡◌, ℕ, ◌≢◌, ◌⊎◌, List, map, nat_lt, count_by, All, Contains, Bool, true, false, ◌||◌, is_some, Option, None, Some}
 use Rattle.std.specs.declared.cmp.Ordering.TheVariants.{Greater}
 use Rattle.std.specs.BTreeMap.{is_at}
 use Rattle.std.specs.Map.{lookup}
@@ -11,6 +11,7 @@ use Rattle.cs_model.specs.declared.entry.Refusal.{Refusal}
 use Rattle.cs_model.specs.declared.entry.Refusal.TheVariants.{Reading, Duplicate, Memory}
 use Rattle.cs_model.specs.Keys.{key_cmp, same_key}
 use Rattle.cs_model.specs.Changes.{Edit, Table}
+use Rattle.cs_model.specs.State.{State}
 use Rattle.cs_model.specs.Answers.{writes}
 
 -- the keys that a statement writes
@@ -31,12 +32,12 @@ is_present schema (Insert rows) table key = has_row table key || stands_twice (k
 is_present schema Select table key = false
 is_present schema (Refused refusal) table key = false
 
--- the obstacle of one key, or that it has none
-abbrev pub IsObstacle : (Key → Bool) → Key → Option Refusal → Type 0
-IsObstacle present key None = present key ≡ false
-IsObstacle present key (Some (Duplicate k)) = (k ≡ key) × (present key ≡ true)
-IsObstacle present key (Some (Reading number at)) = ⊥
-IsObstacle present key (Some Memory) = ⊥
+-- the obstacle of one key to a write of a session, or that it has none
+abbrev pub IsObstacle : State → ℕ → (Key → Bool) → Key → Option Refusal → Type 0
+IsObstacle m session present key None = present key ≡ false
+IsObstacle m session present key (Some (Duplicate k)) = (k ≡ key) × (present key ≡ true)
+IsObstacle m session present key (Some (Reading number at)) = ⊥
+IsObstacle m session present key (Some Memory) = ⊥
 
 -- the refusal is the obstacle of the least of these keys that has one
 pub record IsLeastObstacle (Is : Key → Option Refusal → Type 0) (keys : List Key) (refusal : Refusal) : Type 0 where

@@ -45,6 +45,5 @@ seen_at changes None own = laid [] own
 seen_at changes (Some s) own = laid (table changes s) own
 
 -- what a transaction reads: the table of its snapshot, with its own writes laid over it
-abbrev pub seen : List Change → Option Txn → Table
-seen changes None = []
-seen changes (Some txn) = seen_at changes txn.snapshot txn.own
+abbrev pub seen : List Change → Txn → Table
+seen changes txn = seen_at changes txn.snapshot txn.own

@@ -12,9 +12,9 @@ use Rattle.cs_model.specs.declared.entry.Reply.TheVariants as reply
 use Rattle.cs_model.specs.declared.entry.Entry.{Entry}
 use Rattle.cs_model.specs.declared.entry.Entry.TheVariants.{Start, Finish, End}
 use Rattle.cs_model.specs.Keys.{key_cmp}
-use Rattle.cs_model.specs.Changes.{Edit, Change}
+use Rattle.cs_model.specs.Changes.{Edit, Table, Change}
 use Rattle.cs_model.specs.State.{Txn, Half, State, start, with, txn_set, half_set, seen}
-use Rattle.cs_model.specs.Answers.{reads_table, answer, writes}
+use Rattle.cs_model.specs.Answers.{is_of_table, answer, writes}
 use Rattle.cs_model.specs.Obstacles.{keys_of, is_present, IsObstacle, IsJudged}
 
 -- ---- Start
@@ -45,7 +45,7 @@ pinned m session short = record m {
 
 -- the state after a Start
 abbrev pub started : State → ℕ → Bound → Bool → State
-started m session b short = half_set (if reads_table b then pinned m session short else m) session (Some (record { bound = b; short = short }))
+started m session b short = half_set (if is_of_table b then pinned m session short else m) session (Some (record { bound = b; short = short }))
 
 -- ---- the reply of a Finish
 
@@ -61,13 +61,20 @@ IsWritten Judged edits (reply.Affected count) = Judged None × (count ≡ length
 IsWritten Judged edits (reply.Refused refusal) = Judged (Some refusal)
 IsWritten Judged edits (reply.Rows list segments) = ⊥
 
--- the reply that a statement is defined to have
+-- the reply to a write, over what its transaction sees
+abbrev pub IsWriteReply : Schema → State → ℕ → Table → Bound → Reply → Type 0
+IsWriteReply schema m session table b r = IsWritten (IsJudged (IsObstacle m session (is_present schema b table)) (keys_of (writes schema b))) (writes schema b) r
+
+-- the reply that a statement is defined to have, with the session's transaction; one of the table has none without it
+abbrev pub IsReplyIn : Schema → State → ℕ → Option Txn → Bound → Reply → Type 0
+IsReplyIn schema m session txn (bound.Refused refusal) r = r ≡ reply.Refused refusal
+IsReplyIn schema m session None bound.Select r = ⊥
+IsReplyIn schema m session (Some txn) bound.Select r = IsAnswer (m.statistics session) (answer schema (seen m.changes txn)) r
+IsReplyIn schema m session None (bound.Insert rows) r = ⊥
+IsReplyIn schema m session (Some txn) (bound.Insert rows) r = IsWriteReply schema m session (seen m.changes txn) (bound.Insert rows) r
+
 abbrev pub IsReply : Schema → State → ℕ → Bound → Reply → Type 0
-IsReply schema m session (bound.Refused refusal) r = r ≡ reply.Refused refusal
-IsReply schema m session bound.Select r = IsAnswer (m.statistics session) (answer schema (seen m.changes (m.txns session))) r
-IsReply schema m session (bound.Insert rows) r =
-    IsWritten (IsJudged (IsObstacle (is_present schema (bound.Insert rows) (seen m.changes (m.txns session)))) (keys_of (writes schema (bound.Insert rows))))
-    (writes schema (bound.Insert rows)) r
+IsReply schema m session b r = IsReplyIn schema m session (m.txns session) b r
 
 -- ---- the state after a Finish
 
@@ -102,15 +109,19 @@ accepted_in m session (Some txn) edits =
 abbrev pub accepted : Schema → State → ℕ → Bound → State
 accepted schema m session b = accepted_in m session (m.txns session) (writes schema b)
 
--- after a refusal: an implicit transaction is gone, an explicit one stays as it was
-abbrev pub refused_in : State → ℕ → Option Txn → State
-refused_in m session None = m
-refused_in m session (Some txn) = if txn.depth == 0 then gone m session else m
+-- whether a refusal ends the transaction: every one ends an implicit one
+abbrev pub ends_txn : Txn → Refusal → Bool
+ends_txn txn refusal = txn.depth == 0
+
+-- after a refusal the transaction is gone, or as it was
+abbrev pub refused_in : State → ℕ → Option Txn → Refusal → State
+refused_in m session None refusal = m
+refused_in m session (Some txn) refusal = if ends_txn txn refusal then gone m session else m
 
 abbrev pub replied : Schema → State → ℕ → Bound → Reply → State
 replied schema m session b (reply.Affected count) = accepted schema m session b
 replied schema m session b (reply.Rows list segments) = accepted schema m session b
-replied schema m session b (reply.Refused refusal) = refused_in m session (m.txns session)
+replied schema m session b (reply.Refused refusal) = refused_in m session (m.txns session) refusal
 
 -- the state after a Finish: the statement is no longer half done, and then its reply takes effect
 abbrev pub finished : Schema → State → ℕ → Bound → Reply → State
@@ -127,7 +138,7 @@ IsFinish schema m session (Some half) r after =
 
 -- the entry leads from the state m to the state after
 abbrev pub IsStep : Schema → State → Entry → State → Type 0
-IsStep schema m (Start session b short) after = (m.half session ≡ None) × (short ≡ true → reads_table b ≡ true) × (after ≡ started m session b short)
+IsStep schema m (Start session b short) after = (m.half session ≡ None) × (short ≡ true → is_of_table b ≡ true) × (after ≡ started m session b short)
 IsStep schema m (Finish session r) after = IsFinish schema m session (m.half session) r after
 IsStep schema m (End session) after = (m.half session ≡ None) × (after ≡ gone m session)
 

@@ -67,11 +67,11 @@ entry_text schema event place (Start session bound short) = decimal event ++ cod
 entry_text schema event place (Finish session reply) = decimal event ++ codes " " ++ session_text session ++ codes "." ++ decimal place ++ codes " < " ++ reply_text schema reply
 entry_text schema event place (End session) = decimal event ++ codes " " ++ session_text session ++ codes " end\n"
 
--- the session that an entry belongs to
-abbrev pub session_of : Entry → ℕ
-session_of (Start session bound short) = session
-session_of (Finish session reply) = session
-session_of (End session) = session
+-- the number of the actor whose entry it is: that of its session
+abbrev pub actor_of : Entry → ℕ
+actor_of (Start session bound short) = session
+actor_of (Finish session reply) = session
+actor_of (End session) = session
 
 abbrev pub is_start_of : ℕ → Entry → Bool
 is_start_of session (Start s bound short) = s == session
@@ -84,7 +84,7 @@ statements_of session entries = count_by (is_start_of session) entries
 
 -- the text of an entry behind these: its event number counts all entries, its place its session's statements
 abbrev pub line_after : Schema → List Entry → Entry → List ℕ
-line_after schema before entry = entry_text schema (length before + 1) (statements_of (session_of entry) (before ++ entry ∷ [])) entry
+line_after schema before entry = entry_text schema (length before + 1) (statements_of (actor_of entry) (before ++ entry ∷ [])) entry
 
 -- the text of the entries that come behind those before
 abbrev pub text_after : Schema → List Entry → List Entry → List ℕ
@@ -95,7 +95,7 @@ text_after schema before (entry ∷ entries) = line_after schema before entry ++
 abbrev pub text : Schema → List Entry → List ℕ
 text schema log = text_after schema [] log
 
--- ---- what can be printed: values that a column keeps
+-- ---- what can be printed: values that a column keeps, and no day outside the calendar
 
 abbrev pub IsPrintableRefusal : Schema → Refusal → Type 0
 IsPrintableRefusal schema (Reading number at) = Unit {0}

@@ -14,7 +14,7 @@ pub enum Bound {
     Insert(Items<Row>),
     /// SELECT of all columns and rows.
     Select,
-    /// Reading or binding refused the text.
+    /// Reading or binding refused the text, or there was no memory for it.
     Refused(Refusal),
 }
 
@@ -53,7 +53,7 @@ pub enum Entry {
         bound: Bound,
         short: bool,
     },
-    /// The statement that the session began takes effect.
+    /// The statement that the session began is replied to, and takes effect unless it is refused.
     Finish {
         session: u32,
         reply: Reply,

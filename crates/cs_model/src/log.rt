@@ -1,6 +1,6 @@
 // The text of a log.
 ghost use Rattle.std.specs.Prelude.{◌≡◌, ◌+◌, ◌<◌, ◌^◌, ℕ, All, IfOk, OnOk};
-ghost use Rattle.cs_model.specs.Text.{session_of, text, IsPrintableEntry};
+ghost use Rattle.cs_model.specs.Text.{actor_of, text, IsPrintableEntry};
 ghost use Rattle.cs_model.specs.Places.{place_in, begun_by};
 
 use crate::entry::Entry;
@@ -25,9 +25,9 @@ fn place_of(places: &Places, session: u32) -> u64
 
 /// Counts an entry, and answers the place of its statement in its session.
 fn count(places: &mut Places, entry: &Entry) -> Result<u64, Memory>
-    requires { place_in places.old (session_of entry.now) + 1 < 2 ^ 64 }
+    requires { place_in places.old (actor_of entry.now) + 1 < 2 ^ 64 }
     ensures counts { OnOk result ((session : ℕ) → place_in places.new session ≡ place_in places.old session + begun_by entry.now session) }
-    ensures place { IfOk result (λ place. place ≡ place_in places.new (session_of entry.now)) }
+    ensures place { IfOk result (λ place. place ≡ place_in places.new (actor_of entry.now)) }
 {
     match entry {
         Entry::Start { session, .. } => {

@@ -1,6 +1,7 @@
 -- What the calls of a source and a sink do to the bytes that they tell, and when they may fail.
 use Rattle.std.specs.Prelude.{◌≡◌, ℕ, ◌≤◌, List, [], length, take, Result, OnErr, IfSome}
 use Rattle.std.specs.declared.option.Option.{Option}
+use Rattle.std.specs.declared.option.Option.TheVariants.{None}
 use Rattle.std.specs.Io.KnownBytes.{prepend_known, append_known}
 use Rattle.cs_base.specs.Counts.{Rose}
 
@@ -24,3 +25,7 @@ AddsFront old new bytes = (n : ℕ) × (n ≤ length bytes) × Adds old new (tak
 -- nothing is left, where that is told
 abbrev pub IsAtEnd : Option (List ℕ) → Type 0
 IsAtEnd left = IfSome left (λ bytes. bytes ≡ [])
+
+-- what an object tells that tells no bytes
+abbrev pub untold : Option (List ℕ)
+untold = None

@@ -167,6 +167,7 @@ impl Sink for MemorySink {
         ensures faults { self.new.faults ≡ counted (is_err result) self.old.faults }
         ensures failing { self.new.failing ≡ self.old.failing }
         ensures room { self.new.room ≡ self.old.room }
+        ensures within { length self.new.held ≤ self.new.room }
     {
         self.calls = self.calls.saturating_add(1);
         let free = self.room - self.bytes.len();

@@ -1,5 +1,5 @@
 // A source of bytes, and the call that reads all of it.
-ghost use Rattle.std.specs.Prelude.{◌≡◌, ◌≤◌, ◌<◌, ◌+◌, List, ℕ, length, take, IfOk, OnErr, IsErrOf};
+ghost use Rattle.std.specs.Prelude.{◌≡◌, ◌≤◌, ◌<◌, ◌+◌, List, ℕ, length, take, IfOk, OnErr, IsErrOf, ◌↔◌};
 ghost use Rattle.std.specs.declared.option.Option.{Option};
 ghost use Rattle.std.specs.Io.{ReadsAtMost};
 ghost use Rattle.cs_base.specs.Counts.{Rose, count_up};
@@ -60,10 +60,8 @@ pub fn read_all<I: Source>(
     ensures end { IfOk result (λ bytes. IsAtEnd (I.left source.new)) }
     ensures within { IfOk result (λ bytes. length bytes.items ≤ limit) }
     ensures fault { IsErrOf result InputRefusal.Fault → Rose (I.faults source.old) (I.faults source.new) }
-    ensures too_long { IsErrOf result InputRefusal.TooLong →
-        ((came : List ℕ) × (limit < length came) × Takes (I.left source.old) (I.left source.new) came) }
-    // Whatever the answer, some bytes were taken from the front, and the count of faults did not fall.
-    ensures told { (came : List ℕ) × Takes (I.left source.old) (I.left source.new) came }
+    // Whatever the answer, some bytes were taken from the front; it is `TooLong` exactly where they are too many.
+    ensures came { (came : List ℕ) × Takes (I.left source.old) (I.left source.new) came × (IsErrOf result InputRefusal.TooLong ↔ (limit < length came)) }
     ensures later { I.faults source.old ≤ I.faults source.new }
     ensures turns { I.calls source.new ≤ I.calls source.old + limit + 1 }
 {

@@ -1,5 +1,9 @@
 // The standard streams. They tell no bytes: what they carry is trusted.
-ghost use Rattle.std.specs.Prelude.{◌≡◌, None};
+ghost use Rattle.std.specs.Prelude.{◌≡◌, ◌<◌, length, take, IfOk, OnErr, is_err};
+ghost use Rattle.std.specs.Io.{ReadsAtMost, WritesAtMost};
+ghost use Rattle.cs_base.specs.Counts.{count_up};
+ghost use Rattle.cs_outside.specs.Outside.{HasCause, Takes, Adds, IsAtEnd, untold};
+ghost use Rattle.cs_outside.specs.Memory.{counted};
 
 use super::{Failed, Sink, Source};
 use std::io::{Read, Stdin, Stdout, Write};
@@ -13,11 +17,12 @@ pub struct StdSource {
 }
 
 impl StdSource {
-    ghost use Rattle.cs_outside.specs.Standard.{source_faults};
+    ghost use Rattle.cs_outside.specs.Standard.{source_faults, source_calls};
 
     /// A source over the standard input, with no fault so far.
     pub fn new(stream: Stdin) -> StdSource
-        ensures { source_faults result ≡ 0 }
+        ensures faults { source_faults result ≡ 0 }
+        ensures calls { source_calls result ≡ 0 }
     {
         StdSource {
             stream,
@@ -28,13 +33,21 @@ impl StdSource {
 }
 
 impl Source for StdSource {
-    ghost left = { λ _. None };
+    ghost left = { λ _. untold };
 
     ghost faults = { λ s. s.faults };
 
     ghost calls = { λ s. s.calls };
 
-    fn read(&mut self, buf: &mut [u8]) -> Result<usize, Failed> {
+    fn read(&mut self, buf: &mut [u8]) -> Result<usize, Failed>
+        ensures bound { ReadsAtMost result buf.new }
+        ensures ok { IfOk result (λ n. Takes untold untold (take n buf.new)) }
+        ensures end { IfOk result (λ n. n ≡ 0 → 0 < length buf.old → IsAtEnd untold) }
+        ensures err { OnErr result (untold ≡ untold) }
+        ensures cause { HasCause self.old.faults self.new.faults result }
+        ensures called { self.new.calls ≡ count_up self.old.calls }
+        ensures faults { self.new.faults ≡ counted (is_err result) self.old.faults }
+    {
         self.calls = self.calls.saturating_add(1);
         match self.stream.read(buf) {
             Ok(count) => Ok(count),
@@ -55,11 +68,12 @@ pub struct StdSink {
 }
 
 impl StdSink {
-    ghost use Rattle.cs_outside.specs.Standard.{sink_faults};
+    ghost use Rattle.cs_outside.specs.Standard.{sink_faults, sink_calls};
 
     /// A sink over the standard output, with no fault so far.
     pub fn new(stream: Stdout) -> StdSink
-        ensures { sink_faults result ≡ 0 }
+        ensures faults { sink_faults result ≡ 0 }
+        ensures calls { sink_calls result ≡ 0 }
     {
         StdSink {
             stream,
@@ -70,13 +84,21 @@ impl StdSink {
 }
 
 impl Sink for StdSink {
-    ghost held = { λ _. None };
+    ghost held = { λ _. untold };
 
     ghost faults = { λ s. s.faults };
 
     ghost calls = { λ s. s.calls };
 
-    fn write(&mut self, piece: &[u8]) -> Result<usize, Failed> {
+    fn write(&mut self, piece: &[u8]) -> Result<usize, Failed>
+        ensures bound { WritesAtMost result piece.now }
+        ensures progress { IfOk result (λ n. 0 < length piece.now → 0 < n) }
+        ensures ok { IfOk result (λ n. Adds untold untold (take n piece.now)) }
+        ensures err { OnErr result (untold ≡ untold) }
+        ensures cause { HasCause self.old.faults self.new.faults result }
+        ensures called { self.new.calls ≡ count_up self.old.calls }
+        ensures faults { self.new.faults ≡ counted (is_err result) self.old.faults }
+    {
         self.calls = self.calls.saturating_add(1);
         match self.stream.write(piece) {
             // A write of nothing on a piece that has a byte would never end, so it is a fault.

@@ -2,7 +2,7 @@
 use Rattle.std.proofs.Common.{◌≡◌, ℕ, suc, ◌+◌, List, length, arith, [], ◌∷◌, ◌++◌, refl, sym, ap, subst, ◌∙◌, cond, Bool, true, false, ◌||◌, All}
 use Rattle.std.specs.Prelude.{Result, Ok, Err, Option, None, Some, ◌==◌, filter, bytes_eq}
 use Rattle.std.proofs.lemmas.List.Elements.{All-nil, All-cons}
-use Rattle.tsql_binder.specs.Reading.{behind}
+use Rattle.tsql_binder.specs.Meaning.{behind}
 use Rattle.script_reader.specs.declared.script.Step.{Step}
 use Rattle.script_reader.specs.declared.script.Step.TheVariants.{Whole}
 use Rattle.script_reader.specs.declared.script.ScriptRefusal.{ScriptRefusal}

@@ -7,7 +7,7 @@ use Rattle.cs_model.specs.declared.entry.Refusal.TheVariants.{Memory}
 use Rattle.cs_model.specs.declared.entry.Reply.{Reply}
 use Rattle.cs_model.specs.declared.entry.Entry.{Entry}
 use Rattle.cs_model.specs.declared.entry.Entry.TheVariants.{Start, Finish, End}
-use Rattle.cs_model.specs.Text as text
+use Rattle.cs_model.specs.Text.{actor_of}
 use Rattle.tsql_binder.specs.Meaning.{Means}
 use Rattle.script_reader.specs.declared.script.Script.{Script}
 use Rattle.script_reader.specs.declared.script.Step.{Step}
@@ -18,11 +18,15 @@ use Rattle.script_reader.specs.Scripts.{session_of}
 abbrev pub IsBound : Schema → List ℕ → Bound → Type 0
 IsBound schema text bound = Means schema text bound ⊎ (bound ≡ Refused Memory)
 
--- the events of a line, behind those before
+-- the events that a statement makes between its Start and its Finish: so far none
+abbrev pub AreMoves : Bound → List Entry → Type 0
+AreMoves bound moves = moves ≡ []
+
+-- the events of a line; before are those of the earlier lines, on which no line depends so far
 abbrev pub IsPiece : Schema → List Entry → Step → List Entry → Type 0
 IsPiece schema before (Whole session text) piece =
-    (bound : Bound) × (short : Bool) × (reply : Reply)
-    × (piece ≡ Start session bound short ∷ Finish session reply ∷ []) × IsBound schema text bound
+    (bound : Bound) × (short : Bool) × (moves : List Entry) × (reply : Reply)
+    × (piece ≡ Start session bound short ∷ moves ++ Finish session reply ∷ []) × IsBound schema text bound × AreMoves bound moves
 
 -- the entries behind those before are a piece for each line, in order
 abbrev pub ArePieces : Schema → List Entry → List Step → List Entry → Type 0
@@ -37,7 +41,7 @@ Scheduled script log = (events : List Entry) × ArePieces script.schema [] scrip
 
 -- the entries of a session
 abbrev pub entries_of : ℕ → List Entry → List Entry
-entries_of session log = filter (λ entry. text.session_of entry == session) log
+entries_of session log = filter (λ entry. actor_of entry == session) log
 
 -- the lines of a session
 abbrev pub lines_of : ℕ → List Step → List Step
@@ -55,7 +59,7 @@ pub record Turns (script : Script) (log : List Entry) : Type 0 where
   pub each : (session : ℕ) → Contains script.sessions session → AreTurns script.schema session (lines_of session script.lines) (entries_of session log)
   pub none : (session : ℕ) → (Contains script.sessions session → ⊥) → entries_of session log ≡ []
 
--- the same of a run that stopped: each session's entries are a front of such turns
+-- the same of a run that stopped: each session's entries are a front of its turns
 pub record FrontTurns (script : Script) (log : List Entry) : Type 0 where
   pub each : (session : ℕ) → Contains script.sessions session → (rest : List Entry) × AreTurns script.schema session (lines_of session script.lines) (entries_of session log ++ rest)
   pub none : (session : ℕ) → (Contains script.sessions session → ⊥) → entries_of session log ≡ []

@@ -3,7 +3,7 @@ use Rattle.std.specs.Prelude.{◌≡◌, ℕ, zero, suc, ◌+◌, List, [], ◌�
 use Rattle.std.specs.List.{list_any}
 use Rattle.cs_types.specs.declared.Schema.{Schema}
 use Rattle.tsql_binder.specs.Meaning.{schema_t}
-use Rattle.tsql_binder.specs.Reading.{behind}
+use Rattle.tsql_binder.specs.Meaning.{behind}
 use Rattle.script_reader.specs.Lines.{lines}
 use Rattle.script_reader.specs.declared.script.Script.{Script}
 use Rattle.script_reader.specs.declared.script.Step.{Step}
@@ -69,11 +69,12 @@ script_by (line ∷ lines) =
 abbrev pub script_of : List ℕ → Result Script ScriptRefusal
 script_of bytes = script_by (lines bytes)
 
--- what a reader answered is what the definition gives, or want of memory
+-- a refusal stands where the definition gives it, and want of memory anywhere
 abbrev pub Refuses : {X : Type 0} → ScriptRefusal → Result X ScriptRefusal → Type 0
 Refuses (Bad line reason number) r = r ≡ Err (Bad line reason number)
 Refuses Memory r = Unit {0}
 
+-- what a reader answered is what the definition gives, or want of memory
 abbrev pub Gives : {X : Type 0} → Result X ScriptRefusal → Result X ScriptRefusal → Type 0
 Gives (Ok x) r = r ≡ Ok x
 Gives (Err refusal) r = Refuses refusal r

@@ -3,7 +3,7 @@ ghost use Rattle.std.specs.Prelude.{◌≡◌, IfOk, All, codes, Ok};
 ghost use Rattle.script_reader.specs.Lines.{lines};
 ghost use Rattle.tsql_binder.specs.Meaning.{schema_t};
 ghost use Rattle.script_reader.specs.Scripts.{step_of, steps_from, session_of, sessions_of, setup_reason, script_of, Gives};
-ghost use Rattle.tsql_binder.specs.Reading.{behind};
+ghost use Rattle.tsql_binder.specs.Meaning.{behind};
 
 use crate::lines::next_line;
 use crate::script::{Script, ScriptRefusal, Step};

@@ -1,5 +1,5 @@
 -- The log of a run of a script.
-use Rattle.std.specs.Prelude.{List}
+use Rattle.std.specs.Prelude.{List, ◌++◌}
 use Rattle.cs_model.specs.declared.entry.Entry.{Entry}
 use Rattle.cs_model.specs.State.{State}
 use Rattle.cs_model.specs.Steps.{Legal}
@@ -14,8 +14,10 @@ pub record IsLogOf (script : Script) (log : List Entry) : Type 0 where
   pub scheduled : Scheduled script log
   pub turns : Turns script log
 
--- the log of a run that stopped: it is legal, and each session's entries are a front of its turns
+-- the log of a run that stopped: it is legal, a front of a log that follows the script, and each session's entries are a
+-- front of its turns
 pub record IsFrontLogOf (script : Script) (log : List Entry) : Type 0 where
   pub state : State
   pub legal : Legal script.schema log state
+  pub scheduled : (rest : List Entry) × Scheduled script (log ++ rest)
   pub turns : FrontTurns script log

@@ -3,7 +3,8 @@ use Rattle.std.proofs.Common.{◌≡◌, ℕ, suc, ◌+◌, ◌-◌, ◌<◌, Li
 use Rattle.std.specs.Prelude.{true, false, ◌==◌, Option, None, Some, codes}
 use Rattle.std.specs.Option.{option_map}
 use Rattle.cs_types.specs.declared.Value.{Value}
-use Rattle.tsql_binder.specs.Reading.{behind, row_at, rows_at}
+use Rattle.tsql_binder.specs.Meaning.{behind}
+use Rattle.tsql_binder.specs.Reading.{row_at, rows_at}
 
 pub no_rows : {X : Type 0} (rows : List X) (whole : Option (List X)) → rows ≡ [] → option_map (λ more. rows ++ more) whole ≡ whole
 no_rows rows None e = refl

@@ -6,14 +6,18 @@ use Rattle.std.specs.List.{prefix_len, starts_with, list_all}
 use Rattle.std.specs.Option.{option_map, option_and_then}
 use Rattle.std.proofs.Math.Numerals.{one-add}
 use Rattle.std.proofs.lemmas.List.{take-append-drop, take_at, drop_at, length-take-le}
-use Rattle.tsql_binder.specs.Reading.{behind, unsigned_at, number_at, cell_at, row_at, rows_at, insert_at}
+use Rattle.tsql_binder.specs.Reading.{unsigned_at, number_at, cell_at, row_at, rows_at, insert_at}
 use Rattle.std.proofs.lemmas.List.{append-nil}
 use Rattle.cs_types.specs.declared.Value.{Value}
 use Rattle.cs_types.specs.declared.Value.TheVariants.{Null, Number, Text}
 use Rattle.std.proofs.lemmas.Slice.Eq.{starts_is, bytes_eq-Decides}
 use Rattle.std.proofs.lemmas.Bool.Decides.{nat_tests}
 use Rattle.std.specs.Cmp.{unsigned_Decides}
-use Rattle.tsql_binder.specs.Meaning.{digits_value, IsDigits, IsNumber, IsCell, IsRow, IsRows, IsInsert}
+use Rattle.cs_types.specs.Calendar.{digits_value}
+use Rattle.cs_types.specs.declared.Schema.{Schema}
+use Rattle.cs_model.specs.declared.entry.Bound.{Bound}
+use Rattle.cs_model.specs.declared.entry.Bound.TheVariants.{Insert, Select, Refused}
+use Rattle.tsql_binder.specs.Meaning.{behind, select_text, Means, IsDigits, IsNumeral, IsCell, IsRow, IsRows, IsInsert}
 
 -- the rest does not go on with a digit
 abbrev Stops : List ℕ → Type 0
@@ -134,12 +138,12 @@ no_minus : (text rest : List ℕ) → prefix_len is_ascii_digit text ≡ length 
 no_minus [] rest d some = absurd (omega arith)
 no_minus (c ∷ text) rest d some = minus_or c (is_ascii_digit c) refl (prefix_len is_ascii_digit text) (length text) d
 
-number_again : (text rest : List ℕ) (z : ℤ) → IsNumber text z → Stops rest → number_at (text ++ rest) ≡ Some (z, rest)
+number_again : (text rest : List ℕ) (z : ℤ) → IsNumeral text z → Stops rest → number_at (text ++ rest) ≡ Some (z, rest)
 unfolding number_at
 number_again text rest z (inl (n, d, e)) s = rw (no_minus text rest (all_prefix text d.digits) d.some, unsigned_again text rest n d s) (ap (λ x. Some (x, rest)) (sym e))
 number_again text rest z (inr (digits, n, t, d, e)) s = rw (t, unsigned_again digits rest n d s) (ap (λ x. Some (x, rest)) (sym e))
 
-positive_found : (bytes rest : List ℕ) (z : ℤ) → option_map {U = ℤ × List ℕ} (λ (x : ℕ × List ℕ). (pos x.0, x.1)) (unsigned_at bytes) ≡ Some (z, rest) → Splits (λ text. IsNumber text z) bytes rest
+positive_found : (bytes rest : List ℕ) (z : ℤ) → option_map {U = ℤ × List ℕ} (λ (x : ℕ × List ℕ). (pos x.0, x.1)) (unsigned_at bytes) ≡ Some (z, rest) → Splits (λ text. IsNumeral text z) bytes rest
 positive_found bytes rest z e =
     let m = mapped {B = ℤ × List ℕ} (λ (x : ℕ × List ℕ). (pos x.0, x.1)) (unsigned_at bytes) (z, rest) e in
     let found = unsigned_found bytes m.0.1 m.0.0 m.1 in
@@ -151,7 +155,7 @@ positive_found bytes rest z e =
       stops = subst Stops same found.stops;
     }
 
-negative_found : (bytes rest : List ℕ) (z : ℤ) → starts_with nat_eq bytes (codes "-") ≡ true → option_map {U = ℤ × List ℕ} (λ (x : ℕ × List ℕ). (neg_ℤ (pos x.0), x.1)) (unsigned_at (drop 1 bytes)) ≡ Some (z, rest) → Splits (λ text. IsNumber text z) bytes rest
+negative_found : (bytes rest : List ℕ) (z : ℤ) → starts_with nat_eq bytes (codes "-") ≡ true → option_map {U = ℤ × List ℕ} (λ (x : ℕ × List ℕ). (neg_ℤ (pos x.0), x.1)) (unsigned_at (drop 1 bytes)) ≡ Some (z, rest) → Splits (λ text. IsNumeral text z) bytes rest
 negative_found bytes rest z minus e =
     let m = mapped {B = ℤ × List ℕ} (λ (x : ℕ × List ℕ). (neg_ℤ (pos x.0), x.1)) (unsigned_at (drop 1 bytes)) (z, rest) e in
     let found = unsigned_found (drop 1 bytes) m.0.1 m.0.0 m.1 in
@@ -164,12 +168,12 @@ negative_found bytes rest z minus e =
       stops = subst Stops same found.stops;
     }
 
-number_found : (bytes rest : List ℕ) (z : ℤ) → number_at bytes ≡ Some (z, rest) → Splits (λ text. IsNumber text z) bytes rest
+number_found : (bytes rest : List ℕ) (z : ℤ) → number_at bytes ≡ Some (z, rest) → Splits (λ text. IsNumeral text z) bytes rest
 unfolding number_at
 number_found bytes rest z e =
     elim (starts_with nat_eq bytes (codes "-")) as (λ t. starts_with nat_eq bytes (codes "-") ≡ t
     → cond t (option_map {U = ℤ × List ℕ} (λ (x : ℕ × List ℕ). (neg_ℤ (pos x.0), x.1)) (unsigned_at (drop 1 bytes))) (option_map {U = ℤ × List ℕ} (λ (x : ℕ × List ℕ). (pos x.0, x.1)) (unsigned_at bytes)) ≡ Some (z, rest)
-    → Splits (λ text. IsNumber text z) bytes rest) [
+    → Splits (λ text. IsNumeral text z) bytes rest) [
       | true ↦ λ minus e. negative_found bytes rest z minus e
       | false ↦ λ none e. positive_found bytes rest z e
     ] refl e
@@ -186,7 +190,7 @@ digits_no_null : (text rest : List ℕ) → prefix_len is_ascii_digit text ≡ l
 digits_no_null [] rest d some = absurd (omega arith)
 digits_no_null (c ∷ text) rest d some = and_false _ _ (first_differs c (is_ascii_digit c) refl (prefix_len is_ascii_digit text) (length text) d)
 
-no_null : (text rest : List ℕ) (z : ℤ) → IsNumber text z → starts_with nat_eq (text ++ rest) (codes "NULL") ≡ false
+no_null : (text rest : List ℕ) (z : ℤ) → IsNumeral text z → starts_with nat_eq (text ++ rest) (codes "NULL") ≡ false
 no_null text rest z (inl (n, d, e)) = digits_no_null text rest (all_prefix text d.digits) d.some
 no_null text rest z (inr (digits, n, t, d, e)) = rw t refl
 
@@ -319,3 +323,23 @@ insert_none text rows e h = (cc (e, insert_again text rows h))
 -- equal texts are not found unequal
 pub same_bytes : (xs ys : List ℕ) → xs ≡ ys → bytes_eq xs ys ≡ false → ⊥
 same_bytes xs ys is e = cc (e, (bytes_eq-Decides xs ys).1 is)
+
+-- ---- a text means one thing
+
+some_same : (text : List ℕ) (a b : List (List Value)) → IsInsert text a → IsInsert text b → a ≡ b
+some_same text a b h k = let same : Some a ≡ Some b = sym (insert_again text a h) ∙ insert_again text b k in same_inside a b same
+
+select_is_no_insert : (text : List ℕ) (rows : List (List Value)) → text ≡ select_text → IsInsert text rows → ⊥
+unfolding insert_at
+select_is_no_insert text rows e h = let none : None ≡ insert_at text = rw e refl in insert_none text rows none h
+
+pub one_meaning : (schema : Schema) (text : List ℕ) (a b : Bound) → Means schema text a → Means schema text b → a ≡ b
+one_meaning schema text (Insert rows) (Insert others) h k = ap Insert (some_same text rows others h k)
+one_meaning schema text (Insert rows) Select h k = absurd (select_is_no_insert text rows k h)
+one_meaning schema text (Insert rows) (Refused refusal) h k = absurd (k.2 rows h)
+one_meaning schema text Select (Insert rows) h k = absurd (select_is_no_insert text rows h k)
+one_meaning schema text Select Select h k = refl
+one_meaning schema text Select (Refused refusal) h k = absurd (k.1 h)
+one_meaning schema text (Refused refusal) (Insert rows) h k = absurd (h.2 rows k)
+one_meaning schema text (Refused refusal) Select h k = absurd (h.1 k)
+one_meaning schema text (Refused refusal) (Refused other) h k = ap Refused (h.0 ∙ sym k.0)

@@ -1,8 +1,9 @@
 -- What the text of a statement means: the grammar of the statements that are understood so far, as a relation between a
 -- text and what it spells.
-use Rattle.std.specs.Prelude.{◌≡◌, ◌≢◌, ◌⊎◌, ℕ, ℤ, pos, neg_ℤ, ◌+◌, ◌*◌, ◌-◌, ◌<◌, ◌≤◌, List, [], ◌∷◌, ◌++◌, length, fold, codes, true, false, IsTrue}
+use Rattle.std.specs.Prelude.{◌≡◌, ◌≢◌, ◌⊎◌, ℕ, ℤ, pos, neg_ℤ, ◌<◌, ◌≤◌, List, [], ◌∷◌, ◌++◌, length, drop, codes, nat_eq, if◌then◌else◌, Option, None, Some, true, false, IsTrue}
 use Rattle.std.specs.Char.{is_ascii_digit}
-use Rattle.std.specs.List.{list_all}
+use Rattle.std.specs.List.{list_all, starts_with}
+use Rattle.cs_types.specs.Calendar.{digits_value}
 use Rattle.cs_types.specs.declared.Value.{Value}
 use Rattle.cs_types.specs.declared.Value.TheVariants.{Null, Number, Text}
 use Rattle.cs_types.specs.declared.Schema.{Schema}
@@ -19,12 +20,9 @@ schema_t = record {
   key = 0;
 }
 
--- the number that decimal digits write
-abbrev pub add_digit : ℕ → ℕ → ℕ
-add_digit n c = 10 * n + (c - 48)
-
-abbrev pub digits_value : List ℕ → ℕ
-digits_value text = fold add_digit 0 text
+-- what stands behind a front, where the bytes begin with it
+abbrev pub behind : List ℕ → List ℕ → Option (List ℕ)
+behind front bytes = if starts_with nat_eq bytes front then Some (drop (length front) bytes) else None
 
 -- one to nine digits, and their value
 pub record IsDigits (text : List ℕ) (n : ℕ) : Type 0 where
@@ -34,21 +32,21 @@ pub record IsDigits (text : List ℕ) (n : ℕ) : Type 0 where
   pub value : n ≡ digits_value text
 
 -- such digits, with a minus sign before them or without
-abbrev pub IsNumber : List ℕ → ℤ → Type 0
-IsNumber text z =
+abbrev pub IsNumeral : List ℕ → ℤ → Type 0
+IsNumeral text z =
     ((n : ℕ) × IsDigits text n × (z ≡ pos n))
     ⊎ ((digits : List ℕ) × (n : ℕ) × (text ≡ codes "-" ++ digits) × IsDigits digits n × (z ≡ neg_ℤ (pos n)))
 
 -- a number, or NULL
 abbrev pub IsCell : List ℕ → Value → Type 0
 IsCell text Null = text ≡ codes "NULL"
-IsCell text (Number z) = IsNumber text z
+IsCell text (Number z) = IsNumeral text z
 IsCell text (Text t) = ⊥
 
 -- `(`, a number, a comma and a space, a number or NULL, and `)`
 abbrev pub IsRow : List ℕ → List Value → Type 0
 IsRow text row = (key : List ℕ) × (cell : List ℕ) × (k : ℤ) × (v : Value)
-    × (text ≡ codes "(" ++ key ++ codes ", " ++ cell ++ codes ")") × IsNumber key k × IsCell cell v × (row ≡ Number k ∷ v ∷ [])
+    × (text ≡ codes "(" ++ key ++ codes ", " ++ cell ++ codes ")") × IsNumeral key k × IsCell cell v × (row ≡ Number k ∷ v ∷ [])
 
 -- rows joined by a comma and a space, at least one
 abbrev pub IsRows : List ℕ → List (List Value) → Type 0
@@ -63,7 +61,7 @@ IsInsert text rows = (list : List ℕ) × (text ≡ codes "INSERT INTO t VALUES 
 abbrev pub select_text : List ℕ
 select_text = codes "SELECT * FROM t"
 
--- what the text of a statement means; a text of neither form is refused by 50001 at its first byte
+-- what the text of a statement over the table t means; a text of neither form is refused by 50001 at its first byte
 abbrev pub Means : Schema → List ℕ → Bound → Type 0
 Means schema text (Insert rows) = IsInsert text rows
 Means schema text Select = text ≡ select_text

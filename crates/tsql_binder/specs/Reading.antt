@@ -5,11 +5,8 @@ use Rattle.std.specs.List.{prefix_len, starts_with}
 use Rattle.std.specs.Option.{option_map, option_and_then}
 use Rattle.cs_types.specs.declared.Value.{Value}
 use Rattle.cs_types.specs.declared.Value.TheVariants.{Null, Number}
-use Rattle.tsql_binder.specs.Meaning.{digits_value}
-
--- what stands behind a front, where the bytes begin with it
-abbrev pub behind : List ℕ → List ℕ → Option (List ℕ)
-behind front bytes = if starts_with nat_eq bytes front then Some (drop (length front) bytes) else None
+use Rattle.cs_types.specs.Calendar.{digits_value}
+use Rattle.tsql_binder.specs.Meaning.{behind}
 
 -- one to nine digits
 unfoldable pub unsigned_at : List ℕ → Option (ℕ × List ℕ)

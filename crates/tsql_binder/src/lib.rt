@@ -6,10 +6,12 @@
 #![tactic(auto)]
 
 mod front;
+mod laws;
 mod number;
 mod statement;
 #[cfg(test)]
 mod tests;
 
 pub use front::behind;
+pub use laws::one_meaning;
 pub use statement::bind_text;

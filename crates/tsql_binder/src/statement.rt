@@ -2,7 +2,8 @@
 ghost use Rattle.std.specs.Prelude.{◌≡◌, [], ◌∷◌, IfOk, bytes_eq};
 ghost use Rattle.std.specs.Option.{option_map};
 ghost use Rattle.tsql_binder.specs.Meaning.{Means, select_text};
-ghost use Rattle.tsql_binder.specs.Reading.{behind, cell_at, row_at, rows_at, insert_at};
+ghost use Rattle.tsql_binder.specs.Meaning.{behind};
+ghost use Rattle.tsql_binder.specs.Reading.{cell_at, row_at, rows_at, insert_at};
 
 use crate::front::behind;
 use crate::number::number;

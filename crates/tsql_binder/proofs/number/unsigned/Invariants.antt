@@ -1,7 +1,7 @@
 use Rattle.std.proofs.Common.{◌≡◌, ◌+◌, ◌-◌, ◌≤◌, ◌<◌, ◌^◌, length, take, drop}
 use Rattle.std.specs.List.{prefix_len}
 use Rattle.std.specs.Char.{is_ascii_digit}
-use Rattle.tsql_binder.specs.Meaning.{digits_value}
+use Rattle.cs_types.specs.Calendar.{digits_value}
 use Rattle.tsql_binder.proofs.number.unsigned.Given as goal
 
 abbrev pub invariant-loop-count : goal.invariant-loop-count
