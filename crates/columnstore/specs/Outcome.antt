@@ -1,5 +1,5 @@
 -- What the program does: for which words and input it ends with which status, and what it has written then.
-use Rattle.std.specs.Prelude.{◌≡◌, ◌⊎◌, ℕ, ◌+◌, ◌<◌, ◌≤◌, List, [], ◌∷◌, ◌++◌, length, codes, decimal, Bool, true, false, bytes_eq, Result, Ok, Err, Option, None, Some, if◌then◌else◌}
+use Rattle.std.specs.Prelude.{◌≡◌, ◌⊎◌, ℕ, ◌+◌, ◌<◌, ◌≤◌, List, [], ◌∷◌, ◌++◌, length, codes, decimal, Bool, true, false, bytes_eq, Result, Ok, Err, Option, None, Some, ◌==◌, if◌then◌else◌}
 use Rattle.cs_outside.specs.Outside.{IsAtEnd}
 use Rattle.cs_types.specs.declared.Schema.{Schema}
 use Rattle.cs_model.specs.declared.entry.Entry.{Entry}
@@ -12,16 +12,15 @@ use Rattle.statement_core.specs.Logs.{IsLogOf, IsFrontLogOf}
 use Rattle.columnstore.specs.declared.status.Status.{Status}
 use Rattle.columnstore.specs.declared.status.Status.TheVariants as status
 
--- the words, each as its bytes; None where an argument is no text
+-- the words, each as its bytes
 abbrev pub Words : Type 0
-Words = Option (List (List ℕ))
+Words = List (List ℕ)
 
 -- the words are those of the program: the one word `replay`
 abbrev pub are_words : Words → Bool
-are_words None = false
-are_words (Some []) = false
-are_words (Some (word ∷ [])) = bytes_eq word (codes "replay")
-are_words (Some (word ∷ other ∷ words)) = false
+are_words [] = false
+are_words (word ∷ []) = bytes_eq word (codes "replay")
+are_words (word ∷ other ∷ words) = false
 
 -- the longest script, 16 MiB
 abbrev pub limit : ℕ

@@ -31,8 +31,13 @@ abbrev pub steps_from : ℕ → List (List ℕ) → Result (List Step) ScriptRef
 steps_from n [] = Ok []
 steps_from n (line ∷ lines) = step_before n (step_of line) (steps_from (n + 1) lines)
 
+-- the session of a step
 abbrev pub session_of : Step → ℕ
 session_of (Whole session text) = session
+
+-- the text of a step's statement
+abbrev pub text_of : Step → List ℕ
+text_of (Whole session text) = text
 
 -- so many numbers from one on
 abbrev pub numbers : ℕ → ℕ → List ℕ

@@ -1,5 +1,6 @@
 // Scripts.
 ghost use Rattle.std.specs.Prelude.{◌≡◌};
+ghost use Rattle.script_reader.specs.Scripts.{session_of, text_of};
 
 use cs_base::{Items, Memory};
 use cs_types::{Bytes, Schema};
@@ -21,6 +22,26 @@ pub struct Script {
 pub enum Step {
     /// A statement of a session, started and finished.
     Whole { session: u32, text: Bytes },
+}
+
+impl Step {
+    /// The session of the step.
+    pub fn session(&self) -> u32
+        ensures { result ≡ session_of self.now }
+    {
+        match self {
+            Step::Whole { session, .. } => *session,
+        }
+    }
+
+    /// The text of the step's statement.
+    pub fn text(&self) -> &[u8]
+        ensures { result.now ≡ text_of self.now }
+    {
+        match self {
+            Step::Whole { text, .. } => text.as_slice(),
+        }
+    }
 }
 
 /// Why a script is refused.

@@ -1,8 +1,8 @@
 -- The table after a commit.
-use Rattle.std.proofs.Common.{◌≡◌, ℕ, ◌+◌, ◌≤◌, List, [], ◌∷◌, ◌++◌, map, refl, sym, ap, arith, ◌∙◌, cond, nat_le, true, All}
+use Rattle.std.proofs.Common.{◌≡◌, ℕ, suc, ◌+◌, ◌≤◌, List, [], ◌∷◌, ◌++◌, map, refl, sym, ap, arith, ◌∙◌, cond, nat_le, true, All}
 use Rattle.std.proofs.lemmas.List.{map-append}
 use Rattle.std.proofs.lemmas.List.Sums.{fold-append}
-use Rattle.std.proofs.lemmas.List.Elements.{All-append}
+use Rattle.std.proofs.lemmas.List.Elements.{All-append, All-cons}
 use Rattle.cs_model.specs.Changes.{Edit, Table, Change, until, edited, laid, table}
 use Rattle.cs_model.specs.State.{Txn}
 use Rattle.cs_model.specs.Steps.{committed}
@@ -32,7 +32,7 @@ later clock changes h = λ k d lt. let small = h k d lt in omega (arith, small)
 
 numbered_new : (c : ℕ) (txn : Txn) (own : List Edit) → IsNumbered c (map (λ edit. record { commit = c; txn = txn.number; edit = edit }) own)
 numbered_new c txn [] = λ k d lt. absurd (omega arith)
-numbered_new c txn (edit ∷ own) = ?
+numbered_new c txn (edit ∷ own) = All-cons (λ (change : Change). change.commit ≤ c) (record { commit = c; txn = txn.number; edit = edit }) (map (λ e. record { commit = c; txn = txn.number; edit = e }) own) (omega arith) (numbered_new c txn own)
 
 pub numbered_after : (clock : ℕ) (changes : List Change) (txn : Txn) → IsNumbered clock changes → IsNumbered (clock + 1) (changes ++ committed (clock + 1) txn)
 numbered_after clock changes txn h = All-append (λ (change : Change). change.commit ≤ clock + 1) changes (committed (clock + 1) txn) (later clock changes h) (numbered_new (clock + 1) txn txn.own)

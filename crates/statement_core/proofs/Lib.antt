@@ -1,3 +1,5 @@
-pub mod Rows
+pub mod Cells
 pub mod Taken
 pub mod Commits
+pub mod Turns
+pub mod Schedules

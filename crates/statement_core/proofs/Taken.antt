@@ -1,12 +1,13 @@
 -- The least key that is present, one key more, and the obstacle that it is.
-use Rattle.std.proofs.Common.{◌≡◌, ◌≢◌, ℕ, ◌+◌, ◌<◌, ◌⊎◌, List, [], ◌∷◌, ◌++◌, length, take, get_or, map, refl, sym, ap, subst, arith, ◌∙◌, inl, inr, cond, Bool, true, false, ◌||◌, nat_lt, All, Contains}
+use Rattle.std.proofs.Common.{◌≡◌, ◌≢◌, ℕ, ◌+◌, ◌<◌, ◌⊎◌, List, [], ◌∷◌, ◌++◌, length, take, get_or, map, refl, sym, ap, subst, arith, ◌∙◌, inl, inr, cond, Bool, true, false, ◌||◌, nat_lt, int_lt, ℤ, suc, All, Contains}
 use Rattle.std.specs.Prelude.{Option, None, Some, count_by}
 use Rattle.std.specs.declared.cmp.Ordering.{Ordering}
 use Rattle.std.specs.declared.cmp.Ordering.TheVariants.{Less, Equal, Greater}
 use Rattle.std.specs.Ordering.{is_gt}
 use Rattle.std.proofs.lemmas.List.{take_more}
 use Rattle.std.proofs.lemmas.List.Elements.{All-push, All-weaker, Contains-push, Contains-append_left}
-use Rattle.std.proofs.lemmas.Cmp.{int_cmp_total}
+use Rattle.std.specs.Ordering.{int_cmp}
+use Rattle.std.proofs.lemmas.Int.{ints}
 use Rattle.cs_types.specs.declared.Key.{Key}
 use Rattle.cs_types.specs.declared.Schema.{Schema}
 use Rattle.cs_types.specs.declared.Value.{Value}
@@ -15,23 +16,46 @@ use Rattle.cs_model.specs.declared.entry.Bound.TheVariants as bound
 use Rattle.cs_model.specs.declared.entry.Refusal.{Refusal}
 use Rattle.cs_model.specs.declared.entry.Refusal.TheVariants.{Duplicate}
 use Rattle.cs_model.specs.Changes.{Table}
+use Rattle.cs_model.specs.State.{State}
 use Rattle.cs_model.specs.Keys.{key_cmp, same_key}
 use Rattle.cs_model.specs.Answers.{writes}
 use Rattle.cs_model.specs.Obstacles.{has_row, stands_twice, is_present, keys_of, IsObstacle, IsLeastObstacle, IsJudged}
 use Rattle.statement_core.specs.Least.{IsLeast, HasLeast, lesser_of}
 
--- the keys are ordered, so the lesser of two is above none of them
-same_never_above : (a : Key) → key_cmp a a ≢ Greater
-same_never_above a e = ?
+-- the numbers of keys are ordered
+greater_is : (m n : ℤ) → int_cmp m n ≡ Greater → int_lt n m ≡ true
+greater_is m n e = at (int_lt m n) (int_lt n m) e
+  where
+    at : (t u : Bool) → cond t Less (cond u Greater Equal) ≡ Greater → u ≡ true
+    at true u e = absurd (cc)
+    at false true e = refl
+    at false false e = absurd (cc)
 
-below_turned : (a b : Key) → is_gt (key_cmp a b) ≡ true → key_cmp b a ≢ Greater
-below_turned a b h e = ?
+gt_is : (r : Ordering) → is_gt r ≡ true → r ≡ Greater
+gt_is Less e = absurd (cc)
+gt_is Equal e = absurd (cc)
+gt_is Greater e = refl
+
+not_both : (m n : ℤ) → int_lt n m ≡ true → int_lt m n ≡ false
+not_both m n e = grind (arith, ints)
+
+is_greater : (m n : ℤ) → int_lt n m ≡ true → int_cmp m n ≡ Greater
+is_greater m n e = rw (not_both m n e, e) refl
+
+int_through : (a b c : ℤ) → int_lt b a ≡ true → int_lt c b ≡ true → int_lt c a ≡ true
+int_through a b c e f = grind (arith, ints)
+
+not_itself : (n : ℤ) → int_lt n n ≡ true → ⊥
+not_itself n e = grind (arith, ints)
+
+same_never_above : (a : Key) → key_cmp a a ≢ Greater
+same_never_above a e = not_itself a.0 (greater_is a.0 a.0 e)
 
 not_above : (a b : Key) → is_gt (key_cmp a b) ≡ false → key_cmp a b ≢ Greater
 not_above a b h e = cc (h, ap is_gt e)
 
 through : (a b c : Key) → is_gt (key_cmp a b) ≡ true → key_cmp a c ≢ Greater → key_cmp b c ≢ Greater
-through a b c above h = ?
+through a b c above h e = h (is_greater a.0 c.0 (int_through a.0 b.0 c.0 (greater_is a.0 b.0 (gt_is (key_cmp a b) above)) (greater_is b.0 c.0 e)))
 
 module _ (present : Key → Bool) where
   abbrev Stands : Key → Key → Type 0
@@ -68,11 +92,9 @@ module _ (present : Key → Bool) where
   least_pushed xs key true (Some k) e h = lesser_pushed xs k key (is_gt (key_cmp k key)) refl e h
 
   -- a turn of the loop over the keys
-  pub least_more : (keys : List Key) (i : ℕ) (key : Key) (taken : Bool) (least next : Option Key) → i < length keys → key ≡ get_or keys i key
-      → taken ≡ present key → HasLeast present (take i keys) least → next ≡ cond taken (Some (lesser_of least key)) least → HasLeast present (take (i + 1) keys) next
-  least_more keys i key taken least next within is e h n =
-      let more : take (i + 1) keys ≡ take i keys ++ key ∷ [] = take_more keys i key within ∙ ap (λ x. take i keys ++ x ∷ []) (sym is) in
-      rw (more, n) (least_pushed (take i keys) key taken least (sym e) h)
+  pub least_more : (keys : List Key) (i : ℕ) (d : Key) (taken : Bool) (least next : Option Key) → i < length keys
+      → taken ≡ present (get_or keys i d) → HasLeast present (take i keys) least → next ≡ cond taken (Some (lesser_of least (get_or keys i d))) least → HasLeast present (take (i + 1) keys) next
+  least_more keys i d taken least next within e h n = rw (take_more keys i d within, n) (least_pushed (take i keys) (get_or keys i d) taken least (sym e) h)
 
 -- ---- the judgement of an INSERT
 
@@ -95,5 +117,5 @@ judged schema rows table keys count least is counts h =
     subst (λ present. HasLeast present (keys_of (writes schema (bound.Insert rows))) least) same
     (subst (λ ks. HasLeast (λ key. has_row table key || nat_lt 1 (count key)) ks least) listed h)
 
-pub refusal_is : (present : Key → Bool) (keys : List Key) (key : Key) → HasLeast present keys (Some key) → IsJudged (IsObstacle present) keys (Some (Duplicate key))
-refusal_is present keys key h = record { key = key; listed = h.listed; is = (refl, h.is); least = h.least }
+pub refusal_is : (m : State) (session : ℕ) (present : Key → Bool) (keys : List Key) (key : Key) → HasLeast present keys (Some key) → IsJudged (IsObstacle m session present) keys (Some (Duplicate key))
+refusal_is m session present keys key h = record { key = key; listed = h.listed; is = (refl, h.is); least = h.least }

@@ -13,7 +13,7 @@ use crate::rows::Rows;
 use cs_base::{Items, Memory};
 use cs_model::{Bound, Entry, Reply};
 use cs_types::Schema;
-use script_reader::{Script, Step};
+use script_reader::Script;
 use std::alloc::Global;
 use std::collections::BTreeMap;
 use tsql_binder::bind_text;
@@ -80,15 +80,8 @@ pub fn run_schedule(alloc: Global, script: &Script) -> Result<Items<Entry>, Memo
     let mut rows = BTreeMap::new(alloc);
     let mut log = Items::new(alloc);
     for line in script.lines.as_slice() {
-        let Step::Whole { session, text } = line;
-        run_statement(
-            alloc,
-            &script.schema,
-            &mut rows,
-            &mut log,
-            *session,
-            text.as_slice(),
-        )?;
+        let (session, text) = (line.session(), line.text());
+        run_statement(alloc, &script.schema, &mut rows, &mut log, session, text)?;
     }
     end_sessions(&mut log, script.sessions.as_slice())?;
     Ok(log)

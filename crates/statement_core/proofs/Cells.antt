@@ -1,5 +1,5 @@
 -- The cells of a row, and the rows of an answer.
-use Rattle.std.proofs.Common.{◌≡◌, ℕ, zero, suc, ◌+◌, ◌<◌, List, [], ◌∷◌, ◌++◌, length, drop, get_or, map, refl, sym, ap, arith, ◌∙◌, append_assoc}
+use Rattle.std.proofs.Common.{◌≡◌, ℕ, zero, suc, ◌+◌, ◌<◌, subst, List, [], ◌∷◌, ◌++◌, length, drop, get_or, map, refl, sym, ap, arith, ◌∙◌, append_assoc}
 use Rattle.std.specs.Map.{values_of}
 use Rattle.std.proofs.lemmas.List.{drop_more}
 use Rattle.cs_types.specs.declared.Column.{Column}
@@ -21,12 +21,12 @@ cells_more columns row cells new whole i column cell within is value pushed inv 
 
 -- no column of the table is a date, so each of its cells can be printed
 printable_in : (i : ℕ) (column d : Column) (v : Value) → i < 2 → column ≡ get_or schema_t.columns i d → IsPrintable (loose_of column.kind v)
-printable_in zero column d Null within is = rw is tt
-printable_in zero column d (Number n) within is = rw is tt
-printable_in zero column d (Text t) within is = rw is tt
-printable_in (suc zero) column d Null within is = rw is tt
-printable_in (suc zero) column d (Number n) within is = rw is tt
-printable_in (suc zero) column d (Text t) within is = rw is tt
+printable_in zero column d Null within is = subst (λ (c : Column). IsPrintable (loose_of c.kind Null)) (sym is) tt
+printable_in zero column d (Number n) within is = subst (λ (c : Column). IsPrintable (loose_of c.kind (Number n))) (sym is) tt
+printable_in zero column d (Text t) within is = subst (λ (c : Column). IsPrintable (loose_of c.kind (Text t))) (sym is) tt
+printable_in (suc zero) column d Null within is = subst (λ (c : Column). IsPrintable (loose_of c.kind Null)) (sym is) tt
+printable_in (suc zero) column d (Number n) within is = subst (λ (c : Column). IsPrintable (loose_of c.kind (Number n))) (sym is) tt
+printable_in (suc zero) column d (Text t) within is = subst (λ (c : Column). IsPrintable (loose_of c.kind (Text t))) (sym is) tt
 printable_in (suc (suc i)) column d v within is = absurd (omega arith)
 
 pub printable_at : (columns : List Column) (i : ℕ) (column : Column) (v : Value) → columns ≡ schema_t.columns → i < length columns → column ≡ get_or columns i column → IsPrintable (loose_of column.kind v)

@@ -1,0 +1,54 @@
+-- What the status says, from what was asked for and what was written of it.
+use Rattle.std.proofs.Common.{◌≡◌, ◌⊎◌, ℕ, ◌<◌, ◌≤◌, List, [], ◌∷◌, ◌++◌, length, take, drop, refl, sym, ap, subst, inl, inr, true, false}
+use Rattle.std.specs.Prelude.{Option, None, Some}
+use Rattle.std.proofs.lemmas.List.{take-append-drop, append-nil}
+use Rattle.cs_base.specs.Counts.{Rose}
+use Rattle.cs_outside.specs.Outside.{Takes, Adds, AddsFront, IsAtEnd}
+use Rattle.columnstore.specs.declared.status.Status.{Status}
+use Rattle.columnstore.specs.declared.status.Status.TheVariants as status
+use Rattle.tsql_binder.specs.Meaning.{schema_t}
+use Rattle.columnstore.specs.Outcome.{Asks, usage, too_long, answered, Ends, IsFront, IsStopped}
+use Rattle.columnstore.specs.Written.{IsWritten}
+
+pub none_taken : (left : Option (List ℕ)) → Takes left left []
+none_taken None = refl
+none_taken (Some bytes) = refl
+
+module _ (words : List (List ℕ)) (came : List ℕ) (left : Option (List ℕ)) where
+  no_read_fault : (whole : List ℕ) → Asks words came left status.ReadFault whole → ⊥
+  no_read_fault whole (answered w l e h) = h
+
+  no_write_fault : (whole : List ℕ) → Asks words came left status.WriteFault whole → ⊥
+  no_write_fault whole (answered w l e h) = h
+
+  no_memory : (whole : List ℕ) → Asks words came left status.Memory whole → ⊥
+  no_memory whole (answered w l e h) = h
+
+  asked : (s : Status) (whole : List ℕ) → Asks words came left s whole → Ends words came left whole s
+  asked status.Done whole a = a
+  asked status.Usage whole a = a
+  asked status.Script whole a = a
+  asked status.ReadFault whole a = absurd (no_read_fault whole a)
+  asked status.WriteFault whole a = absurd (no_write_fault whole a)
+  asked status.Memory whole a = absurd (no_memory whole a)
+
+  pub ending : (s result : Status) (whole : List ℕ) (before_left : Option (List ℕ)) (old new : Option (List ℕ)) (before now : ℕ) → Takes before_left left came
+      → Asks words came left s whole → IsWritten old new before now whole s result
+      → (c : List ℕ) × (added : List ℕ) × Takes before_left left c × Adds old new added × Ends words c left added result
+  ending s result whole before_left old new before now t a (inl w) =
+      (came, whole, t, w.1, subst (λ r. Ends words came left whole r) (sym w.0) (asked s whole a))
+  ending s result whole before_left old new before now t a (inr w) = (
+    came,
+    take w.1.0 whole,
+    t,
+    w.1.2,
+    subst (λ r. Ends words came left (take w.1.0 whole) r) (sym w.0) (s, whole, a, (drop w.1.0 whole, sym (take-append-drop w.1.0 whole))),
+  )
+
+-- nothing was written
+pub stopped : (came : List ℕ) (left : Option (List ℕ)) → IsStopped came left []
+stopped came left = record { schema = schema_t; log = []; steps = inl refl; front = ([], refl) }
+
+pub none_added : (held : Option (List ℕ)) → Adds held held []
+none_added None = refl
+none_added (Some bytes) = ap Some (sym (append-nil bytes))

@@ -1,0 +1,46 @@
+use Rattle.std.proofs.Common.{subst, map, string_bytes, refl, [], codes, rules, ◌<◌, length}
+use Rattle.cs_outside.specs.Outside.{Takes}
+use Rattle.columnstore.specs.declared.status.Status.TheVariants as status
+use Rattle.columnstore.specs.Outcome.{usage, too_long, answered}
+use Rattle.columnstore.proofs.Complete.{complete}
+use Rattle.columnstore.proofs.Ending.{ending, none_taken, none_added, stopped}
+use Rattle.columnstore.proofs.top.columnstore.Goals as goal
+
+pub returns-then-not-is_replay-clause-ends : goal.returns-then-not-is_replay-clause-ends
+returns-then-not-is_replay-clause-ends g c =
+    let words = map string_bytes c.args.words.now in
+    let left = g.I.Source.left c.args.input.now in
+    ending words [] left status.Usage c.finish.result (codes "usage refused\n") left
+    (g.O.Sink.held c.args.output.now) (g.O.Sink.held c.finish.new.output) (g.O.Sink.faults c.args.output.now) (g.O.Sink.faults c.finish.new.output)
+    (none_taken left) (usage (search rules) refl) c.finish.ensures
+
+pub returns-in-Err-TooLong-clause-ends : goal.returns-in-Err-TooLong-clause-ends
+returns-in-Err-TooLong-clause-ends g c =
+    let words = map string_bytes c.args.words.now in
+    let came = c.in-Err-TooLong.ensures.came in
+    let long = came.2.0 (cc) in
+    ending words came.0 (g.I.Source.left c.read_all.new.source) status.Script c.finish-in-Err-TooLong.result (codes "refused too long\n") (g.I.Source.left c.args.input.now)
+    (g.O.Sink.held c.args.output.now) (g.O.Sink.held c.finish-in-Err-TooLong.new.output) (g.O.Sink.faults c.args.output.now) (g.O.Sink.faults c.finish-in-Err-TooLong.new.output)
+    came.1 (too_long (search rules) long) c.finish-in-Err-TooLong.ensures
+
+pub returns-in-Ok-answer-clause-ends : goal.returns-in-Ok-answer-clause-ends
+returns-in-Ok-answer-clause-ends g c =
+    let words = map string_bytes c.args.words.now in
+    ending words c.in-Ok.bytes.items (g.I.Source.left c.read_all.new.source) c.in-Ok-answer.status c.finish-in-Ok-answer.result c.in-Ok-answer.text (g.I.Source.left c.args.input.now)
+    (g.O.Sink.held c.args.output.now) (g.O.Sink.held c.finish-in-Ok-answer.new.output) (g.O.Sink.faults c.args.output.now) (g.O.Sink.faults c.finish-in-Ok-answer.new.output)
+    c.in-Ok.ensures.ok (answered (search rules) c.in-Ok.ensures.within c.in-Ok.ensures.end (rw c.as_slice.ensures.value at c.in-Ok-answer.ensures)) (rw c.as_slice-in-Ok-answer.ensures at c.finish-in-Ok-answer.ensures)
+
+pub returns-in-Ok-answer-clause-complete : goal.returns-in-Ok-answer-clause-complete
+returns-in-Ok-answer-clause-complete g c = λ bytes script told good small reads.
+    let ended = returns-in-Ok-answer-clause-ends g c in
+    complete (map string_bytes c.args.words.now) bytes ended.0 script small reads (g.I.Source.left c.read_all.new.source) ended.1 c.finish-in-Ok-answer.result
+    (subst (λ o. Takes o (g.I.Source.left c.read_all.new.source) ended.0) told ended.2) good ended.4
+
+pub returns-in-Err-Memory-clause-ends : goal.returns-in-Err-Memory-clause-ends
+returns-in-Err-Memory-clause-ends g c =
+    let came = c.in-Err-Memory.ensures.came in
+    (came.0, [], came.1, none_added (g.O.Sink.held c.args.output.now), (search (rules), stopped came.0 (g.I.Source.left c.read_all.new.source)))
+
+pub returns-clause-ends : goal.returns-clause-ends
+returns-clause-ends g c =
+    (c.in-Ok.bytes.items, [], c.in-Ok.ensures.ok, none_added (g.O.Sink.held c.args.output.now), (search (rules), stopped c.in-Ok.bytes.items (g.I.Source.left c.read_all.new.source)))

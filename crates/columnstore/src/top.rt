@@ -1,0 +1,72 @@
+// The top call.
+ghost use Rattle.std.specs.Prelude.{◌≡◌, ◌≤◌, List, ℕ, map, length, string_bytes, true, Some, Ok};
+ghost use Rattle.cs_base.specs.Counts.{Rose};
+ghost use Rattle.cs_outside.specs.Outside.{Takes, Adds};
+ghost use Rattle.script_reader.specs.declared.script.Script.{Script};
+ghost use Rattle.script_reader.specs.Scripts.{script_of};
+ghost use Rattle.columnstore.specs.Outcome.{are_words, limit, Ends, IsDoneOrStopped};
+ghost use Rattle.columnstore.specs.Written.{IsWritten};
+
+use crate::answer::answer;
+use crate::status::Status;
+use cs_outside::{InputRefusal, Sink, Source, read_all, write_whole};
+use std::alloc::Global;
+
+/// The longest script in bytes, 16 MiB.
+const LIMIT: usize = 16_777_216;
+
+/// Whether the words are those of the program.
+fn is_replay(words: &[String]) -> bool
+    ensures { result ≡ are_words (map string_bytes words.now) }
+{
+    match words {
+        [word] => word.as_str() == "replay",
+        _ => false,
+    }
+}
+
+/// Writes a whole text, and answers the status that goes with it, or the write fault.
+fn finish<O: Sink>(output: &mut O, text: &[u8], status: Status) -> Status
+    ensures { IsWritten (O.held output.old) (O.held output.new) (O.faults output.old) (O.faults output.new) text.now status result }
+{
+    match write_whole(output, text) {
+        Ok(()) => status,
+        Err(_) => Status::WriteFault,
+    }
+}
+
+/// Runs the program for these words over an input and an output, and answers how it ended. The one word is `replay`: the
+/// input is a script, its statements are run, and the text of the log of its events is written. Nothing is written before
+/// the whole text is there. Where several causes stand together, the order is words, reading, script, memory, writing.
+pub fn columnstore<I: Source, O: Sink>(
+    alloc: Global,
+    words: &[String],
+    input: &mut I,
+    output: &mut O,
+) -> Status
+    // Some bytes were read and some were added, and the status says which.
+    ensures ends { (came : List ℕ) × (added : List ℕ) × Takes (I.left input.old) (I.left input.new) came
+        × Adds (O.held output.old) (O.held output.new) added
+        × Ends (map string_bytes words.now) came (I.left input.new) added result }
+    // The words and a script are answered, unless memory or a stream gives out.
+    ensures complete { (bytes : List ℕ) (script : Script) → I.left input.old ≡ Some bytes → are_words (map string_bytes words.now) ≡ true
+        → length bytes ≤ limit → script_of bytes ≡ Ok script → IsDoneOrStopped result }
+    ensures read_fault { result ≡ Status.ReadFault → Rose (I.faults input.old) (I.faults input.new) }
+    ensures write_fault { result ≡ Status.WriteFault → Rose (O.faults output.old) (O.faults output.new) }
+{
+    if !is_replay(words) {
+        return finish(output, b"usage refused\n", Status::Usage);
+    }
+    let bytes = match read_all(alloc, input, LIMIT) {
+        Ok(bytes) => bytes,
+        Err(InputRefusal::Fault) => return Status::ReadFault,
+        Err(InputRefusal::TooLong) => {
+            return finish(output, b"refused too long\n", Status::Script);
+        }
+        Err(InputRefusal::Memory) => return Status::Memory,
+    };
+    match answer(alloc, bytes.as_slice()) {
+        Ok((status, text)) => finish(output, text.as_slice(), status),
+        Err(_) => Status::Memory,
+    }
+}
