@@ -1,5 +1,5 @@
 -- Powers of ten, and the numbers of types.
-use Rattle.std.proofs.Common.{◌≡◌, ℕ, ℤ, pos, negsuc, ◌^◌, ◌<◌, ◌≤◌, lit<, Bool, true, false, Result, Ok, Err, IfOk, IsTrue, FitsSigned, w64, unsigned_abs, arith, refl, sym, rules, if◌then◌else◌}
+use Rattle.std.proofs.Common.{◌≡◌, ℕ, ℤ, pos, negsuc, ◌^◌, ◌≤◌, lit<, Bool, true, false, Result, Ok, Err, IfOk, IsTrue, FitsSigned, w64, unsigned_abs, arith, refl, sym, if◌then◌else◌}
 use Rattle.std.proofs.lemmas.Bool.Decides.{nat_tests}
 use Rattle.std.proofs.Math.Nat.{one-le-pow, pow-le-pow_right}
 use Rattle.std.proofs.lemmas.Int.{ints}

@@ -3,3 +3,4 @@ pub mod DateLemmas
 pub mod DayLemmas
 pub mod FitLemmas
 pub mod Rounding
+pub mod RowLemmas

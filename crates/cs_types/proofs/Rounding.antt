@@ -1,6 +1,6 @@
 -- Rounding to the nearest, a half up.
-use Rattle.std.proofs.Common.{◌≡◌, ℕ, suc, ◌+◌, ◌-◌, ◌*◌, ◌/◌, ◌%◌, ◌^◌, ◌<◌, ◌≤◌, refl, sym, ap, ◌∙◌, arith, lit<}
-use Rattle.std.proofs.Math.Nat.{one-le-pow, pow-le-pow_right, lt-mul-div-succ, mul-div-le, mul-le-mul_left, mul-le-mul}
+use Rattle.std.proofs.Common.{◌≡◌, ℕ, ◌+◌, ◌-◌, ◌*◌, ◌/◌, ◌^◌, ◌<◌, ◌≤◌, ◌∙◌, arith, lit<}
+use Rattle.std.proofs.Math.Nat.{one-le-pow, pow-le-pow_right, lt-mul-div-succ, mul-div-le, mul-le-mul_left}
 use Rattle.std.proofs.lemmas.Nat.{div-mul-add, pow-add}
 use Rattle.cs_types.specs.Fit.{nearest, IsNearest}
 

@@ -1,5 +1,5 @@
 -- What each type of column keeps.
-use Rattle.std.specs.Prelude.{ℕ, ◌^◌, ◌<◌, ◌≤◌, nat_le, nat_lt, ℤ, pos, negsuc, int_le, unsigned_abs, Bool, true, false, ◌&&◌, List, length}
+use Rattle.std.specs.Prelude.{ℕ, ◌^◌, ◌≤◌, nat_le, nat_lt, ℤ, pos, negsuc, int_le, unsigned_abs, Bool, true, false, ◌&&◌, List, length}
 use Rattle.cs_types.specs.declared.ColumnType.{ColumnType}
 use Rattle.cs_types.specs.declared.ColumnType.TheVariants.{TinyInt, SmallInt, Int, BigInt, Decimal, Date, VarChar}
 use Rattle.cs_types.specs.declared.Value.{Value}

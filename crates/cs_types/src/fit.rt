@@ -8,40 +8,7 @@ ghost use Rattle.cs_types.specs.Fit.{fit, KeepsNearest};
 
 use crate::{ColumnType, Loose, Value, ValueRefusal};
 
-/// The number of 0001-01-01.
-pub const FIRST_DAY: i64 = -719_162;
-
-/// The number of 9999-12-31.
-pub const LAST_DAY: i64 = 2_932_896;
-
 impl ColumnType {
-    /// The digits after the point.
-    pub fn scale(self) -> u8
-        ensures { result ≡ kinds.scale_of self }
-    {
-        match self {
-            ColumnType::Decimal { s, .. } => s,
-            _ => 0,
-        }
-    }
-
-    /// Whether a number, as a column keeps it, is in the type's range. A `varchar` has no numbers.
-    #[tactic(auto, using(crate::proofs::FitLemmas::days))]
-    pub fn keeps_number(self, number: i64) -> bool
-        requires { IsColumnType self }
-        ensures { result ≡ kinds.keeps_number self number }
-    {
-        match self {
-            ColumnType::TinyInt => 0 <= number && number <= 255,
-            ColumnType::SmallInt => -32_768 <= number && number <= 32_767,
-            ColumnType::Int => -2_147_483_648 <= number && number <= 2_147_483_647,
-            ColumnType::BigInt => true,
-            ColumnType::Decimal { p, .. } => (number.unsigned_abs() as u128) < power(p),
-            ColumnType::Date => FIRST_DAY <= number && number <= LAST_DAY,
-            ColumnType::VarChar { .. } => false,
-        }
-    }
-
     /// Why a number out of the type's range is refused.
     fn range_refusal(self) -> ValueRefusal
         ensures { result ≡ spec.range_refusal self }

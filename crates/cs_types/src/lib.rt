@@ -11,6 +11,7 @@ ghost use Rattle.cs_types.specs.Values.{value_cmp};
 
 mod date;
 mod fit;
+mod kind;
 mod line;
 mod print;
 mod refusal;
@@ -18,7 +19,8 @@ mod row;
 
 use cs_base::{Items, Memory};
 pub use date::read_date;
-pub use fit::{FIRST_DAY, LAST_DAY, fits};
+pub use fit::fits;
+pub use kind::{FIRST_DAY, LAST_DAY};
 pub use line::Line;
 pub use print::{loose_of, print_loose, print_number, print_value};
 pub use refusal::ValueRefusal;
@@ -160,3 +162,6 @@ pub fn copy_bytes(bytes: &Bytes) -> Result<Bytes, Memory>
 {
     Ok(bytes.clone()?)
 }
+
+#[cfg(test)]
+mod tests;

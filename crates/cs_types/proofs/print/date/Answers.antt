@@ -1,8 +1,6 @@
-use Rattle.std.proofs.Common.{◌≡◌, w64, to_z, of_z, subst, sym, arith, rules, IsTrue}
-use Rattle.std.proofs.lemmas.Int.{ints, to_z-of_z}
+use Rattle.std.proofs.Common.{w64, subst, sym, rules}
+use Rattle.std.proofs.lemmas.Int.{to_z-of_z}
 use Rattle.jiff_core.specs.Calendar.{IsEpochDay}
-use Rattle.cs_types.specs.Calendar.{first_day, last_day}
-use Rattle.cs_types.specs.Kinds.{is_between}
 use Rattle.cs_types.proofs.DayLemmas.{in_range, year_positive}
 use Rattle.cs_types.proofs.print.date.Goals as goal
 

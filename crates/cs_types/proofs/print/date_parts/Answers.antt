@@ -1,4 +1,4 @@
-use Rattle.std.proofs.Common.{◌∙◌, sym, arith, rules, FitsSigned, w16, w64}
+use Rattle.std.proofs.Common.{◌∙◌, rules, FitsSigned, w16, w64}
 use Rattle.std.proofs.lemmas.Int.{to_z-of_z}
 use Rattle.cs_types.proofs.DayLemmas.{day_text-parts}
 use Rattle.cs_types.proofs.print.date_parts.Goals as goal

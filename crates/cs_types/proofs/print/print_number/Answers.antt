@@ -1,4 +1,4 @@
-use Rattle.std.proofs.Common.{◌≡◌, ℕ, ◌^◌, ◌<◌, ◌≤◌, ◌%◌, length, decimal, arith, lit<}
+use Rattle.std.proofs.Common.{ℕ, ◌^◌, ◌<◌, ◌≤◌, ◌%◌, length, decimal, arith, lit<}
 use Rattle.std.proofs.Math.Nat.{one-le-pow, mod-lt, mod-le}
 use Rattle.std.proofs.lemmas.Fmt.{length-decimal-le_wide}
 use Rattle.cs_types.proofs.print.print_number.Goals as goal

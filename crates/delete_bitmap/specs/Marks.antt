@@ -1,0 +1,30 @@
+-- The ends of a group's versions, by position.
+use Rattle.std.specs.Prelude.{ℕ, Bool, true, false, List, Option, Some, None, is_some, nat_le, slice_get, unwrap_or, if◌then◌else◌}
+use Rattle.delete_bitmap.specs.declared.MarkedEnd.{MarkedEnd}
+use Rattle.delete_bitmap.specs.declared.MarkedEnd.TheVariants.{Plain, Stamped}
+
+-- the end at a position, none past the last one
+abbrev pub end_at : List (Option MarkedEnd) → ℕ → Option MarkedEnd
+end_at marks position = unwrap_or (slice_get marks position) None
+
+-- a stamped end at most the floor becomes plain, and any other stays
+abbrev pub settled : ℕ → Option MarkedEnd → Option MarkedEnd
+settled floor None = None
+settled floor (Some Plain) = Some Plain
+settled floor (Some (Stamped commit)) = if nat_le commit floor then Some Plain else Some (Stamped commit)
+
+-- the end is stamped and at most the floor
+abbrev pub is_settling : ℕ → Option MarkedEnd → Bool
+is_settling floor None = false
+is_settling floor (Some Plain) = false
+is_settling floor (Some (Stamped commit)) = nat_le commit floor
+
+-- the version has ended for every snapshot from the floor on
+abbrev pub is_removable : ℕ → Option MarkedEnd → Bool
+is_removable floor None = false
+is_removable floor (Some Plain) = true
+is_removable floor (Some (Stamped commit)) = nat_le commit floor
+
+-- the version has ended
+abbrev pub is_marked : Option MarkedEnd → Bool
+is_marked end = is_some end
