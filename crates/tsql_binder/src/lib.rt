@@ -9,8 +9,6 @@ mod front;
 mod laws;
 mod number;
 mod statement;
-#[cfg(test)]
-mod tests;
 
 pub use front::behind;
 pub use laws::one_meaning;
