@@ -1,0 +1,5 @@
+pub mod Blocks
+pub mod Numbers
+pub mod Picked
+mod Places
+mod Written

@@ -1,0 +1,265 @@
+//! Value encoding: a column's numbers as small codes, each its distance from a base in units of a power of ten.
+//!
+//! Its one contract: `restore` of `shrink` is the cell, for each of the cells that were scaled. It stands on std alone.
+//! Larson et al., SIGMOD 2011, describe value encoding.
+#![tactic(auto)]
+
+ghost use Rattle.std.specs.Prelude.{◌≡◌, ◌≤◌, ◌<◌, ◌^◌, ◌↔◌, ℕ, ℤ, List, [], ◌∷◌, ◌++◌, Contains, IsTrue, None, Some, pos, int_div, ◌+ℤ◌, FitsSigned};
+ghost use Rattle.std.specs.Int.{w64};
+ghost use Rattle.segment_value.specs.Scales.{numbers_in, Divides, AreBounds, IsRange, IsExponent, IsCommonExponent, IsScaling, Takes, IsCode, code_of, cell_of};
+
+/// How a column's numbers are kept as codes.
+#[derive(Debug, Clone, Copy, PartialEq, Eq)]
+pub struct Scale {
+    /// The exponent of the power of ten that divides every number, 0 to 18.
+    pub exponent: u32,
+    /// The least number divided by that power, 0 where there is no number.
+    pub base: i64,
+    /// Whether a cell is NULL, which then has code 0.
+    pub nulls: bool,
+}
+
+/// The scale of the cells. None where the greatest code would pass 2^64 - 1.
+pub fn scale_of(cells: &[Option<i64>]) -> Option<Scale>
+    ensures { IsScaling cells.now result }
+{
+    let (least, greatest) = bounds_of(cells);
+    let exponent = exponent_of(cells, least, greatest);
+    let scale = Scale {
+        exponent,
+        base: units_of(least, exponent),
+        nulls: has_null(cells),
+    };
+    if has_word(scale, greatest) {
+        Some(scale)
+    } else {
+        None
+    }
+}
+
+/// The code of a cell. The cell is one that the scale takes, as each of those scaled is.
+pub fn shrink(scale: Scale, cell: Option<i64>) -> u64
+    requires { Takes scale cell }
+    ensures code { result ≡ code_of scale cell }
+    ensures restores { cell_of scale result ≡ cell }
+{
+    match cell {
+        None => 0,
+        Some(number) => {
+            let units = units_of(number, scale.exponent);
+            units.abs_diff(scale.base) + u64::from(scale.nulls)
+        }
+    }
+}
+
+/// The cell of a code. The code is that of a cell which the scale takes.
+pub fn restore(scale: Scale, code: u64) -> Option<i64>
+    requires { IsCode scale code }
+    ensures { result ≡ cell_of scale code }
+{
+    let null_codes = u64::from(scale.nulls);
+    if code < null_codes {
+        return None;
+    }
+    let units = raised(scale.base, code - null_codes);
+    Some(units * power_of_ten(scale.exponent) as i64)
+}
+
+/// Whether the code of the number is a word.
+fn has_word(scale: Scale, number: i64) -> bool
+    requires { scale.exponent ≤ 18 }
+    ensures { IsTrue result ↔ (code_of scale (Some number) < 2 ^ 64) }
+{
+    let distance = units_of(number, scale.exponent).abs_diff(scale.base);
+    distance.checked_add(u64::from(scale.nulls)).is_some()
+}
+
+/// The exponent of the numbers between these bounds.
+fn exponent_of(cells: &[Option<i64>], least: i64, greatest: i64) -> u32
+    requires { AreBounds (numbers_in cells.now) least greatest }
+    ensures exponent { IsExponent (numbers_in cells.now) result }
+    ensures small { result ≤ 18 }
+{
+    if least == 0 && greatest == 0 {
+        0
+    } else {
+        common_exponent(cells)
+    }
+}
+
+/// The greatest exponent from 0 to 18 whose power of ten divides every number.
+fn common_exponent(cells: &[Option<i64>]) -> u32
+    ensures { IsCommonExponent (numbers_in cells.now) result }
+{
+    let mut exponent = 18;
+    for cell in cells {
+        if let Some(number) = *cell {
+            exponent = exponent_up_to(exponent, number);
+        }
+    }
+    exponent
+}
+
+/// The greatest exponent up to a given one whose power of ten divides the number.
+fn exponent_up_to(most: u32, number: i64) -> u32
+    requires { most ≤ 18 }
+    ensures bound { result ≤ most }
+    ensures divides { Divides result number }
+    ensures greatest { (e : ℕ) → e ≤ most → Divides e number → e ≤ result }
+{
+    let mut exponent = most;
+    while exponent > 0 && !is_multiple(number, exponent) {
+        exponent -= 1;
+    }
+    exponent
+}
+
+/// Whether the power of ten divides the number.
+fn is_multiple(number: i64, exponent: u32) -> bool
+    requires { exponent ≤ 18 }
+    ensures { IsTrue result ↔ Divides exponent number }
+{
+    number.unsigned_abs() % power_of_ten(exponent) == 0
+}
+
+/// The number that lies so far above the base. The way there may pass the range of the base.
+fn raised(base: i64, by: u64) -> i64
+    requires { FitsSigned w64 (base +ℤ pos by) }
+    ensures { result ≡ base +ℤ pos by }
+{
+    (base as i128 + by as i128) as i64
+}
+
+/// The number in units of the power of ten.
+fn units_of(number: i64, exponent: u32) -> i64
+    requires { exponent ≤ 18 }
+    ensures { result ≡ int_div number (pos (10 ^ exponent)) }
+{
+    number / power_of_ten(exponent) as i64
+}
+
+/// 10 to the power of the exponent.
+fn power_of_ten(exponent: u32) -> u64
+    requires { exponent ≤ 18 }
+    ensures value { result ≡ 10 ^ exponent }
+    ensures bounds { (0 < result) × (result ≤ 1_000_000_000_000_000_000) }
+{
+    10u64.pow(exponent)
+}
+
+/// The least and the greatest number, 0 and 0 where there is none.
+fn bounds_of(cells: &[Option<i64>]) -> (i64, i64)
+    ensures { AreBounds (numbers_in cells.now) result.0 result.1 }
+{
+    range_of(cells).unwrap_or((0, 0))
+}
+
+/// The least and the greatest number, None where there is none.
+fn range_of(cells: &[Option<i64>]) -> Option<(i64, i64)>
+    ensures { IsRange (numbers_in cells.now) result }
+{
+    let mut range = None;
+    for cell in cells {
+        if let Some(number) = *cell {
+            range = Some(widened(range, number));
+        }
+    }
+    range
+}
+
+/// The least and the greatest number, with one more.
+fn widened(range: Option<(i64, i64)>, number: i64) -> (i64, i64)
+    ensures { (numbers : List ℤ) → IsRange numbers range → IsRange (numbers ++ number ∷ []) (Some result) }
+{
+    match range {
+        None => (number, number),
+        Some((least, greatest)) => (number.min(least), number.max(greatest)),
+    }
+}
+
+/// Whether a cell is NULL.
+fn has_null(cells: &[Option<i64>]) -> bool
+    ensures { IsTrue result ↔ Contains cells.now None }
+{
+    cells.iter().any(|cell| cell.is_none())
+}
+
+#[cfg(test)]
+mod tests {
+    use super::*;
+    use std::test::Fail;
+
+    const LEAST: i64 = i64::MIN;
+
+    const MOST: i64 = i64::MAX;
+
+    const E18: i64 = 1_000_000_000_000_000_000;
+
+    fn scale(exponent: u32, base: i64, nulls: bool) -> Option<Scale> {
+        Some(Scale {
+            exponent,
+            base,
+            nulls,
+        })
+    }
+
+    #[test]
+    fn cells_become_codes_and_come_back(rt: HostRuntime) -> Result<(), Fail> {
+        for (cells, wanted, codes) in [
+            (&[][..], scale(0, 0, false), &[][..]),
+            (&[None][..], scale(0, 0, true), &[0][..]),
+            (&[Some(5)][..], scale(0, 5, false), &[0][..]),
+            (&[Some(0), Some(0)][..], scale(0, 0, false), &[0, 0][..]),
+            (&[Some(0), None][..], scale(0, 0, true), &[1, 0][..]),
+            (&[Some(0), Some(7000)][..], scale(3, 0, false), &[0, 7][..]),
+            (
+                &[Some(300), Some(100), None][..],
+                scale(2, 1, true),
+                &[3, 1, 0][..],
+            ),
+            (&[Some(-20), Some(30)][..], scale(1, -2, false), &[0, 5][..]),
+            (
+                &[Some(E18), Some(-3 * E18)][..],
+                scale(18, -3, false),
+                &[4, 0][..],
+            ),
+            (&[Some(LEAST), None][..], scale(0, LEAST, true), &[1, 0][..]),
+            (
+                &[Some(LEAST), Some(MOST)][..],
+                scale(0, LEAST, false),
+                &[0, u64::MAX][..],
+            ),
+            (
+                &[Some(MOST), Some(-MOST), None][..],
+                scale(0, -MOST, true),
+                &[u64::MAX, 1, 0][..],
+            ),
+            (&[Some(LEAST), Some(MOST), None][..], None, &[][..]),
+        ] {
+            let found = scale_of(cells);
+            assert_eq!(rt; found, wanted, "of {cells:?}");
+            if let Some(scale) = found {
+                for i in 0..cells.len() {
+                    let code = shrink(scale, cells[i]);
+                    assert_eq!(rt; Some(&code), codes.get(i), "of {cells:?}");
+                    assert_eq!(rt; restore(scale, code), cells[i], "of {cells:?}");
+                }
+            }
+        }
+        Ok(())
+    }
+
+    #[test]
+    fn a_scale_has_three_fields(rt: HostRuntime) {
+        let Scale {
+            exponent,
+            base,
+            nulls,
+        } = Scale {
+            exponent: 2,
+            base: -1,
+            nulls: true,
+        };
+        assert_eq!(rt; (exponent, base, nulls), (2, -1, true));
+    }
+}
