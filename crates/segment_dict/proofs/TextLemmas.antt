@@ -1,5 +1,5 @@
 -- Texts side by side, as one more is put at the end.
-use Rattle.std.proofs.Common.{◌≡◌, ℕ, ◌+◌, ◌-◌, ◌<◌, ◌≤◌, List, [], ◌∷◌, ◌++◌, length, get_or, map, take, drop, refl, sym, ◌∙◌, ap, subst, arith, Bool, true, false, IsTrue, Option, Some, nat_le, nat_eq, ◌&&◌, slice_get, slice_range, zero, suc, length-append, Bor}
+use Rattle.std.proofs.Common.{◌≡◌, ℕ, ◌+◌, ◌-◌, ◌<◌, ◌≤◌, List, [], ◌∷◌, ◌++◌, length, get_or, map, take, drop, refl, sym, ◌∙◌, ap, arith, IsTrue, Some, slice_get, slice_range, zero, suc, length-append, Bor}
 use Rattle.std.proofs.lemmas.Bool.Decides.{nat_tests}
 use Rattle.std.proofs.lemmas.List.{drop-append-le, take-append-le, length-drop, drop_at, take_all, map_more}
 use Rattle.segment_dict.specs.Texts.{texts_from, texts_in, ends_rise}

@@ -23,6 +23,7 @@ pub enum Dict {
 #[cfg(test)]
 mod tests {
     use super::*;
+    use std::process::Abort;
     use std::test::Fail;
 
     #[test]
@@ -62,65 +63,51 @@ mod tests {
         Ok(())
     }
 
+    /// Looks at the dictionary of the cells: its fields, its words and the code of each cell.
+    fn expect_texts(
+        rt: &(impl Abort + AllocGlobal),
+        cells: &[Option<&[u8]>],
+        wanted: (&[u64], &[u8], bool),
+        words: u64,
+        codes: &[Option<u64>],
+    ) -> Result<(), Fail> {
+        let dict = texts_of(rt.alloc(), cells)?;
+        for i in 0..cells.len() {
+            let code = dict.code_of(cells[i]);
+            assert_eq!(rt; Some(&code), codes.get(i), "of {cells:?}");
+            if let Some(code) = code {
+                assert_eq!(rt; dict.entry(code), cells[i], "of {cells:?}");
+            }
+        }
+        assert_eq!(rt; dict.code_of(Some(b"a")), None, "of {cells:?}");
+        assert_eq!(rt; dict.words(), words, "of {cells:?}");
+        // The fields, all of them.
+        let TextDict { ends, bytes, nulls } = dict;
+        assert_eq!(rt; ends.as_slice(), wanted.0, "of {cells:?}");
+        assert_eq!(rt; bytes.as_slice(), wanted.1, "of {cells:?}");
+        assert_eq!(rt; nulls, wanted.2, "of {cells:?}");
+        Ok(())
+    }
+
     #[test]
     fn texts_are_sorted_and_joined(rt: HostRuntime) -> Result<(), Fail> {
-        let b = Some(&b"b"[..]);
-        let ab = Some(&b"ab"[..]);
-        let empty = Some(&b""[..]);
-        for (cells, wanted_ends, wanted_bytes, has_null, words, codes) in [
-            (&[][..], &[][..], &b""[..], false, 0, &[][..]),
-            (&[None][..], &[][..], &b""[..], true, 0, &[Some(0)][..]),
-            (&[empty][..], &[0][..], &b""[..], false, 1, &[Some(0)][..]),
-            (
-                &[b, ab, b][..],
-                &[2, 3][..],
-                &b"abb"[..],
-                false,
-                3,
-                &[Some(1), Some(0), Some(1)][..],
-            ),
-            (
-                &[ab, None, empty][..],
-                &[0, 2][..],
-                &b"ab"[..],
-                true,
-                3,
-                &[Some(2), Some(0), Some(1)][..],
-            ),
-            (
-                &[Some(&b"columnar"[..])][..],
-                &[8][..],
-                &b"columnar"[..],
-                false,
-                2,
-                &[Some(0)][..],
-            ),
-            (
-                &[Some(&b"row groups"[..])][..],
-                &[10][..],
-                &b"row groups"[..],
-                false,
-                3,
-                &[Some(0)][..],
-            ),
-        ] {
-            let dict = texts_of(rt.alloc(), cells)?;
-            for i in 0..cells.len() {
-                let code = dict.code_of(cells[i]);
-                assert_eq!(rt; Some(&code), codes.get(i), "of {cells:?}");
-                if let Some(code) = code {
-                    assert_eq!(rt; dict.entry(code), cells[i], "of {cells:?}");
-                }
-            }
-            assert_eq!(rt; dict.code_of(Some(&b"a"[..])), None, "of {cells:?}");
-            assert_eq!(rt; dict.words(), words, "of {cells:?}");
-            // The fields, all of them.
-            let TextDict { ends, bytes, nulls } = dict;
-            assert_eq!(rt; ends.as_slice(), wanted_ends, "of {cells:?}");
-            assert_eq!(rt; bytes.as_slice(), wanted_bytes, "of {cells:?}");
-            assert_eq!(rt; nulls, has_null, "of {cells:?}");
-        }
-        Ok(())
+        let one: &[u8] = b"b";
+        let two: &[u8] = b"ab";
+        let none: &[u8] = b"";
+        let long: &[u8] = b"row groups";
+        expect_texts(&rt, &[], (&[], b"", false), 0, &[])?;
+        expect_texts(&rt, &[None], (&[], b"", true), 0, &[Some(0)])?;
+        expect_texts(&rt, &[Some(none)], (&[0], b"", false), 1, &[Some(0)])?;
+        let cells = [Some(one), Some(two), Some(one)];
+        let codes = [Some(1), Some(0), Some(1)];
+        expect_texts(&rt, &cells, (&[2, 3], b"abb", false), 3, &codes)?;
+        let cells = [Some(two), None, Some(none)];
+        let codes = [Some(2), Some(0), Some(1)];
+        expect_texts(&rt, &cells, (&[0, 2], b"ab", true), 3, &codes)?;
+        let cells = [Some(long)];
+        expect_texts(&rt, &cells, (&[10], b"row groups", false), 3, &[Some(0)])?;
+        let cells = [Some(&long[..8])];
+        expect_texts(&rt, &cells, (&[8], b"row grou", false), 2, &[Some(0)])
     }
 
     #[test]

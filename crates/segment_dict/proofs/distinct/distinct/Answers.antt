@@ -1,4 +1,3 @@
-use Rattle.std.proofs.Common.{rules, arith, subst, IsPermutation, sym}
 use Rattle.segment_dict.proofs.Orders.{AreDistinct-made}
 use Rattle.segment_dict.proofs.distinct.distinct.Goals as goal
 

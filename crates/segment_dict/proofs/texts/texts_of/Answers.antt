@@ -1,4 +1,4 @@
-use Rattle.std.proofs.Common.{List, ℕ, Bor, map, ◌≡◌, ◌∙◌, ap, IsTrue}
+use Rattle.std.proofs.Common.{List, ℕ, Bor}
 use Rattle.std.specs.Ordering.{nat_cmp}
 use Rattle.std.specs.Cmp.Lexicographic.{slice_cmp}
 use Rattle.std.proofs.lemmas.Result.{IfOk-weaker}

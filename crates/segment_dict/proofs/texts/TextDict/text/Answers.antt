@@ -1,4 +1,4 @@
-use Rattle.std.proofs.Common.{◌≡◌, arith, get_or}
+use Rattle.std.proofs.Common.{arith}
 use Rattle.std.proofs.lemmas.List.{get_or_read}
 use Rattle.segment_dict.proofs.TextLemmas.{text_at}
 use Rattle.segment_dict.proofs.texts.TextDict.text.Goals as goal
