@@ -1,0 +1,14 @@
+-- How many statements each session began, counted entry by entry.
+use Rattle.std.specs.Prelude.{ℕ, if◌then◌else◌, unwrap_or}
+use Rattle.std.specs.Ordering.{nat_cmp}
+use Rattle.std.specs.BTreeMap.{BTreeMap, get}
+use Rattle.cs_model.specs.declared.entry.Entry.{Entry}
+use Rattle.cs_model.specs.Text.{is_start_of}
+
+-- the count of a session
+abbrev pub place_in : BTreeMap ℕ ℕ → ℕ → ℕ
+place_in places session = unwrap_or (get nat_cmp places session) 0
+
+-- what an entry adds to the count of a session
+abbrev pub begun_by : Entry → ℕ → ℕ
+begun_by entry session = if is_start_of session entry then 1 else 0

@@ -1,0 +1,152 @@
+-- What an event does to the state: a relation by cases of the event.
+use Rattle.std.specs.Prelude.{◌≡◌, ◌⊎◌, ℕ, ◌+◌, List, [], ◌∷◌, ◌++◌, length, map, fold, Bool, true, false, ◌==◌, if◌then◌else◌, is_some, Option, None, Some}
+use Rattle.std.specs.BTreeMap.{insert_entry}
+use Rattle.cs_types.specs.declared.Loose.{Loose}
+use Rattle.cs_types.specs.declared.Schema.{Schema}
+use Rattle.cs_model.specs.declared.entry.Bound.{Bound}
+use Rattle.cs_model.specs.declared.entry.Bound.TheVariants as bound
+use Rattle.cs_model.specs.declared.entry.Refusal.{Refusal}
+use Rattle.cs_model.specs.declared.entry.Refusal.TheVariants.{Memory}
+use Rattle.cs_model.specs.declared.entry.Reply.{Reply}
+use Rattle.cs_model.specs.declared.entry.Reply.TheVariants as reply
+use Rattle.cs_model.specs.declared.entry.Entry.{Entry}
+use Rattle.cs_model.specs.declared.entry.Entry.TheVariants.{Start, Finish, End}
+use Rattle.cs_model.specs.Keys.{key_cmp}
+use Rattle.cs_model.specs.Changes.{Edit, Table, Change}
+use Rattle.cs_model.specs.State.{Txn, Half, State, start, with, txn_set, half_set, seen}
+use Rattle.cs_model.specs.Answers.{is_of_table, answer, writes}
+use Rattle.cs_model.specs.Obstacles.{keys_of, is_present, IsObstacle, IsJudged}
+
+-- ---- Start
+
+-- the transaction that a statement of the table begins in: the session's, or an implicit one
+abbrev pub txn_opened : Option Txn → ℕ → Txn
+txn_opened (Some txn) next = txn
+txn_opened None next = record { number = next; depth = 0; snapshot = None; own = [] }
+
+-- an implicit transaction draws a number
+abbrev pub next_opened : Option Txn → ℕ → ℕ
+next_opened (Some txn) next = next
+next_opened None next = next + 1
+
+abbrev pub or_clock : Option ℕ → ℕ → ℕ
+or_clock (Some s) clock = s
+or_clock None clock = clock
+
+-- a transaction without a snapshot takes the clock, unless the Start found no memory
+abbrev pub fixed : Txn → Bool → ℕ → Txn
+fixed txn short clock = record txn { snapshot = if short then txn.snapshot else Some (or_clock txn.snapshot clock) }
+
+abbrev pub pinned : State → ℕ → Bool → State
+pinned m session short = record m {
+  txns = with m.txns session (Some (fixed (txn_opened (m.txns session) m.next) short m.clock));
+  next = next_opened (m.txns session) m.next;
+}
+
+-- the state after a Start
+abbrev pub started : State → ℕ → Bound → Bool → State
+started m session b short = half_set (if is_of_table b then pinned m session short else m) session (Some (record { bound = b; short = short }))
+
+-- ---- the reply of a Finish
+
+-- an answer of rows; it has counts of segments exactly where the session's setting is on
+abbrev pub IsAnswer : Bool → List (List Loose) → Reply → Type 0
+IsAnswer on rows (reply.Rows list segments) = (list ≡ rows) × (is_some segments ≡ on)
+IsAnswer on rows (reply.Affected count) = ⊥
+IsAnswer on rows (reply.Refused refusal) = ⊥
+
+-- the reply to a write of these edits: the obstacle, or how many edits there are
+abbrev pub IsWritten : (Option Refusal → Type 0) → List Edit → Reply → Type 0
+IsWritten Judged edits (reply.Affected count) = Judged None × (count ≡ length edits)
+IsWritten Judged edits (reply.Refused refusal) = Judged (Some refusal)
+IsWritten Judged edits (reply.Rows list segments) = ⊥
+
+-- the reply to a write, over what its transaction sees
+abbrev pub IsWriteReply : Schema → State → ℕ → Table → Bound → Reply → Type 0
+IsWriteReply schema m session table b r = IsWritten (IsJudged (IsObstacle m session (is_present schema b table)) (keys_of (writes schema b))) (writes schema b) r
+
+-- the reply that a statement is defined to have, with the session's transaction; one of the table has none without it
+abbrev pub IsReplyIn : Schema → State → ℕ → Option Txn → Bound → Reply → Type 0
+IsReplyIn schema m session txn (bound.Refused refusal) r = r ≡ reply.Refused refusal
+IsReplyIn schema m session None bound.Select r = ⊥
+IsReplyIn schema m session (Some txn) bound.Select r = IsAnswer (m.statistics session) (answer schema (seen m.changes txn)) r
+IsReplyIn schema m session None (bound.Insert rows) r = ⊥
+IsReplyIn schema m session (Some txn) (bound.Insert rows) r = IsWriteReply schema m session (seen m.changes txn) (bound.Insert rows) r
+
+abbrev pub IsReply : Schema → State → ℕ → Bound → Reply → Type 0
+IsReply schema m session b r = IsReplyIn schema m session (m.txns session) b r
+
+-- ---- the state after a Finish
+
+-- the own writes, by key, with more laid over them; the last for a key stands
+abbrev pub staged : List Edit → List Edit → List Edit
+staged own edits = fold (λ list (edit : Edit). insert_entry key_cmp list edit.0 edit.1) own edits
+
+abbrev pub is_empty : List Edit → Bool
+is_empty [] = true
+is_empty (edit ∷ edits) = false
+
+-- the changes of a commit
+abbrev pub committed : ℕ → Txn → List Change
+committed commit txn = map (λ edit. record { commit = commit; txn = txn.number; edit = edit }) txn.own
+
+abbrev pub gone : State → ℕ → State
+gone m session = txn_set m session None
+
+-- the transaction's own writes are committed under the next number, if it has any, and it is gone
+abbrev pub commits : State → ℕ → Txn → State
+commits m session txn =
+    if is_empty txn.own then gone m session
+    else record (gone m session) { changes = m.changes ++ committed (m.clock + 1) txn; clock = m.clock + 1 }
+
+-- after a statement that was not refused: its edits are the transaction's own, and an implicit transaction commits
+abbrev pub accepted_in : State → ℕ → Option Txn → List Edit → State
+accepted_in m session None edits = m
+accepted_in m session (Some txn) edits =
+    let after = record txn { own = staged txn.own edits } in
+    if txn.depth == 0 then commits m session after else txn_set m session (Some after)
+
+abbrev pub accepted : Schema → State → ℕ → Bound → State
+accepted schema m session b = accepted_in m session (m.txns session) (writes schema b)
+
+-- whether a refusal ends the transaction: every one ends an implicit one
+abbrev pub ends_txn : Txn → Refusal → Bool
+ends_txn txn refusal = txn.depth == 0
+
+-- after a refusal the transaction is gone, or as it was
+abbrev pub refused_in : State → ℕ → Option Txn → Refusal → State
+refused_in m session None refusal = m
+refused_in m session (Some txn) refusal = if ends_txn txn refusal then gone m session else m
+
+abbrev pub replied : Schema → State → ℕ → Bound → Reply → State
+replied schema m session b (reply.Affected count) = accepted schema m session b
+replied schema m session b (reply.Rows list segments) = accepted schema m session b
+replied schema m session b (reply.Refused refusal) = refused_in m session (m.txns session) refusal
+
+-- the state after a Finish: the statement is no longer half done, and then its reply takes effect
+abbrev pub finished : Schema → State → ℕ → Bound → Reply → State
+finished schema m session b r = replied schema (half_set m session None) session b r
+
+-- a Finish of the half-done statement: with the defined reply, or with want of memory in its place
+abbrev pub IsFinish : Schema → State → ℕ → Option Half → Reply → State → Type 0
+IsFinish schema m session None r after = ⊥
+IsFinish schema m session (Some half) r after =
+    ((r ≡ reply.Refused Memory) ⊎ ((half.short ≡ false) × IsReply schema m session half.bound r))
+    × (after ≡ finished schema m session half.bound r)
+
+-- ---- the step
+
+-- the entry leads from the state m to the state after
+abbrev pub IsStep : Schema → State → Entry → State → Type 0
+IsStep schema m (Start session b short) after = (m.half session ≡ None) × (short ≡ true → is_of_table b ≡ true) × (after ≡ started m session b short)
+IsStep schema m (Finish session r) after = IsFinish schema m session (m.half session) r after
+IsStep schema m (End session) after = (m.half session ≡ None) × (after ≡ gone m session)
+
+-- the entries lead from m to the state after, one by one
+abbrev pub Leads : Schema → State → List Entry → State → Type 0
+Leads schema m [] after = after ≡ m
+Leads schema m (entry ∷ entries) after = (mid : State) × IsStep schema m entry mid × Leads schema mid entries after
+
+-- the log leads from the empty state to this one
+abbrev pub Legal : Schema → List Entry → State → Type 0
+Legal schema log after = Leads schema start log after

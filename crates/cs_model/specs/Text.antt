@@ -1,0 +1,116 @@
+-- The printed text of replies and events, and of a log.
+use Rattle.std.specs.Prelude.{ℕ, ◌+◌, List, [], ◌∷◌, ◌++◌, length, codes, decimal, count_by, Bool, false, ◌==◌, slice_get, All, IsTrue, Option, None, Some}
+use Rattle.std.specs.List.{flat_map}
+use Rattle.cs_types.specs.declared.Column.{Column}
+use Rattle.cs_types.specs.declared.ColumnType.{ColumnType}
+use Rattle.cs_types.specs.declared.ColumnType.TheVariants.{BigInt}
+use Rattle.cs_types.specs.declared.Key.{Key}
+use Rattle.cs_types.specs.declared.Loose.{Loose}
+use Rattle.cs_types.specs.declared.Schema.{Schema}
+use Rattle.cs_types.specs.declared.Value.TheVariants.{Number}
+use Rattle.cs_types.specs.Kinds.{keeps}
+use Rattle.cs_types.specs.Text.{loose_text, value_text, IsPrintable}
+use Rattle.cs_model.specs.declared.entry.Refusal.{Refusal}
+use Rattle.cs_model.specs.declared.entry.Refusal.TheVariants.{Reading, Duplicate, Memory}
+use Rattle.cs_model.specs.declared.entry.Reply.{Reply}
+use Rattle.cs_model.specs.declared.entry.Reply.TheVariants.{Affected, Rows, Refused}
+use Rattle.cs_model.specs.declared.entry.Entry.{Entry}
+use Rattle.cs_model.specs.declared.entry.Entry.TheVariants.{Start, Finish, End}
+
+abbrev pub next_cell : Loose → List ℕ
+next_cell cell = codes ", " ++ loose_text cell
+
+-- the cells, joined by a comma and a space
+abbrev pub cells_text : List Loose → List ℕ
+cells_text [] = []
+cells_text (cell ∷ cells) = loose_text cell ++ flat_map next_cell cells
+
+-- a line under a reply begins with two spaces
+abbrev pub row_line : List Loose → List ℕ
+row_line row = codes "  " ++ cells_text row ++ codes "\n"
+
+abbrev pub kind_or : Option Column → ColumnType
+kind_or None = BigInt
+kind_or (Some column) = column.kind
+
+-- the type of the key's column
+abbrev pub key_kind : Schema → ColumnType
+key_kind schema = kind_or (slice_get schema.columns schema.key)
+
+-- a key, printed by its column's type
+abbrev pub key_text : Schema → Key → List ℕ
+key_text schema key = value_text (key_kind schema) (Number key.0)
+
+abbrev pub refusal_text : Schema → Refusal → List ℕ
+refusal_text schema (Reading number at) = codes "error " ++ decimal number ++ codes " at " ++ decimal at
+refusal_text schema (Duplicate key) = codes "error 2627 key " ++ key_text schema key
+refusal_text schema Memory = codes "error 701"
+
+-- the last line under an answer, where STATISTICS IO is on
+abbrev pub segments_line : Option (ℕ × ℕ) → List ℕ
+segments_line None = []
+segments_line (Some counts) = codes "  segments read " ++ decimal counts.0 ++ codes ", skipped " ++ decimal counts.1 ++ codes "\n"
+
+-- the reply, and the lines under it
+abbrev pub reply_text : Schema → Reply → List ℕ
+reply_text schema (Affected count) = codes "ok " ++ decimal count ++ codes " affected\n"
+reply_text schema (Rows rows segments) = codes "ok " ++ decimal (length rows) ++ codes " rows\n" ++ flat_map row_line rows ++ segments_line segments
+reply_text schema (Refused refusal) = refusal_text schema refusal ++ codes "\n"
+
+-- `s<n>`
+abbrev pub session_text : ℕ → List ℕ
+session_text session = codes "s" ++ decimal session
+
+-- the text of an entry: event is its number, place that of its statement in its session, both from 1
+abbrev pub entry_text : Schema → ℕ → ℕ → Entry → List ℕ
+entry_text schema event place (Start session bound short) = decimal event ++ codes " " ++ session_text session ++ codes "." ++ decimal place ++ codes " >\n"
+entry_text schema event place (Finish session reply) = decimal event ++ codes " " ++ session_text session ++ codes "." ++ decimal place ++ codes " < " ++ reply_text schema reply
+entry_text schema event place (End session) = decimal event ++ codes " " ++ session_text session ++ codes " end\n"
+
+-- the number of the actor whose entry it is: that of its session
+abbrev pub actor_of : Entry → ℕ
+actor_of (Start session bound short) = session
+actor_of (Finish session reply) = session
+actor_of (End session) = session
+
+abbrev pub is_start_of : ℕ → Entry → Bool
+is_start_of session (Start s bound short) = s == session
+is_start_of session (Finish s reply) = false
+is_start_of session (End s) = false
+
+-- how many statements of the session these entries began
+abbrev pub statements_of : ℕ → List Entry → ℕ
+statements_of session entries = count_by (is_start_of session) entries
+
+-- the text of an entry behind these: its event number counts all entries, its place its session's statements
+abbrev pub line_after : Schema → List Entry → Entry → List ℕ
+line_after schema before entry = entry_text schema (length before + 1) (statements_of (actor_of entry) (before ++ entry ∷ [])) entry
+
+-- the text of the entries that come behind those before
+abbrev pub text_after : Schema → List Entry → List Entry → List ℕ
+text_after schema before [] = []
+text_after schema before (entry ∷ entries) = line_after schema before entry ++ text_after schema (before ++ entry ∷ []) entries
+
+-- the text of a log
+abbrev pub text : Schema → List Entry → List ℕ
+text schema log = text_after schema [] log
+
+-- ---- what can be printed: values that a column keeps, and no day outside the calendar
+
+abbrev pub IsPrintableRefusal : Schema → Refusal → Type 0
+IsPrintableRefusal schema (Reading number at) = Unit {0}
+IsPrintableRefusal schema (Duplicate key) = IsTrue (keeps (key_kind schema) (Number key.0))
+IsPrintableRefusal schema Memory = Unit {0}
+
+abbrev pub IsPrintableRow : List Loose → Type 0
+IsPrintableRow row = All IsPrintable row
+
+abbrev pub IsPrintableReply : Schema → Reply → Type 0
+IsPrintableReply schema (Affected count) = Unit {0}
+IsPrintableReply schema (Rows rows segments) = All IsPrintableRow rows
+IsPrintableReply schema (Refused refusal) = IsPrintableRefusal schema refusal
+
+abbrev pub IsPrintableEntry : Schema → Entry → Type 0
+IsPrintableEntry schema (Start session bound short) = Unit {0}
+IsPrintableEntry schema (Finish session reply) = IsPrintableReply schema reply
+IsPrintableEntry schema (End session) = Unit {0}

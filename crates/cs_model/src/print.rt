@@ -1,0 +1,191 @@
+// The text of an event.
+ghost use Rattle.std.specs.Prelude.{◌≡◌, ◌++◌, All, OnOk, OnErr, IsTrue, codes, decimal};
+ghost use Rattle.std.specs.List.{flat_map};
+ghost use Rattle.cs_types.specs.Text.{IsPrintable};
+ghost use Rattle.cs_model.specs.Text.{next_cell, cells_text, row_line, key_kind, key_text, refusal_text, segments_line, reply_text, session_text, entry_text, IsPrintableRow, IsPrintableRefusal, IsPrintableReply, IsPrintableEntry};
+ghost use Rattle.cs_types.specs.Kinds.{keeps};
+ghost use Rattle.cs_types.specs.declared.Value.TheVariants as value;
+
+use crate::entry::{AnswerRow, Entry, Refusal, Reply};
+use cs_base::Memory;
+use cs_types::{ColumnType, Key, Line, Loose, Schema, Value, print_loose, print_value};
+use std::alloc::Global;
+
+/// Adds cells, each behind a comma and a space.
+fn append_next_cells(cells: &[Loose], line: &mut Line) -> Result<(), Memory>
+    requires { All IsPrintable cells.now }
+    ensures { OnOk result (line.new ≡ line.old ++ flat_map next_cell cells.now) }
+{
+    for cell in cells {
+        line.append(b", ")?;
+        print_loose(cell, line)?;
+    }
+    Ok(())
+}
+
+/// Adds the cells of a row, joined by a comma and a space.
+fn append_cells(cells: &[Loose], line: &mut Line) -> Result<(), Memory>
+    requires { All IsPrintable cells.now }
+    ensures { OnOk result (line.new ≡ line.old ++ cells_text cells.now) }
+{
+    let Some((first, others)) = cells.split_first() else {
+        return Ok(());
+    };
+    print_loose(first, line)?;
+    append_next_cells(others, line)
+}
+
+/// Adds a line for each row.
+fn append_rows(rows: &[AnswerRow], line: &mut Line) -> Result<(), Memory>
+    requires { All IsPrintableRow rows.now }
+    ensures { OnOk result (line.new ≡ line.old ++ flat_map row_line rows.now) }
+{
+    for row in rows {
+        line.append(b"  ")?;
+        append_cells(row.as_slice(), line)?;
+        line.append(b"\n")?;
+    }
+    Ok(())
+}
+
+/// The type of the key's column.
+fn key_kind(schema: &Schema) -> ColumnType
+    ensures { result ≡ key_kind schema.now }
+{
+    match schema.columns.get(schema.key) {
+        Some(column) => column.kind,
+        None => ColumnType::BigInt,
+    }
+}
+
+/// Adds a key, printed by its column's type.
+fn append_key(schema: &Schema, key: Key, line: &mut Line) -> Result<(), Memory>
+    requires { IsTrue (keeps (key_kind schema.now) (value.Number key.0)) }
+    ensures { OnOk result (line.new ≡ line.old ++ key_text schema.now key) }
+{
+    print_value(key_kind(schema), &Value::Number(key.0), line)
+}
+
+fn append_refusal(schema: &Schema, refusal: Refusal, line: &mut Line) -> Result<(), Memory>
+    requires { IsPrintableRefusal schema.now refusal }
+    ensures { OnOk result (line.new ≡ line.old ++ refusal_text schema.now refusal) }
+{
+    match refusal {
+        Refusal::Reading { number, at } => {
+            line.append(b"error ")?;
+            line.append_number(number as u64)?;
+            line.append(b" at ")?;
+            line.append_number(at as u64)
+        }
+        Refusal::Duplicate { key } => {
+            line.append(b"error 2627 key ")?;
+            append_key(schema, key, line)
+        }
+        Refusal::Memory => line.append(b"error 701"),
+    }
+}
+
+/// Adds the counts of segments, where there are some.
+fn append_segments(segments: Option<(u64, u64)>, line: &mut Line) -> Result<(), Memory>
+    ensures { OnOk result (line.new ≡ line.old ++ segments_line segments) }
+{
+    let Some((read, skipped)) = segments else {
+        return Ok(());
+    };
+    line.append(b"  segments read ")?;
+    line.append_number(read)?;
+    line.append(b", skipped ")?;
+    line.append_number(skipped)?;
+    line.append(b"\n")
+}
+
+/// Adds a reply and the lines under it.
+fn append_reply(schema: &Schema, reply: &Reply, line: &mut Line) -> Result<(), Memory>
+    requires { IsPrintableReply schema.now reply.now }
+    ensures { OnOk result (line.new ≡ line.old ++ reply_text schema.now reply.now) }
+{
+    match reply {
+        Reply::Affected(count) => {
+            line.append(b"ok ")?;
+            line.append_number(*count)?;
+            line.append(b" affected\n")
+        }
+        Reply::Rows { rows, segments } => {
+            line.append(b"ok ")?;
+            line.append_number(rows.len() as u64)?;
+            line.append(b" rows\n")?;
+            append_rows(rows.as_slice(), line)?;
+            append_segments(*segments, line)
+        }
+        Reply::Refused(refusal) => {
+            append_refusal(schema, *refusal, line)?;
+            line.append(b"\n")
+        }
+    }
+}
+
+/// Adds an event's number and its session.
+fn append_session(event: u64, session: u32, line: &mut Line) -> Result<(), Memory>
+    ensures { OnOk result (line.new ≡ line.old ++ decimal event ++ codes " " ++ session_text session) }
+{
+    line.append_number(event)?;
+    line.append(b" s")?;
+    line.append_number(session as u64)
+}
+
+/// Adds a statement's place in its session.
+fn append_place(place: u64, line: &mut Line) -> Result<(), Memory>
+    ensures { OnOk result (line.new ≡ line.old ++ codes "." ++ decimal place) }
+{
+    line.append(b".")?;
+    line.append_number(place)
+}
+
+/// Adds the text of an event; after `Memory` a front of it may stand in the line.
+pub fn append_entry(
+    schema: &Schema,
+    event: u64,
+    place: u64,
+    entry: &Entry,
+    line: &mut Line,
+) -> Result<(), Memory>
+    requires { IsPrintableEntry schema.now entry.now }
+    ensures { OnOk result (line.new ≡ line.old ++ entry_text schema.now event place entry.now) }
+{
+    match entry {
+        Entry::Start { session, .. } => {
+            append_session(event, *session, line)?;
+            append_place(place, line)?;
+            line.append(b" >\n")
+        }
+        Entry::Finish { session, reply } => {
+            append_session(event, *session, line)?;
+            append_place(place, line)?;
+            line.append(b" < ")?;
+            append_reply(schema, reply, line)
+        }
+        Entry::End { session } => {
+            append_session(event, *session, line)?;
+            line.append(b" end\n")
+        }
+    }
+}
+
+/// Adds the text of the event with this number, whose statement has this place in its session; both count from 1. After
+/// `Memory` the line is as before.
+pub fn print_entry(
+    alloc: Global,
+    schema: &Schema,
+    event: u64,
+    place: u64,
+    entry: &Entry,
+    line: &mut Line,
+) -> Result<(), Memory>
+    requires { IsPrintableEntry schema.now entry.now }
+    ensures ok { OnOk result (line.new ≡ line.old ++ entry_text schema.now event place entry.now) }
+    ensures err { OnErr result (line.new ≡ line.old) }
+{
+    let mut text = Line::new(alloc);
+    append_entry(schema, event, place, entry, &mut text)?;
+    line.append(text.as_slice())
+}

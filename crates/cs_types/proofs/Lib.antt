@@ -1,0 +1,5 @@
+pub mod CalendarLemmas
+pub mod DateLemmas
+pub mod DayLemmas
+pub mod FitLemmas
+pub mod Rounding

@@ -1,0 +1,13 @@
+//! Scripts: their lines, the table that the first one sets up, and the steps that the others ask for. So far a script is
+//! one setup line of the table t, and statements of session 1.
+//!
+//! Its one contract: `read_script` gives the script that the grammar has for the bytes, and else the first bad line and
+//! its reason. Which events a script asks for stands in specs/. It stands on `tsql_binder`.
+#![tactic(auto)]
+
+mod lines;
+mod read;
+mod script;
+
+pub use read::read_script;
+pub use script::{Script, ScriptRefusal, Step};

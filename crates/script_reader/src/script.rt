@@ -1,0 +1,45 @@
+// Scripts.
+ghost use Rattle.std.specs.Prelude.{◌≡◌};
+
+use cs_base::{Items, Memory};
+use cs_types::{Bytes, Schema};
+use thiserror::Error;
+
+/// A script: its table, its steps in order, and the sessions that they name, each once, by their numbers.
+#[derive(Debug, Drop)]
+pub struct Script {
+    /// The table of the setup line.
+    pub schema: Schema,
+    /// The steps of the lines behind it.
+    pub lines: Items<Step>,
+    /// The sessions of the steps, ascending, each 1 to 64.
+    pub sessions: Items<u32>,
+}
+
+/// What a line of a script asks for.
+#[derive(Debug, Drop)]
+pub enum Step {
+    /// A statement of a session, started and finished.
+    Whole { session: u32, text: Bytes },
+}
+
+/// Why a script is refused.
+#[derive(Clone, Copy, Debug, PartialEq, Eq, Error)]
+pub enum ScriptRefusal {
+    /// The first bad line, counted from 1, and its reason. `number` is 0, but for a refused setup statement.
+    #[error("line {line} is refused, reason {reason}")]
+    Bad { line: u64, reason: u32, number: u32 },
+    /// There was no room for the script.
+    #[error("out of memory")]
+    Memory,
+}
+
+impl From<Memory> for ScriptRefusal {
+    ghost use Rattle.script_reader.specs.declared.script.ScriptRefusal.TheVariants as refusal;
+
+    ghost from_gives = { λ _ e. e ≡ refusal.Memory };
+
+    fn from(_error: Memory) -> ScriptRefusal {
+        ScriptRefusal::Memory
+    }
+}

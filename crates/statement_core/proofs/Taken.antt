@@ -1,0 +1,99 @@
+-- The least key that is present, one key more, and the obstacle that it is.
+use Rattle.std.proofs.Common.{◌≡◌, ◌≢◌, ℕ, ◌+◌, ◌<◌, ◌⊎◌, List, [], ◌∷◌, ◌++◌, length, take, get_or, map, refl, sym, ap, subst, arith, ◌∙◌, inl, inr, cond, Bool, true, false, ◌||◌, nat_lt, All, Contains}
+use Rattle.std.specs.Prelude.{Option, None, Some, count_by}
+use Rattle.std.specs.declared.cmp.Ordering.{Ordering}
+use Rattle.std.specs.declared.cmp.Ordering.TheVariants.{Less, Equal, Greater}
+use Rattle.std.specs.Ordering.{is_gt}
+use Rattle.std.proofs.lemmas.List.{take_more}
+use Rattle.std.proofs.lemmas.List.Elements.{All-push, All-weaker, Contains-push, Contains-append_left}
+use Rattle.std.proofs.lemmas.Cmp.{int_cmp_total}
+use Rattle.cs_types.specs.declared.Key.{Key}
+use Rattle.cs_types.specs.declared.Schema.{Schema}
+use Rattle.cs_types.specs.declared.Value.{Value}
+use Rattle.cs_types.specs.Rows.{key_in}
+use Rattle.cs_model.specs.declared.entry.Bound.TheVariants as bound
+use Rattle.cs_model.specs.declared.entry.Refusal.{Refusal}
+use Rattle.cs_model.specs.declared.entry.Refusal.TheVariants.{Duplicate}
+use Rattle.cs_model.specs.Changes.{Table}
+use Rattle.cs_model.specs.Keys.{key_cmp, same_key}
+use Rattle.cs_model.specs.Answers.{writes}
+use Rattle.cs_model.specs.Obstacles.{has_row, stands_twice, is_present, keys_of, IsObstacle, IsLeastObstacle, IsJudged}
+use Rattle.statement_core.specs.Least.{IsLeast, HasLeast, lesser_of}
+
+-- the keys are ordered, so the lesser of two is above none of them
+same_never_above : (a : Key) → key_cmp a a ≢ Greater
+same_never_above a e = ?
+
+below_turned : (a b : Key) → is_gt (key_cmp a b) ≡ true → key_cmp b a ≢ Greater
+below_turned a b h e = ?
+
+not_above : (a b : Key) → is_gt (key_cmp a b) ≡ false → key_cmp a b ≢ Greater
+not_above a b h e = cc (h, ap is_gt e)
+
+through : (a b c : Key) → is_gt (key_cmp a b) ≡ true → key_cmp a c ≢ Greater → key_cmp b c ≢ Greater
+through a b c above h = ?
+
+module _ (present : Key → Bool) where
+  abbrev Stands : Key → Key → Type 0
+  Stands key other = (present other ≡ false) ⊎ (key_cmp key other ≢ Greater)
+
+  lesser_pushed : (xs : List Key) (k key : Key) (above : Bool) → is_gt (key_cmp k key) ≡ above → present key ≡ true → IsLeast present xs k → IsLeast present (xs ++ key ∷ []) (cond above key k)
+  lesser_pushed xs k key false e is o = record {
+    listed = Contains-append_left xs (key ∷ []) k o.listed;
+    is = o.is;
+    least = All-push (Stands k) xs key o.least (inr (not_above k key e));
+  }
+  lesser_pushed xs k key true e is o = record {
+    listed = Contains-push xs key;
+    is = is;
+    least = All-push (Stands key) xs key (All-weaker (Stands k) (Stands key) weaker xs o.least) (inr (same_never_above key));
+  }
+    where
+      weaker : (other : Key) → Stands k other → Stands key other
+      weaker other (inl none) = inl none
+      weaker other (inr below) = inr (through k key other e below)
+
+  least_pushed : (xs : List Key) (key : Key) (taken : Bool) (least : Option Key) → present key ≡ taken → HasLeast present xs least → HasLeast present (xs ++ key ∷ []) (cond taken (Some (lesser_of least key)) least)
+  least_pushed xs key false None e h = All-push (λ k. present k ≡ false) xs key h e
+  least_pushed xs key false (Some k) e h = record {
+    listed = Contains-append_left xs (key ∷ []) k h.listed;
+    is = h.is;
+    least = All-push (Stands k) xs key h.least (inl e);
+  }
+  least_pushed xs key true None e h = record {
+    listed = Contains-push xs key;
+    is = e;
+    least = All-push (Stands key) xs key (All-weaker (λ k. present k ≡ false) (Stands key) (λ k none. inl none) xs h) (inr (same_never_above key));
+  }
+  least_pushed xs key true (Some k) e h = lesser_pushed xs k key (is_gt (key_cmp k key)) refl e h
+
+  -- a turn of the loop over the keys
+  pub least_more : (keys : List Key) (i : ℕ) (key : Key) (taken : Bool) (least next : Option Key) → i < length keys → key ≡ get_or keys i key
+      → taken ≡ present key → HasLeast present (take i keys) least → next ≡ cond taken (Some (lesser_of least key)) least → HasLeast present (take (i + 1) keys) next
+  least_more keys i key taken least next within is e h n =
+      let more : take (i + 1) keys ≡ take i keys ++ key ∷ [] = take_more keys i key within ∙ ap (λ x. take i keys ++ x ∷ []) (sym is) in
+      rw (more, n) (least_pushed (take i keys) key taken least (sym e) h)
+
+-- ---- the judgement of an INSERT
+
+-- the keys that an INSERT writes are those of its rows
+pub keys_are : (schema : Schema) (rows : List (List Value)) → keys_of (writes schema (bound.Insert rows)) ≡ map (key_in schema.key) rows
+keys_are schema [] = refl
+keys_are schema (row ∷ rows) = ap (λ keys. key_in schema.key row ∷ keys) (keys_are schema rows)
+
+pub count_is : (schema : Schema) (rows : List (List Value)) → length (writes schema (bound.Insert rows)) ≡ length rows
+count_is schema [] = refl
+count_is schema (row ∷ rows) = ap suc (count_is schema rows)
+
+pub judged : (schema : Schema) (rows : List (List Value)) (table : Table) (keys : List Key) (count : Key → ℕ) (least : Option Key) → keys ≡ map (key_in schema.key) rows
+    → ((key : Key) → count key ≡ count_by (same_key key) keys) → HasLeast (λ key. has_row table key || nat_lt 1 (count key)) keys least
+    → HasLeast (is_present schema (bound.Insert rows) table) (keys_of (writes schema (bound.Insert rows))) least
+judged schema rows table keys count least is counts h =
+    let listed : keys ≡ keys_of (writes schema (bound.Insert rows)) = is ∙ sym (keys_are schema rows) in
+    let same : (λ (key : Key). has_row table key || nat_lt 1 (count key)) ≡ is_present schema (bound.Insert rows) table =
+    λ i key. has_row table key || nat_lt 1 ((counts key ∙ ap (count_by (same_key key)) listed) i) in
+    subst (λ present. HasLeast present (keys_of (writes schema (bound.Insert rows))) least) same
+    (subst (λ ks. HasLeast (λ key. has_row table key || nat_lt 1 (count key)) ks least) listed h)
+
+pub refusal_is : (present : Key → Bool) (keys : List Key) (key : Key) → HasLeast present keys (Some key) → IsJudged (IsObstacle present) keys (Some (Duplicate key))
+refusal_is present keys key h = record { key = key; listed = h.listed; is = (refl, h.is); least = h.least }

@@ -1,0 +1,4 @@
+pub mod Answers
+pub mod Least
+pub mod Logs
+pub mod Running
