@@ -1,4 +1,3 @@
-use Rattle.std.proofs.Common.{rules}
 use Rattle.delete_buffer.proofs.Order.{at_found, IsFirstPast-place}
 use Rattle.delete_buffer.proofs.past.Goals as goal
 
