@@ -1,0 +1,14 @@
+use Rattle.std.proofs.lemmas.List.Sorted.{IsPermutation-insert}
+use Rattle.delete_buffer.proofs.Order.{in_order-insert}
+use Rattle.delete_buffer.proofs.Buffer.add.Goals as goal
+
+pub invariant_of-self : goal.invariant_of-self
+invariant_of-self c =
+    let within = rw c.deref.ensures.value at c.in-Err.ensures.bound in
+    let parted = rw c.deref.ensures.value at c.in-Err.ensures.position in
+    rw c.in-Ok-insert.ensures.items
+    (in_order-insert c.self.inside.entries.items (c.args.key, c.args.end) c.in-Err.place c.self.invariant within parted)
+
+pub returns-clause-entries : goal.returns-clause-entries
+returns-clause-entries c =
+    rw (← c.self.view_is, c.in-Ok-insert.ensures.items) (IsPermutation-insert c.self.inside.entries.items c.in-Err.place (c.args.key, c.args.end))

@@ -1,0 +1,43 @@
+-- The entries of a delete buffer: keys with the commit numbers at which a version of theirs ends.
+use Rattle.std.specs.Prelude.{◌≡◌, ◌≢◌, ◌<◌, ◌≤◌, ℕ, List, length, slice_get, slice_index_or, if◌then◌else◌, All, AllPairs, Contains, Option, None, Some}
+use Rattle.std.specs.declared.cmp.Ordering.{Ordering}
+use Rattle.std.specs.declared.cmp.Ordering.TheVariants.{Less, Greater}
+use Rattle.std.specs.Ordering.{int_cmp, int_eq, nat_cmp, ordering_then}
+use Rattle.cs_types.specs.declared.Key.{Key}
+
+-- an entry: a key and an end
+abbrev pub Entry : Type 0
+Entry = Key × ℕ
+
+-- what contracts see of a buffer: its entries, and how many more find room without memory
+pub record Room : Type 0 where
+  pub entries : List Entry
+  pub spare : ℕ
+
+-- entries are ordered by key, those of one key by their ends
+abbrev pub entry_cmp : Entry → Entry → Ordering
+entry_cmp x y = ordering_then (int_cmp x.0.0 y.0.0) (nat_cmp x.1 y.1)
+
+-- each entry comes before all later ones, so no two are alike
+abbrev pub AreInOrder : List Entry → Type 0
+AreInOrder entries = AllPairs (λ x y. entry_cmp x y ≡ Less) entries
+
+-- the least end of the key above `begin`, none where there is no such end
+abbrev pub IsLeastEnd : List Entry → Key → ℕ → Option ℕ → Type 0
+IsLeastEnd entries key begin None = All (λ x. x.0 ≡ key → x.1 ≤ begin) entries
+IsLeastEnd entries key begin (Some end) = Contains entries (key, end) × (begin < end) × All (λ x. x.0 ≡ key → begin < x.1 → end ≤ x.1) entries
+
+-- the place of the first entry after this one: those before it are not greater, and those from it on are
+pub record IsFirstPast (entries : List Entry) (entry : Entry) (place : ℕ) : Type 0 where
+  pub within : place ≤ length entries
+  pub before : (k : ℕ) → k < place → entry_cmp (slice_index_or entries k entry) entry ≢ Greater
+  pub after : (k : ℕ) → place ≤ k → k < length entries → entry_cmp (slice_index_or entries k entry) entry ≡ Greater
+
+-- the end of an entry, where it is one of the key
+abbrev pub end_of : Key → Option Entry → Option ℕ
+end_of key None = None
+end_of key (Some x) = if int_eq x.0.0 key.0 then Some x.1 else None
+
+-- the end of the entry at a place, where it is one of the key
+abbrev pub end_in : List Entry → ℕ → Key → Option ℕ
+end_in entries place key = end_of key (slice_get entries place)
