@@ -1,0 +1,17 @@
+//! The bytes of a statement cut into tokens: reserved words, names, numbers, texts and signs, each with its place.
+//!
+//! Its one contract: `tokens` gives exactly the tokens of a text, and for a text that has none the leftmost place at
+//! which it is refused. It stands on `cs_base`.
+#![tactic(auto)]
+
+mod bytes;
+mod lexeme;
+mod lexer;
+mod limits;
+mod reserved;
+#[cfg(test)]
+mod tests;
+mod token;
+
+pub use lexer::tokens;
+pub use token::{Token, TokenKind, TokenRefusal};
