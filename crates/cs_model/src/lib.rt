@@ -6,9 +6,11 @@
 #![tactic(auto)]
 
 mod entry;
+mod laws;
 mod log;
 mod print;
 
 pub use entry::{AnswerRow, Bound, Entry, Refusal, Reply};
+pub use laws::table_by_last_change;
 pub use log::print_log;
 pub use print::print_entry;
