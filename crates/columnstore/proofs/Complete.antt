@@ -1,8 +1,8 @@
 -- Words and a script in their grammars are answered, unless memory or a stream gives out.
-use Rattle.std.proofs.Common.{◌≡◌, ◌⊎◌, ℕ, ◌<◌, ◌≤◌, List, [], ◌++◌, length, refl, sym, ap, subst, ◌∙◌, inl, inr, Bool, true, false, arith, length-append}
-use Rattle.std.specs.Prelude.{Option, None, Some, Ok, Err}
+use Rattle.std.proofs.Common.{◌≡◌, ℕ, ◌≤◌, List, ◌++◌, length, ap, subst, ◌∙◌, true, arith, length-append}
+use Rattle.std.specs.Prelude.{Option, None, Some, Ok}
 use Rattle.std.proofs.lemmas.List.{append-nil}
-use Rattle.cs_outside.specs.Outside.{Takes, IsAtEnd}
+use Rattle.cs_outside.specs.Outside.{Takes}
 use Rattle.script_reader.specs.declared.script.Script.{Script}
 use Rattle.script_reader.specs.Scripts.{script_of}
 use Rattle.columnstore.specs.declared.status.Status.{Status}

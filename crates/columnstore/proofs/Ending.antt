@@ -1,13 +1,12 @@
 -- What the status says, from what was asked for and what was written of it.
-use Rattle.std.proofs.Common.{◌≡◌, ◌⊎◌, ℕ, ◌<◌, ◌≤◌, List, [], ◌∷◌, ◌++◌, length, take, drop, refl, sym, ap, subst, inl, inr, true, false}
+use Rattle.std.proofs.Common.{ℕ, List, [], take, drop, refl, sym, ap, subst, inl, inr}
 use Rattle.std.specs.Prelude.{Option, None, Some}
 use Rattle.std.proofs.lemmas.List.{take-append-drop, append-nil}
-use Rattle.cs_base.specs.Counts.{Rose}
-use Rattle.cs_outside.specs.Outside.{Takes, Adds, AddsFront, IsAtEnd}
+use Rattle.cs_outside.specs.Outside.{Takes, Adds}
 use Rattle.columnstore.specs.declared.status.Status.{Status}
 use Rattle.columnstore.specs.declared.status.Status.TheVariants as status
 use Rattle.tsql_binder.specs.Meaning.{schema_t}
-use Rattle.columnstore.specs.Outcome.{Asks, usage, too_long, answered, Ends, IsFront, IsStopped}
+use Rattle.columnstore.specs.Outcome.{Asks, answered, Ends, IsStopped}
 use Rattle.columnstore.specs.Written.{IsWritten}
 
 pub none_taken : (left : Option (List ℕ)) → Takes left left []

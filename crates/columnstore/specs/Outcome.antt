@@ -1,12 +1,11 @@
 -- What the program does: for which words and input it ends with which status, and what it has written then.
-use Rattle.std.specs.Prelude.{◌≡◌, ◌⊎◌, ℕ, ◌+◌, ◌<◌, ◌≤◌, List, [], ◌∷◌, ◌++◌, length, codes, decimal, Bool, true, false, bytes_eq, Result, Ok, Err, Option, None, Some, ◌==◌, if◌then◌else◌}
+use Rattle.std.specs.Prelude.{◌≡◌, ◌⊎◌, ℕ, ◌<◌, ◌≤◌, List, [], ◌∷◌, ◌++◌, length, codes, decimal, Bool, true, false, bytes_eq, Ok, Err, Option, ◌==◌, if◌then◌else◌}
 use Rattle.cs_outside.specs.Outside.{IsAtEnd}
 use Rattle.cs_types.specs.declared.Schema.{Schema}
 use Rattle.cs_model.specs.declared.entry.Entry.{Entry}
 use Rattle.cs_model.specs.Text.{text}
 use Rattle.script_reader.specs.declared.script.Script.{Script}
-use Rattle.script_reader.specs.declared.script.ScriptRefusal.{ScriptRefusal}
-use Rattle.script_reader.specs.declared.script.ScriptRefusal.TheVariants.{Bad, Memory}
+use Rattle.script_reader.specs.declared.script.ScriptRefusal.TheVariants.{Bad}
 use Rattle.script_reader.specs.Scripts.{script_of}
 use Rattle.statement_core.specs.Logs.{IsLogOf, IsFrontLogOf}
 use Rattle.columnstore.specs.declared.status.Status.{Status}

@@ -1,5 +1,5 @@
 -- Steps that come one by one, and the sessions that they name.
-use Rattle.std.proofs.Common.{◌≡◌, ℕ, suc, ◌+◌, List, length, arith, [], ◌∷◌, ◌++◌, refl, sym, ap, subst, ◌∙◌, cond, Bool, true, false, ◌||◌, All}
+use Rattle.std.proofs.Common.{◌≡◌, ℕ, suc, ◌+◌, List, length, arith, [], ◌∷◌, ◌++◌, refl, ap, subst, ◌∙◌, Bool, true, false, ◌||◌, All}
 use Rattle.std.specs.Prelude.{Result, Ok, Err, Option, None, Some, ◌==◌, filter, bytes_eq}
 use Rattle.std.proofs.lemmas.List.Elements.{All-nil, All-cons}
 use Rattle.tsql_binder.specs.Meaning.{behind}

@@ -1,7 +1,6 @@
 -- What a script says: its table and its steps, or its first bad line.
-use Rattle.std.specs.Prelude.{◌≡◌, ℕ, zero, suc, ◌+◌, List, [], ◌∷◌, codes, filter, bytes_eq, Bool, true, false, ◌==◌, if◌then◌else◌, Option, None, Some, Result, Ok, Err}
+use Rattle.std.specs.Prelude.{◌≡◌, ℕ, zero, suc, ◌+◌, List, [], ◌∷◌, codes, filter, bytes_eq, Bool, ◌==◌, if◌then◌else◌, Option, None, Some, Result, Ok, Err}
 use Rattle.std.specs.List.{list_any}
-use Rattle.cs_types.specs.declared.Schema.{Schema}
 use Rattle.tsql_binder.specs.Meaning.{schema_t}
 use Rattle.tsql_binder.specs.Meaning.{behind}
 use Rattle.script_reader.specs.Lines.{lines}

@@ -1,9 +1,9 @@
 -- The table after a commit.
-use Rattle.std.proofs.Common.{◌≡◌, ℕ, suc, ◌+◌, ◌≤◌, List, [], ◌∷◌, ◌++◌, map, refl, sym, ap, arith, ◌∙◌, cond, nat_le, true, All}
+use Rattle.std.proofs.Common.{◌≡◌, ℕ, suc, ◌+◌, ◌≤◌, List, [], ◌∷◌, ◌++◌, map, refl, sym, ap, arith, ◌∙◌, nat_le, true, All}
 use Rattle.std.proofs.lemmas.List.{map-append}
 use Rattle.std.proofs.lemmas.List.Sums.{fold-append}
 use Rattle.std.proofs.lemmas.List.Elements.{All-append, All-cons}
-use Rattle.cs_model.specs.Changes.{Edit, Table, Change, until, edited, laid, table}
+use Rattle.cs_model.specs.Changes.{Edit, Change, until, edited, laid, table}
 use Rattle.cs_model.specs.State.{Txn}
 use Rattle.cs_model.specs.Steps.{committed}
 

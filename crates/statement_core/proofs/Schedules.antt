@@ -1,12 +1,11 @@
 -- A run of a script's lines, one line more, and its end.
-use Rattle.std.proofs.Common.{◌≡◌, ℕ, zero, suc, ◌+◌, ◌<◌, List, [], ◌∷◌, ◌++◌, length, map, filter, take, get_or, refl, sym, ap, subst, ◌∙◌, cond, Bool, true, false, inl, inr, arith, All, Contains, append_assoc, lit<}
-use Rattle.std.specs.Prelude.{◌==◌, Option, None, Some, Result, Ok, Err, bytes_eq, codes}
+use Rattle.std.proofs.Common.{◌≡◌, ℕ, suc, ◌+◌, ◌<◌, List, [], ◌∷◌, ◌++◌, length, map, take, get_or, refl, sym, ap, subst, ◌∙◌, cond, Bool, true, false, inl, arith, All, Contains, append_assoc, lit<}
+use Rattle.std.specs.Prelude.{◌==◌, Result, Ok, Err, bytes_eq, codes}
 use Rattle.std.proofs.lemmas.Bool.Decides.{nat_tests}
 use Rattle.std.proofs.lemmas.List.{append-nil, take_more}
 use Rattle.std.proofs.lemmas.List.Elements.{filter-append, All-append, All-cons, All-nil}
 use Rattle.cs_types.specs.declared.Schema.{Schema}
 use Rattle.cs_types.specs.declared.Value.{Value}
-use Rattle.cs_types.specs.declared.Value.TheVariants.{Null, Number, Text}
 use Rattle.cs_types.specs.Rows.{cell_at, IsNumber}
 use Rattle.cs_model.specs.declared.entry.Bound.{Bound}
 use Rattle.cs_model.specs.declared.entry.Bound.TheVariants as bound
@@ -17,7 +16,7 @@ use Rattle.cs_model.specs.Changes.{Table, Change}
 use Rattle.cs_model.specs.State.{start}
 use Rattle.cs_model.specs.Steps.{Leads}
 use Rattle.cs_model.specs.Text.{actor_of, IsPrintableEntry}
-use Rattle.tsql_binder.specs.Meaning.{schema_t, IsRow, IsRows, IsInsert, Means, behind}
+use Rattle.tsql_binder.specs.Meaning.{schema_t, IsRow, IsRows, Means, behind}
 use Rattle.script_reader.specs.declared.script.Script.{Script}
 use Rattle.script_reader.specs.declared.script.Step.{Step}
 use Rattle.script_reader.specs.declared.script.Step.TheVariants.{Whole}

@@ -1,5 +1,5 @@
 -- The least key that is present, one key more, and the obstacle that it is.
-use Rattle.std.proofs.Common.{◌≡◌, ◌≢◌, ℕ, ◌+◌, ◌<◌, ◌⊎◌, List, [], ◌∷◌, ◌++◌, length, take, get_or, map, refl, sym, ap, subst, arith, ◌∙◌, inl, inr, cond, Bool, true, false, ◌||◌, nat_lt, int_lt, ℤ, suc, All, Contains}
+use Rattle.std.proofs.Common.{◌≡◌, ◌≢◌, ℕ, ◌+◌, ◌<◌, ◌⊎◌, List, [], ◌∷◌, ◌++◌, length, take, get_or, map, refl, sym, ap, subst, arith, ◌∙◌, inl, inr, cond, Bool, true, false, ◌||◌, nat_lt, int_lt, ℤ, suc}
 use Rattle.std.specs.Prelude.{Option, None, Some, count_by}
 use Rattle.std.specs.declared.cmp.Ordering.{Ordering}
 use Rattle.std.specs.declared.cmp.Ordering.TheVariants.{Less, Equal, Greater}
@@ -13,13 +13,12 @@ use Rattle.cs_types.specs.declared.Schema.{Schema}
 use Rattle.cs_types.specs.declared.Value.{Value}
 use Rattle.cs_types.specs.Rows.{key_in}
 use Rattle.cs_model.specs.declared.entry.Bound.TheVariants as bound
-use Rattle.cs_model.specs.declared.entry.Refusal.{Refusal}
 use Rattle.cs_model.specs.declared.entry.Refusal.TheVariants.{Duplicate}
 use Rattle.cs_model.specs.Changes.{Table}
 use Rattle.cs_model.specs.State.{State}
 use Rattle.cs_model.specs.Keys.{key_cmp, same_key}
 use Rattle.cs_model.specs.Answers.{writes}
-use Rattle.cs_model.specs.Obstacles.{has_row, stands_twice, is_present, keys_of, IsObstacle, IsLeastObstacle, IsJudged}
+use Rattle.cs_model.specs.Obstacles.{has_row, is_present, keys_of, IsObstacle, IsJudged}
 use Rattle.statement_core.specs.Least.{IsLeast, HasLeast, lesser_of}
 
 -- the numbers of keys are ordered

@@ -1,5 +1,5 @@
 -- A statement's Start and Finish, while no session has a transaction.
-use Rattle.std.proofs.Common.{◌≡◌, ℕ, ◌+◌, List, [], ◌∷◌, ◌++◌, refl, sym, ap, subst, ◌∙◌, cond, Bool, true, false, inl, inr, arith}
+use Rattle.std.proofs.Common.{◌≡◌, ℕ, ◌+◌, List, [], ◌∷◌, ◌++◌, refl, sym, ap, subst, ◌∙◌, cond, Bool, true, false, inr, arith}
 use Rattle.std.specs.Prelude.{◌==◌, Option, None, Some}
 use Rattle.std.proofs.lemmas.Bool.Decides.{nat_tests}
 use Rattle.cs_types.specs.declared.Schema.{Schema}
@@ -12,9 +12,9 @@ use Rattle.cs_model.specs.declared.entry.Entry.{Entry}
 use Rattle.cs_model.specs.declared.entry.Entry.TheVariants.{Start, Finish, End}
 use Rattle.cs_model.specs.Answers.{is_of_table, answer, writes}
 use Rattle.cs_model.specs.Changes.{Edit, Table, Change, table, laid}
-use Rattle.cs_model.specs.State.{Txn, Half, State, start, with, half_set, seen}
-use Rattle.cs_model.specs.Steps.{IsStep, IsFinish, pinned, IsAnswer, IsWriteReply, IsReplyIn, Leads, started, finished, replied, accepted_in, refused_in, commits, gone, is_empty, committed, staged}
-use Rattle.statement_core.specs.Answers.{Answers, left_by}
+use Rattle.cs_model.specs.State.{Txn, State, with}
+use Rattle.cs_model.specs.Steps.{IsFinish, pinned, IsAnswer, IsWriteReply, IsReplyIn, Leads, started, finished, accepted_in, refused_in, commits, gone, committed, staged}
+use Rattle.statement_core.specs.Answers.{Answers}
 use Rattle.statement_core.specs.Running.{resting}
 use Rattle.statement_core.proofs.Commits.{IsNumbered, numbered_after, table_after}
 

@@ -1,7 +1,6 @@
 -- What a statement replies over a table, and the table that it leaves.
-use Rattle.std.specs.Prelude.{◌≡◌, ℕ, [], All, Bool, false, if◌then◌else◌}
+use Rattle.std.specs.Prelude.{◌≡◌, ℕ, [], All, false}
 use Rattle.cs_types.specs.declared.Schema.{Schema}
-use Rattle.cs_types.specs.declared.Value.{Value}
 use Rattle.cs_types.specs.Rows.{cell_at, IsNumber}
 use Rattle.cs_model.specs.declared.entry.Bound.{Bound}
 use Rattle.cs_model.specs.declared.entry.Bound.TheVariants as bound

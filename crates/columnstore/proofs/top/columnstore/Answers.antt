@@ -1,4 +1,4 @@
-use Rattle.std.proofs.Common.{subst, map, string_bytes, refl, [], codes, rules, ◌<◌, length}
+use Rattle.std.proofs.Common.{subst, map, string_bytes, refl, [], codes, rules}
 use Rattle.cs_outside.specs.Outside.{Takes}
 use Rattle.columnstore.specs.declared.status.Status.TheVariants as status
 use Rattle.columnstore.specs.Outcome.{usage, too_long, answered}

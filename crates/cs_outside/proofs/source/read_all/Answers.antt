@@ -1,4 +1,4 @@
-use Rattle.std.proofs.Common.{◌≡◌, ℕ, ◌++◌, ◌<◌, ◌≤◌, length, take, refl, arith, length-append}
+use Rattle.std.proofs.Common.{ℕ, ◌++◌, ◌<◌, ◌≤◌, length, take, refl, arith, length-append}
 use Rattle.std.proofs.lemmas.Grind.{common_steps}
 use Rattle.cs_outside.proofs.Known.{takes_append}
 use Rattle.cs_outside.proofs.source.read_all.Goals as goal

@@ -1,7 +1,7 @@
-use Rattle.std.proofs.Common.{◌≡◌, All, subst, sym, true, rules}
+use Rattle.std.proofs.Common.{◌≡◌, true, rules}
 use Rattle.std.specs.Prelude.{bytes_eq}
 use Rattle.script_reader.specs.Lines.{lines}
-use Rattle.script_reader.specs.Scripts.{session_of, setup_line}
+use Rattle.script_reader.specs.Scripts.{setup_line}
 use Rattle.script_reader.proofs.Steps.{steps_first, script_is}
 use Rattle.script_reader.proofs.read.read_script.Goals as goal
 

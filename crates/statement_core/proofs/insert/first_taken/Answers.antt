@@ -1,8 +1,7 @@
-use Rattle.std.proofs.Common.{◌≤◌, length, take, subst, sym, arith, nat_lt, ◌||◌}
+use Rattle.std.proofs.Common.{nat_lt, ◌||◌}
 use Rattle.std.proofs.lemmas.List.{take_all}
 use Rattle.cs_model.specs.Obstacles.{has_row}
-use Rattle.cs_types.specs.declared.Key.{Key}
-use Rattle.statement_core.specs.Least.{HasLeast, count_in}
+use Rattle.statement_core.specs.Least.{count_in}
 use Rattle.statement_core.proofs.Taken.{least_more}
 use Rattle.statement_core.proofs.insert.first_taken.Goals as goal
 

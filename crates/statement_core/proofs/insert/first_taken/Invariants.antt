@@ -1,5 +1,4 @@
 use Rattle.std.proofs.Common.{take, nat_lt, ◌||◌}
-use Rattle.cs_types.specs.declared.Key.{Key}
 use Rattle.cs_model.specs.Obstacles.{has_row}
 use Rattle.statement_core.specs.Least.{HasLeast, count_in}
 use Rattle.statement_core.proofs.insert.first_taken.Given as goal

@@ -1,5 +1,5 @@
-use Rattle.std.proofs.Common.{◌≡◌, ◌∙◌, map, refl, sym, ap, length, []}
-use Rattle.std.specs.Prelude.{Option, Some, None, count_by}
+use Rattle.std.proofs.Common.{◌≡◌, ◌∙◌, map, refl, sym, ap}
+use Rattle.std.specs.Prelude.{Some, None, count_by}
 use Rattle.cs_types.specs.declared.Key.{Key}
 use Rattle.cs_types.specs.Rows.{key_in}
 use Rattle.cs_model.specs.declared.entry.Bound.TheVariants as bound

@@ -1,8 +1,5 @@
-use Rattle.std.proofs.Common.{◌≡◌, ◌<◌, ◌∙◌, length, take, get_or, ◌++◌, ◌∷◌, [], sym, ap}
-use Rattle.std.proofs.lemmas.List.{take_all, take_more}
-use Rattle.cs_model.specs.declared.entry.Entry.{Entry}
-use Rattle.script_reader.specs.declared.script.Step.TheVariants.{Whole}
-use Rattle.statement_core.specs.Running.{Running}
+use Rattle.std.proofs.Common.{◌≡◌, ◌<◌, length, take, get_or}
+use Rattle.std.proofs.lemmas.List.{take_all}
 use Rattle.statement_core.proofs.Schedules.{running_none, line_more, running_end, end_printable, read_first}
 use Rattle.statement_core.proofs.run.run_schedule.Goals as goal
 
