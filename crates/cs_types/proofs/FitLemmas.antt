@@ -1,5 +1,6 @@
 -- Powers of ten, and the numbers of types.
-use Rattle.std.proofs.Common.{◌≡◌, ℕ, ℤ, pos, negsuc, ◌^◌, ◌≤◌, lit<, Bool, true, false, Result, Ok, Err, IfOk, IsTrue, FitsSigned, w64, unsigned_abs, arith, refl, sym, if◌then◌else◌}
+use Rattle.std.proofs.Common.{◌≡◌, ℕ, List, subst, ℤ, pos, negsuc, ◌^◌, ◌≤◌, lit<, Bool, true, false, Result, Ok, Err, IfOk, IsTrue, FitsSigned, w64, unsigned_abs, arith, refl, sym, if◌then◌else◌}
+use Rattle.std.specs.List.{list_all}
 use Rattle.std.proofs.lemmas.Bool.Decides.{nat_tests}
 use Rattle.std.proofs.Math.Nat.{one-le-pow, pow-le-pow_right}
 use Rattle.std.proofs.lemmas.Int.{ints}
@@ -11,7 +12,7 @@ use Rattle.cs_types.specs.declared.Value.{Value}
 use Rattle.cs_types.specs.declared.Value.TheVariants as value
 use Rattle.cs_types.specs.declared.refusal.ValueRefusal.{ValueRefusal}
 use Rattle.cs_types.specs.declared.refusal.ValueRefusal.TheVariants.{TooLong, Overflow}
-use Rattle.cs_types.specs.Kinds.{IsColumnType, keeps, keeps_number, scale_of, is_between}
+use Rattle.cs_types.specs.Kinds.{IsColumnType, is_short, is_text_byte, has_text_bytes, keeps, keeps_number, scale_of, is_between}
 use Rattle.cs_types.specs.Fit.{fit, nearest, rounded, range_refusal, kept_or, KeepsNearest}
 use Rattle.cs_types.proofs.Rounding.{nearest-law}
 use Rattle.cs_types.proofs.CalendarLemmas.{first_day-number, last_day-number}
@@ -47,16 +48,21 @@ kept_if kind refusal v false fails same = tt
 kept_or-keeps : (kind : ColumnType) (refusal : ValueRefusal) (v : Value) → IfOk (kept_or kind refusal v) (λ w. IsTrue (keeps kind w))
 kept_or-keeps kind refusal v = kept_if kind refusal v (keeps kind v) refl refl
 
-fits_kept : (kind : ColumnType) (nullable : Bool) (loose : Loose) → IfOk (fit kind nullable loose) (λ v. IsTrue (keeps kind v))
-fits_kept kind true loose.Null = refl
-fits_kept kind false loose.Null = tt
-fits_kept kind nullable (loose.Number m s) = kept_or-keeps kind (range_refusal kind) (value.Number (rounded m s (scale_of kind)))
-fits_kept kind nullable (loose.Text t) = kept_or-keeps kind TooLong (value.Text t)
-fits_kept kind nullable (loose.Day d) = kept_or-keeps kind Overflow (value.Number d)
+short_kept : (kind : ColumnType) (t : List ℕ) (b : Bool) → is_short kind t ≡ b → list_all is_text_byte t ≡ true → IfOk (if b then Ok (value.Text t) else Err TooLong) (λ w. IsTrue (keeps kind w))
+short_kept kind t true short bytes = rw (short, bytes) refl
+short_kept kind t false short bytes = tt
+
+fits_kept : (kind : ColumnType) (nullable : Bool) (loose : Loose) → IsTrue (has_text_bytes loose) → IfOk (fit kind nullable loose) (λ v. IsTrue (keeps kind v))
+fits_kept kind true loose.Null bytes = refl
+fits_kept kind false loose.Null bytes = tt
+fits_kept kind nullable (loose.Number m s) bytes = kept_or-keeps kind (range_refusal kind) (value.Number (rounded m s (scale_of kind)))
+fits_kept kind nullable (loose.Text t) bytes = short_kept kind t (is_short kind t) refl bytes
+fits_kept kind nullable (loose.Day d) bytes = kept_or-keeps kind Overflow (value.Number d)
 
 -- what is kept is a value of the type
-pub fit-keeps : (kind : ColumnType) (nullable : Bool) (loose : Loose) (r : Result Value ValueRefusal) → r ≡ fit kind nullable loose → IfOk r (λ v. IsTrue (keeps kind v))
-fit-keeps kind nullable loose r same = rw same (fits_kept kind nullable loose)
+pub fit-keeps : (kind : ColumnType) (nullable : Bool) (loose : Loose) (r : Result Value ValueRefusal) → r ≡ fit kind nullable loose → IfOk r (λ v. IsTrue (has_text_bytes loose) → IsTrue (keeps kind v))
+fit-keeps kind nullable loose (Ok v) same = λ bytes. let kept : IfOk (fit kind nullable loose) (λ w. IsTrue (keeps kind w)) = fits_kept kind nullable loose bytes in subst (λ (x : Result Value ValueRefusal). IfOk x (λ w. IsTrue (keeps kind w))) (sym same) kept
+fit-keeps kind nullable loose (Err refusal) same = tt
 
 -- a choice of a value or a refusal has what the value has
 if_ok : (P : Value → Type 0) (b : Bool) (v : Value) (refusal : ValueRefusal) → P v → IfOk (if b then Ok v else Err refusal) P
@@ -70,7 +76,7 @@ fits_nearest kind nullable (loose.Number m s) =
     if_ok (KeepsNearest kind (loose.Number m s)) (keeps kind (value.Number (rounded m s (scale_of kind)))) (value.Number (rounded m s (scale_of kind))) (range_refusal kind)
     (nearest (unsigned_abs m) s (scale_of kind), refl, nearest-law (unsigned_abs m) s (scale_of kind))
 fits_nearest kind nullable (loose.Text t) =
-    if_ok (KeepsNearest kind (loose.Text t)) (keeps kind (value.Text t)) (value.Text t) TooLong tt
+    if_ok (KeepsNearest kind (loose.Text t)) (is_short kind t) (value.Text t) TooLong tt
 fits_nearest kind nullable (loose.Day d) =
     if_ok (KeepsNearest kind (loose.Day d)) (keeps kind (value.Number d)) (value.Number d) Overflow tt
 

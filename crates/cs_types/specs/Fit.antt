@@ -8,7 +8,7 @@ use Rattle.cs_types.specs.declared.Value.{Value}
 use Rattle.cs_types.specs.declared.Value.TheVariants as value
 use Rattle.cs_types.specs.declared.refusal.ValueRefusal.{ValueRefusal}
 use Rattle.cs_types.specs.declared.refusal.ValueRefusal.TheVariants.{NullHere, TooLong, Narrow, Overflow}
-use Rattle.cs_types.specs.Kinds.{scale_of, keeps}
+use Rattle.cs_types.specs.Kinds.{scale_of, is_short, keeps}
 
 -- n over 10 ^ s, times 10 ^ t, to the nearest whole number, a half up
 abbrev pub nearest : ℕ → ℕ → ℕ → ℕ
@@ -36,11 +36,11 @@ range_refusal (VarChar n) = Overflow
 abbrev pub kept_or : ColumnType → ValueRefusal → Value → Result Value ValueRefusal
 kept_or kind refusal v = if keeps kind v then Ok v else Err refusal
 
--- NULL where it may stand; a number rounded to the type's places; a text, a day as they are
+-- NULL where it may stand; a number rounded to the type's places; a text that is short enough, a day as they are
 abbrev pub fit : ColumnType → Bool → Loose → Result Value ValueRefusal
 fit kind nullable Null = if nullable then Ok value.Null else Err NullHere
 fit kind nullable (Number m s) = kept_or kind (range_refusal kind) (value.Number (rounded m s (scale_of kind)))
-fit kind nullable (Text t) = kept_or kind TooLong (value.Text t)
+fit kind nullable (Text t) = if is_short kind t then Ok (value.Text t) else Err TooLong
 fit kind nullable (Day d) = kept_or kind Overflow (value.Number d)
 
 -- r over 10 ^ t is the nearest such number to n over 10 ^ s, the upper one at a half
@@ -48,7 +48,7 @@ abbrev pub IsNearest : ℕ → ℕ → ℕ → ℕ → Type 0
 IsNearest n s t r =
     (2 * (r * 10 ^ s) ≤ 2 * (n * 10 ^ t) + 10 ^ s) × (2 * (n * 10 ^ t) < 2 * (r * 10 ^ s) + 10 ^ s)
 
--- z is a number's nearest at t places, with its sign
+-- v is a number's nearest at t places, with its sign
 abbrev pub IsRounded : ℤ → ℕ → ℕ → Value → Type 0
 IsRounded m s t v = (n : ℕ) × (v ≡ value.Number (with_sign m n)) × IsNearest (unsigned_abs m) s t n
 

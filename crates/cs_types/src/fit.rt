@@ -2,7 +2,7 @@ ghost use Rattle.std.specs.Prelude.{◌≡◌, ◌+◌, ◌*◌, ◌/◌, ◌^�
 ghost use Rattle.std.specs.Int.{w64};
 ghost use Rattle.std.specs.Option.{SomeIff};
 ghost use Rattle.cs_types.specs.Kinds as kinds;
-ghost use Rattle.cs_types.specs.Kinds.{IsColumnType, keeps};
+ghost use Rattle.cs_types.specs.Kinds.{IsColumnType, has_text_bytes, keeps};
 ghost use Rattle.cs_types.specs.Fit as spec;
 ghost use Rattle.cs_types.specs.Fit.{fit, KeepsNearest};
 
@@ -93,7 +93,7 @@ fn fit_number(kind: ColumnType, m: i128, s: u8) -> Result<Value, ValueRefusal>
 pub fn fits(kind: ColumnType, nullable: bool, loose: Loose) -> Result<Value, ValueRefusal>
     requires { IsColumnType kind }
     ensures value { result ≡ fit kind nullable loose }
-    ensures kept { IfOk result (λ v. IsTrue (keeps kind v)) }
+    ensures kept { IfOk result (λ v. IsTrue (has_text_bytes loose) → IsTrue (keeps kind v)) }
     ensures nearest { IfOk result (KeepsNearest kind loose) }
 {
     match loose {

@@ -1,3 +1,4 @@
+ghost use Rattle.std.specs.List.{list_all};
 ghost use Rattle.std.specs.Prelude.{◌≡◌, ◌↔◌, IsTrue};
 ghost use Rattle.cs_types.specs.Kinds as spec;
 ghost use Rattle.cs_types.specs.Kinds.{IsColumnType};
@@ -51,7 +52,7 @@ impl ColumnType {
     }
 
     /// Whether a value is one that a column of the type keeps, as far as its type goes: NULL always, a number in the
-    /// type's range, a text of at most its bytes.
+    /// type's range, a text of at most its bytes, each from 32 to 126.
     pub fn keeps(self, value: &Value) -> bool
         requires { IsColumnType self }
         ensures { result ≡ spec.keeps self value.now }
@@ -60,9 +61,16 @@ impl ColumnType {
             Value::Null => true,
             Value::Number(number) => self.keeps_number(*number),
             Value::Text(text) => match self {
-                ColumnType::VarChar { n } => text.len() <= n as usize,
+                ColumnType::VarChar { n } => text.len() <= n as usize && is_text(text.as_slice()),
                 _ => false,
             },
         }
     }
+}
+
+/// Whether each byte is one that a text may have.
+fn is_text(bytes: &[u8]) -> bool
+    ensures { result ≡ list_all spec.is_text_byte bytes.now }
+{
+    bytes.iter().all(|byte| 32 <= *byte && *byte <= 126)
 }
