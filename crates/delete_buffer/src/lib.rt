@@ -1,5 +1,5 @@
-//! The delete buffer: keys with the commit numbers at which a version of theirs in a compressed group ends, until the
-//! tuple mover takes them into the group's delete bitmap.
+//! The delete buffer: keys with the commit numbers at which a version of theirs outside the open delta store ends, until a
+//! flush records the end in a delete bitmap or an install leaves the version out.
 //!
 //! Its one contract: a buffer is a list of pairs of key and end, and each call changes exactly the entry that it names.
 //! It stands on `cs_base` and `cs_types`. Larson et al., PVLDB 2015, describe the delete buffer.
@@ -57,6 +57,7 @@ impl Buffer {
         requires room { 0 < self.old.spare }
         requires absent { ¬ Contains self.old.entries (key, end) }
         ensures entries { IsPermutation ((key, end) ∷ self.old.entries) self.new.entries }
+        ensures order { AreInOrder self.new.entries }
         ensures room { self.old.spare ≤ self.new.spare + 1 }
     {
         let place = match self.entries.binary_search(&(key, end)) {
@@ -82,6 +83,7 @@ impl Buffer {
         ensures there { IsTrue result ↔ Contains self.old.entries (key, end) }
         ensures gone { OnTrue result (IsPermutation self.old.entries ((key, end) ∷ self.new.entries)) }
         ensures kept { OnFalse result (self.new.entries ≡ self.old.entries) }
+        ensures order { AreInOrder self.new.entries }
         ensures room { self.old.spare ≤ self.new.spare }
     {
         match self.entries.binary_search(&(key, end)) {

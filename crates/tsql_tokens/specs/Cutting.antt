@@ -32,7 +32,8 @@ abbrev pub cut_piece : Cut → ℕ → Bool → ℕ → Option Found → Outcome
 cut_piece more at named n None = refused 102 (at + 1)
 cut_piece more at named n (Some (lexeme, bytes, after)) = cut_within more at named n lexeme bytes after (over_limit n lexeme bytes)
 
--- the tokens of a text that begins at a place, by at most as many lexemes as the first number says
+-- the tokens of a text that begins at a place, by at most as many lexemes as the first number says; since each has a byte,
+-- the text's length is always enough
 unfoldable pub cut : ℕ → Cut
 cut fuel at named n [] = Ok []
 cut zero at named n (b ∷ text) = Ok []

@@ -37,7 +37,7 @@ lexeme_at named (b ∷ next) = begun named b next
 
 -- ---- the lexemes, each with the bytes behind it
 
--- a word goes on as far as it can
+-- a word goes on as far as it can; that it begins with a letter or '_' is said by which lexeme begins
 abbrev pub IsWord : List ℕ → List ℕ → Type 0
 IsWord bytes after = (list_all goes_on_word bytes ≡ true) × (next_is goes_on_word after ≡ false)
 
@@ -45,7 +45,8 @@ IsWord bytes after = (list_all goes_on_word bytes ≡ true) × (next_is goes_on_
 abbrev pub IsBracketed : List ℕ → Type 0
 IsBracketed bytes = (name : List ℕ) × (bytes ≡ 91 ∷ name ++ 93 ∷ []) × (list_all (λ b. not (b == 93)) name ≡ true) × (name ≢ [])
 
--- digits, or digits with one point before, among or after them, as far as they go
+-- digits, or digits with one point before, among or after them, as far as they go; that there is a digit is said by which
+-- lexeme begins
 abbrev pub IsNumber : List ℕ → List ℕ → Type 0
 IsNumber bytes after = (whole : List ℕ) × (list_all is_digit whole ≡ true) × (next_is is_digit after ≡ false) ×
     (((bytes ≡ whole) × (next_is (λ b. b == 46) after ≡ false))

@@ -6,15 +6,15 @@ use Rattle.tsql_tokens.specs.declared.lexeme.Lexeme.TheVariants.{Blank, LineComm
 use Rattle.tsql_tokens.specs.Bytes.{is_digit, next_is, skip_while}
 use Rattle.tsql_tokens.specs.Lexemes.{opens, closes}
 
--- a name has at most 128 bytes
+-- whether a name is too long: over 128 bytes
 abbrev pub is_long_name : ℕ → Bool
 is_long_name size = nat_lt 128 size
 
--- a number has at most 19 digits in all, and 18 after the point
+-- whether a number is too long: over 19 digits in all, or over 18 after the point
 unfoldable pub is_long_number : List ℕ → Bool
 is_long_number bytes = nat_lt 19 (count_by is_digit bytes) || nat_lt 18 (length (drop 1 (skip_while is_digit bytes)))
 
--- a text has no tab
+-- whether a text has a tab, which it may not
 unfoldable pub has_tab : List ℕ → Bool
 has_tab bytes = list_any (λ b. b == 9) bytes
 

@@ -1,4 +1,5 @@
--- The tokens of a text, and where a text that has none is refused.
+-- The tokens of a text, and where a text that cannot be cut into tokens is refused. A text of blanks and comments alone has
+-- the empty list of tokens.
 use Rattle.std.specs.Prelude.{◌≡◌, ◌≢◌, ℕ, ◌+◌, ◌-◌, ◌<◌, ◌≤◌, List, [], ◌∷◌, ◌++◌, length, Bool, true, false, ◌⊎◌, Option, None, Some, if◌then◌else◌}
 use Rattle.tsql_tokens.specs.declared.lexeme.Lexeme.{Lexeme}
 use Rattle.tsql_tokens.specs.declared.lexeme.Lexeme.TheVariants.{Blank, LineComment, Comment, Word, Bracketed, Number, Text, Sign}
@@ -103,6 +104,6 @@ abbrev pub AnswersOnly : ℕ → ℕ → TokenRefusal → Type 0
 AnswersOnly number at (refusal.At n place) = (n ≡ number) × (place ≡ at)
 AnswersOnly number at refusal.Memory = Unit {0}
 
--- a token has at least one byte, and its bytes are among the first ones
+-- a token has at least one byte, and its bytes are among the first `size` bytes
 abbrev pub IsSpan : ℕ → Token → Type 0
 IsSpan size token = (token.from < token.to) × (token.to ≤ size)

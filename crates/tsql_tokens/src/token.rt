@@ -22,10 +22,10 @@ pub struct Token {
     pub to: u32,
 }
 
-/// Why a text has no tokens.
+/// Why a text cannot be cut into tokens.
 #[derive(Clone, Copy, Debug, PartialEq, Eq, Error)]
 pub enum TokenRefusal {
-    /// Error 102, where no token begins, or 50001, where something is over a limit. The place counts the text's bytes
+    /// Error 102, where no token begins or a text, bracket or comment is never closed, or 50001, where something is over a limit. The place counts the text's bytes
     /// from 1.
     #[error("error {number} at {at}")]
     At { number: u32, at: u32 },
