@@ -1,10 +1,9 @@
 -- The choice among the ways to keep some cells.
-use Rattle.std.proofs.Common.{◌≡◌, ℕ, ℤ, suc, ◌+◌, ◌-◌, ◌*◌, ◌/◌, ◌<◌, ◌≤◌, ◌⊎◌, ◌↔◌, inl, inr, List, length, get_or, map, min, refl, sym, ◌∙◌, ap, subst, arith, All, Contains, Option, None, Some, slice_get}
+use Rattle.std.proofs.Common.{◌≡◌, ℕ, ℤ, ◌+◌, ◌*◌, ◌/◌, ◌<◌, ◌≤◌, ◌⊎◌, ◌↔◌, inl, inr, List, length, get_or, map, min, refl, sym, ◌∙◌, ap, subst, arith, All, Option, None, Some, slice_get}
 use Rattle.std.proofs.lemmas.Bool.{cases_lt}
 use Rattle.std.proofs.lemmas.List.{get_or-map, length-map}
 use Rattle.std.proofs.lemmas.List.Elements.{Contains-get_or}
 use Rattle.std.proofs.lemmas.Option.{slice_get-get_or}
-use Rattle.bit_pack.specs.Codes.{packed}
 use Rattle.segment_value.specs.declared.Scale.{Scale}
 use Rattle.segment_value.specs.Scales.{Takes, IsScaling, code_of, cell_of}
 use Rattle.segment_value.proofs.Codes.{cell_of-code_of}
@@ -18,7 +17,7 @@ use Rattle.column_segment.specs.declared.choice.Costs.{Costs}
 use Rattle.column_segment.specs.Cells.{number_of, number_cell, HasNoText, HasText}
 use Rattle.column_segment.specs.Layouts.{ArePacked, IsLeastWidth, MatchNeighbours, runs_below}
 use Rattle.column_segment.specs.Dicts.{IsDictFor, AreDictCodes, dict_words}
-use Rattle.column_segment.specs.Bodies.{Codings, Keeps, IsBefore, IsBest, words_in, rank_of}
+use Rattle.column_segment.specs.Bodies.{Codings, Keeps, IsBest, words_in, rank_of}
 use Rattle.column_segment.specs.Choices.{AreCosts, IsValueBody, IsDictBody}
 use Rattle.column_segment.proofs.Dicts.{own-number, dict-neighbours, codes-exist}
 use Rattle.column_segment.proofs.Layouts.{runs-count}

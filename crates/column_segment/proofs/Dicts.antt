@@ -1,20 +1,18 @@
 -- A column's dictionary: its codes, their least width, and the least and the greatest cell.
-use Rattle.std.proofs.Common.{◌≡◌, ◌≢◌, ℕ, ℤ, zero, suc, ◌+◌, ◌-◌, ◌<◌, ◌≤◌, ◌^◌, ◌↔◌, ◌⊎◌, inl, inr, List, [], ◌∷◌, ◌++◌, length, get_or, map, take, refl, sym, ◌∙◌, ap, subst, arith, Bool, true, false, IsTrue, IsNone, Bor, All, Contains, Option, None, Some, slice_get}
-use Rattle.std.specs.declared.cmp.Ordering.{Ordering}
+use Rattle.std.proofs.Common.{◌≡◌, ℕ, ℤ, zero, suc, ◌+◌, ◌-◌, ◌<◌, ◌≤◌, ◌^◌, ◌↔◌, ◌⊎◌, inl, inr, List, [], ◌∷◌, ◌++◌, length, get_or, take, refl, sym, ◌∙◌, ap, subst, arith, Bool, false, IsNone, Bor, All, Contains, Option, None, Some, slice_get}
 use Rattle.std.specs.Int.{from_bool}
 use Rattle.std.specs.Option.{option_copied, is_some}
 use Rattle.std.specs.Ordering.{nat_cmp, int_cmp}
 use Rattle.std.specs.Cmp.Lexicographic.{slice_cmp}
 use Rattle.std.proofs.lemmas.Cmp.{int_cmp_total}
 use Rattle.std.proofs.lemmas.Bool.{cases_lt}
-use Rattle.std.proofs.lemmas.List.{get_or_default, get_or_append_left, get_or_push, length_push, take_more, length-map}
+use Rattle.std.proofs.lemmas.List.{get_or_default, get_or_append_left, get_or_push, length_push, take_more}
 use Rattle.std.proofs.lemmas.Option.{slice_get_within, get_or_from_slice_get, slice_get-get_or}
 use Rattle.cs_types.specs.declared.Value.{Value}
 use Rattle.cs_types.specs.declared.Value.TheVariants.{Null, Number, Text}
-use Rattle.cs_types.specs.Values.{value_cmp}
 use Rattle.segment_dict.specs.declared.Dict.{Dict}
 use Rattle.segment_dict.specs.declared.Dict.TheVariants.{Numbers, Texts}
-use Rattle.segment_dict.specs.Dictionaries.{IsDictOf, HasCell, IsCodeOf, cell_of, codes_of}
+use Rattle.segment_dict.specs.Dictionaries.{cell_of, codes_of}
 use Rattle.segment_dict.specs.Texts.{texts_in}
 use Rattle.segment_dict.proofs.Orders.{text_order}
 use Rattle.segment_dict.proofs.TextLemmas.{length-texts_from}

@@ -1,5 +1,5 @@
 -- What a segment of some cells says of its body.
-use Rattle.std.proofs.Common.{◌≡◌, ℕ, ℤ, ◌+◌, ◌*◌, ◌<◌, ◌≤◌, ◌↔◌, ◌⊎◌, inl, inr, List, [], ◌∷◌, ◌++◌, length, get_or, map, refl, sym, ◌∙◌, ap, subst, arith, Bool, IsTrue, All, Contains, Option, None, Some, slice_get}
+use Rattle.std.proofs.Common.{◌≡◌, ℕ, ℤ, ◌+◌, ◌*◌, ◌<◌, ◌≤◌, ◌↔◌, inl, inr, List, [], ◌∷◌, ◌++◌, length, get_or, map, refl, sym, ◌∙◌, ap, subst, arith, Bool, IsTrue, All, Contains, Option, None, Some, slice_get}
 use Rattle.std.proofs.Math.Logic.{∥∥₁_elim, ∥∥₁_map}
 use Rattle.std.proofs.Math.Nat.{ℕ_set, ∣_prop}
 use Rattle.std.proofs.Props.{props}
@@ -8,7 +8,7 @@ use Rattle.std.proofs.lemmas.Bool.{cases_lt}
 use Rattle.std.proofs.lemmas.List.{get_or_append_left, get_or_push, length_push}
 use Rattle.std.proofs.lemmas.Option.{slice_get-get_or, get_or_from_slice_get}
 use Rattle.segment_value.specs.declared.Scale.{Scale}
-use Rattle.segment_value.specs.Scales.{Takes, TakesNumber, IsScaling, IsCode, code_of, cell_of}
+use Rattle.segment_value.specs.Scales.{Takes, IsScaling, IsCode, code_of, cell_of}
 use Rattle.segment_value.proofs.Codes.{cell_of-code_of}
 use Rattle.segment_rle.specs.Runs.{covered}
 use Rattle.cs_types.specs.declared.Value.{Value}

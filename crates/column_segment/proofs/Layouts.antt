@@ -1,5 +1,5 @@
 -- Widths and runs.
-use Rattle.std.proofs.Common.{◌≡◌, ◌≢◌, ℕ, zero, suc, ◌+◌, ◌-◌, ◌*◌, ◌/◌, ◌^◌, ◌<◌, ◌≤◌, ◌⊎◌, inl, inr, List, [], ◌∷◌, length, get_or, refl, sym, ◌∙◌, ap, subst, arith, All, Contains, count_by, max, nat_le, cond, Bool, true, false}
+use Rattle.std.proofs.Common.{◌≡◌, ◌≢◌, ℕ, zero, suc, ◌+◌, ◌-◌, ◌^◌, ◌<◌, ◌≤◌, ◌⊎◌, inl, inr, List, [], ◌∷◌, length, get_or, refl, sym, ◌∙◌, ap, subst, arith, All, Contains, count_by, max, nat_le, cond, Bool, true, false}
 use Rattle.std.proofs.lemmas.Bool.{cases_lt}
 use Rattle.std.proofs.lemmas.Bool.Decides.{nat_tests}
 use Rattle.std.proofs.lemmas.List.Elements.{All-contains}
@@ -8,7 +8,7 @@ use Rattle.std.proofs.lemmas.Nat.{pow_pos, leading_length}
 use Rattle.std.proofs.Math.Nat.{pow-suc}
 use Rattle.std.proofs.Math.Pow.{pow_mono}
 use Rattle.std.specs.Int.Count.{count_leading_zeros}
-use Rattle.segment_rle.specs.Runs.{AreRuns, AreRunsOf, IsRun, start_of, covered}
+use Rattle.segment_rle.specs.Runs.{AreRuns, AreRunsOf, IsRun, start_of}
 use Rattle.segment_rle.proofs.RunLemmas.{ends_rise}
 use Rattle.column_segment.specs.Layouts.{IsLeastWidth, code_in_runs, begins_run, runs_below}
 

@@ -1,13 +1,13 @@
 -- What the words and the runs of a segment say of its codes.
-use Rattle.std.proofs.Common.{◌≡◌, ℕ, zero, suc, ◌+◌, ◌-◌, ◌*◌, ◌/◌, ◌^◌, ◌<◌, ◌≤◌, inl, inr, List, length, get_or, refl, sym, ◌∙◌, ap, subst, arith}
+use Rattle.std.proofs.Common.{◌≡◌, ℕ, zero, suc, ◌+◌, ◌*◌, ◌/◌, ◌<◌, ◌≤◌, inl, inr, List, length, get_or, refl, sym, ◌∙◌, ap, arith}
 use Rattle.std.proofs.lemmas.Bool.{cases_lt}
 use Rattle.std.proofs.lemmas.Nat.{mul-le}
 use Rattle.std.proofs.Math.Nat.{le_refl}
-use Rattle.bit_pack.specs.Codes.{code_at, packed}
+use Rattle.bit_pack.specs.Codes.{code_at}
 use Rattle.bit_pack.proofs.Numbers.{small, code_at-packed, length-packed}
-use Rattle.segment_rle.specs.Runs.{AreRunsOf, IsRun, start_of, covered}
+use Rattle.segment_rle.specs.Runs.{AreRunsOf, start_of}
 use Rattle.column_segment.specs.Layouts.{ArePacked, IsLeastWidth, code_in_runs}
-use Rattle.column_segment.proofs.Layouts.{IsLeastWidth-same, run-code, runs-count}
+use Rattle.column_segment.proofs.Layouts.{IsLeastWidth-same, run-code}
 
 -- the words have room for all the codes
 pub packed-room : (codes : List ℕ) (width : ℕ) (words : List ℕ) → ArePacked codes width words → length codes * width ≤ 64 * length words

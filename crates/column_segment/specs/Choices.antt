@@ -4,11 +4,9 @@ use Rattle.bit_pack.specs.Codes.{packed}
 use Rattle.segment_value.specs.declared.Scale.{Scale}
 use Rattle.segment_dict.specs.declared.Dict.{Dict}
 use Rattle.segment_rle.specs.Runs.{AreRunsOf}
-use Rattle.cs_types.specs.declared.Value.{Value}
 use Rattle.column_segment.specs.declared.body.SegmentBody.{SegmentBody}
 use Rattle.column_segment.specs.declared.body.SegmentBody.TheVariants.{ValuePacked, ValueRuns, DictPacked, DictRuns}
 use Rattle.column_segment.specs.declared.choice.Costs.{Costs}
-use Rattle.column_segment.specs.Dicts.{AreDictCodes}
 
 -- what so many codes and runs cost at a width, beside what the scale or the dictionary costs
 abbrev pub AreCosts : ℕ → ℕ → ℕ → ℕ → Costs → Type 0

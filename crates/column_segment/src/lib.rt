@@ -18,3 +18,5 @@ pub use cell::CellRef;
 pub use choice::encode;
 pub use segment::{Batch, Segment};
 
+#[cfg(test)]
+mod tests;

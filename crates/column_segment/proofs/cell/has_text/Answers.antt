@@ -1,4 +1,4 @@
-use Rattle.std.proofs.Common.{◌≡◌, ◌<◌, ◌∙◌, length, sym, subst, arith, IsNone}
+use Rattle.std.proofs.Common.{◌<◌, ◌∙◌, length, sym, subst, arith, IsNone}
 use Rattle.cs_types.specs.declared.Value.{Value}
 use Rattle.column_segment.specs.Cells.{text_of}
 use Rattle.column_segment.proofs.Dicts.{All-more, copied-none}

@@ -1,9 +1,7 @@
-use Rattle.std.proofs.Common.{◌≡◌, ◌<◌, ◌≤◌, List, Option, ℤ, None, min, map, refl, sym, ◌∙◌, subst, inl, arith}
+use Rattle.std.proofs.Common.{◌<◌, ◌≤◌, List, Option, ℤ, None, min, refl, sym, ◌∙◌, subst, inl, arith}
 use Rattle.std.proofs.lemmas.Result.{IfOk-weaker}
-use Rattle.segment_value.specs.declared.Scale.{Scale}
 use Rattle.segment_value.specs.Scales.{IsScaling}
 use Rattle.column_segment.specs.declared.body.SegmentBody.{SegmentBody}
-use Rattle.column_segment.specs.Cells.{number_of}
 use Rattle.column_segment.specs.Bodies.{IsBest}
 use Rattle.column_segment.specs.Choices.{IsDictBody, IsValueBody}
 use Rattle.column_segment.proofs.Dicts.{has-entries}

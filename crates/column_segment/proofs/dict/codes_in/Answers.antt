@@ -1,4 +1,4 @@
-use Rattle.std.proofs.Common.{◌≡◌, ◌<◌, ◌+◌, ◌++◌, ◌∷◌, [], ℕ, List, length, take, sym, subst, arith}
+use Rattle.std.proofs.Common.{◌<◌, ◌+◌, ℕ, List, length, take, sym, subst, arith}
 use Rattle.cs_types.specs.declared.Value.{Value}
 use Rattle.column_segment.specs.Dicts.{AreDictCodes, IsDictCode}
 use Rattle.column_segment.proofs.Dicts.{codes-more}

@@ -1,4 +1,4 @@
-use Rattle.std.proofs.Common.{◌≡◌, ℕ, ◌+◌, ◌<◌, ◌≤◌, length, ◌∙◌, ap, sym, subst, arith}
+use Rattle.std.proofs.Common.{◌≡◌, ℕ, ◌+◌, ◌<◌, length, ◌∙◌, ap, sym, subst, arith}
 use Rattle.std.proofs.lemmas.List.{length_push}
 use Rattle.column_segment.specs.Bodies.{IsKnown, cell_in, cell_of_code}
 use Rattle.column_segment.proofs.Kept.{known, pushed}

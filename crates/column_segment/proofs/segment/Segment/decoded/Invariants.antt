@@ -1,4 +1,4 @@
-use Rattle.std.proofs.Common.{◌≡◌, ◌<◌, ◌≤◌, ◌+◌, ℕ, length, slice_get, Some}
+use Rattle.std.proofs.Common.{◌≡◌, ◌<◌, ◌+◌, ℕ, length, slice_get, Some}
 use Rattle.column_segment.specs.Bodies.{cell_in}
 use Rattle.column_segment.proofs.segment.Segment.decoded.Given as goal
 
