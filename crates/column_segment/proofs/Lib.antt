@@ -1,0 +1,6 @@
+mod Best
+mod Dicts
+mod Entries
+mod Kept
+mod Layouts
+mod Readings

@@ -1,0 +1,6 @@
+pub mod Cells
+pub mod Layouts
+pub mod Dicts
+pub mod Bodies
+pub mod Segments
+pub mod Choices

@@ -1,0 +1,108 @@
+ghost use Rattle.std.specs.Prelude.{◌≡◌, map, IfOk};
+ghost use Rattle.std.specs.Bool.{OnTrue, OnFalse};
+ghost use Rattle.std.specs.Option.{option_copied};
+ghost use Rattle.column_segment.specs.Cells.{seen, number_of, number_cell, text_of, HasText, HasNoText};
+
+use cs_base::{Items, Memory};
+use cs_types::Value;
+use std::alloc::Global;
+
+/// A cell of a segment, as a reference into it.
+#[derive(Debug, Clone, Copy, PartialEq, Eq)]
+pub enum CellRef<'a> {
+    /// NULL.
+    Null,
+    /// A number, or a day.
+    Number(i64),
+    /// A text.
+    Text(&'a [u8]),
+}
+
+impl CellRef<'_> {
+    /// The cell as a value of its own.
+    pub fn to_value(self, alloc: Global) -> Result<Value, Memory>
+        ensures { IfOk result (λ value. value ≡ seen self.entry) }
+    {
+        match self {
+            CellRef::Null => Ok(Value::Null),
+            CellRef::Number(number) => Ok(Value::Number(number)),
+            CellRef::Text(text) => Ok(Value::Text(Items::from_vec(text.to_vec(alloc)?))),
+        }
+    }
+}
+
+/// A value as a reference.
+pub fn shown(value: &Value) -> CellRef<'_>
+    ensures { seen result ≡ value.now }
+{
+    match value {
+        Value::Null => CellRef::Null,
+        Value::Number(number) => CellRef::Number(*number),
+        Value::Text(text) => CellRef::Text(text.as_slice()),
+    }
+}
+
+/// A number or NULL as a cell.
+pub fn number_shown<'a>(number: Option<i64>) -> CellRef<'a>
+    ensures { seen result ≡ number_cell number }
+{
+    match number {
+        None => CellRef::Null,
+        Some(number) => CellRef::Number(number),
+    }
+}
+
+/// The number that a cell is, None where it is none.
+pub fn as_number(cell: &Value) -> Option<i64>
+    ensures { result ≡ number_of cell.now }
+{
+    match cell {
+        Value::Number(number) => Some(*number),
+        _ => None,
+    }
+}
+
+/// The text that a cell is, None where it is none.
+pub fn as_text(cell: &Value) -> Option<&[u8]>
+    ensures { option_copied result ≡ text_of cell.now }
+{
+    match cell {
+        Value::Text(text) => Some(text.as_slice()),
+        _ => None,
+    }
+}
+
+/// The numbers of some cells.
+pub fn numbers_in(alloc: Global, cells: &[Value]) -> Result<Vec<Option<i64>>, Memory>
+    ensures { IfOk result (λ numbers. numbers.items ≡ map number_of cells.now) }
+{
+    let mut numbers = Vec::with_capacity(alloc, cells.len())?;
+    for cell in cells {
+        numbers.push(as_number(cell))?;
+    }
+    Ok(numbers)
+}
+
+/// The texts of some cells.
+pub fn texts_in(alloc: Global, cells: &[Value]) -> Result<Vec<Option<&[u8]>>, Memory>
+    ensures { IfOk result (λ texts. map option_copied texts.items ≡ map text_of cells.now) }
+{
+    let mut texts = Vec::with_capacity(alloc, cells.len())?;
+    for cell in cells {
+        texts.push(as_text(cell))?;
+    }
+    Ok(texts)
+}
+
+/// Whether a cell is a text.
+pub fn has_text(cells: &[Value]) -> bool
+    ensures text { OnTrue result (HasText cells.now) }
+    ensures none { OnFalse result (HasNoText cells.now) }
+{
+    for cell in cells {
+        if as_text(cell).is_some() {
+            return true;
+        }
+    }
+    false
+}

@@ -1,0 +1,238 @@
+ghost use Rattle.std.specs.Prelude.{◌≡◌, ◌≢◌, ◌+◌, ◌<◌, ◌≤◌, ◌^◌, ◌↔◌, ℕ, List, All, map, length, min, IfOk, IsTrue, Contains, Some, slice_get};
+ghost use Rattle.bit_pack.specs.Codes.{packed};
+ghost use Rattle.segment_value.specs.Scales.{Takes, code_of};
+ghost use Rattle.cs_types.specs.Kinds.{keeps};
+ghost use Rattle.std.specs.Bool.{OnTrue, OnFalse};
+ghost use Rattle.column_segment.specs.Cells.{number_of, HasText, HasNoText, HasNoNumber};
+ghost use Rattle.column_segment.specs.Layouts.{IsLeastWidth};
+ghost use Rattle.column_segment.specs.Dicts.{HasEntry, IsDictFor, AreDictCodes};
+ghost use Rattle.column_segment.specs.Bodies.{IsBest, cell_in};
+ghost use Rattle.column_segment.specs.Segments.{IsSegmentOf};
+ghost use Rattle.column_segment.specs.Choices.{AreCosts, IsValueBody, IsDictBody};
+
+use crate::body::SegmentBody;
+use crate::cell::{has_text, numbers_in, texts_in};
+use crate::dict::{codes_in, greatest_in, has_null, least_in, width_in, words_of};
+use crate::layout::{runs_in, width_of};
+use crate::segment::Segment;
+use bit_pack::pack_width;
+use cs_base::{Items, Memory};
+use cs_types::{ColumnType, Value};
+use segment_dict::{Dict, numbers_of, texts_of};
+use segment_rle::runs_of;
+use segment_value::{Scale, scale_of, shrink};
+use std::alloc::Global;
+
+/// What the codes of a column cost in words, in each of the two layouts.
+#[derive(Clone, Copy)]
+pub struct Costs {
+    /// Bits a code, where the codes are packed.
+    pub width: u32,
+    /// The words where they are packed.
+    pub packed: u128,
+    /// The words where they stand in runs.
+    pub runs: u128,
+}
+
+/// What so many codes and runs cost, beside the words of their scale or dictionary.
+fn costs_of(base: u64, length: usize, width: u32, runs: usize) -> Costs
+    requires { width ≤ 64 }
+    ensures { AreCosts base length width runs result }
+{
+    Costs {
+        width,
+        packed: base as u128 + (length as u128 * width as u128 + 63) / 64,
+        runs: base as u128 + 2 * runs as u128,
+    }
+}
+
+/// The words of the cheaper layout.
+fn fewest(costs: Costs) -> u128
+    ensures { result ≡ min costs.packed costs.runs }
+{
+    if costs.packed <= costs.runs {
+        costs.packed
+    } else {
+        costs.runs
+    }
+}
+
+/// The codes in packed words.
+fn packed_words(alloc: Global, width: u32, codes: &[u64]) -> Result<Items<u64>, Memory>
+    requires width { width ≤ 64 }
+    requires room { IsLeastWidth codes.now width }
+    ensures { IfOk result (λ words. words ≡ packed width codes.now) }
+{
+    let mut words = Vec::new(alloc);
+    pack_width(width, codes, &mut words)?;
+    Ok(Items::from_vec(words))
+}
+
+/// Codes of a scale, in their cheaper layout.
+fn value_body(
+    alloc: Global,
+    scale: Scale,
+    codes: &[u64],
+    costs: Costs,
+) -> Result<SegmentBody, Memory>
+    requires width { costs.width ≤ 64 }
+    requires room { IsLeastWidth codes.now costs.width }
+    ensures { IfOk result (IsValueBody scale codes.now costs) }
+{
+    if costs.packed <= costs.runs {
+        let words = packed_words(alloc, costs.width, codes)?;
+        return Ok(SegmentBody::ValuePacked {
+            scale,
+            width: costs.width,
+            codes: words,
+        });
+    }
+    let runs = runs_of(alloc, codes)?;
+    Ok(SegmentBody::ValueRuns { scale, runs })
+}
+
+/// Codes of a dictionary, in their cheaper layout.
+fn dict_body(alloc: Global, dict: Dict, codes: &[u64], costs: Costs) -> Result<SegmentBody, Memory>
+    requires width { costs.width ≤ 64 }
+    requires room { IsLeastWidth codes.now costs.width }
+    ensures { IfOk result (IsDictBody dict codes.now costs) }
+{
+    if costs.packed <= costs.runs {
+        let words = packed_words(alloc, costs.width, codes)?;
+        return Ok(SegmentBody::DictPacked {
+            dict,
+            width: costs.width,
+            codes: words,
+        });
+    }
+    let runs = runs_of(alloc, codes)?;
+    Ok(SegmentBody::DictRuns { dict, runs })
+}
+
+/// The codes of numbers that the scale takes.
+fn value_codes(alloc: Global, scale: Scale, numbers: &[Option<i64>]) -> Result<Vec<u64>, Memory>
+    requires { All (Takes scale) numbers.now }
+    ensures { IfOk result (λ codes. codes.items ≡ map (code_of scale) numbers.now) }
+{
+    let mut codes = Vec::with_capacity(alloc, numbers.len())?;
+    for number in numbers {
+        codes.push(shrink(scale, *number))?;
+    }
+    Ok(codes)
+}
+
+/// The best way to keep numbers, whose dictionary this is.
+fn number_body(
+    alloc: Global,
+    cells: &[Value],
+    numbers: &[Option<i64>],
+    dict: Dict,
+) -> Result<SegmentBody, Memory>
+    requires some { 0 < length cells.now }
+    requires no_text { HasNoText cells.now }
+    requires numbers { numbers.now ≡ map number_of cells.now }
+    requires dict { IsDictFor cells.now dict }
+    ensures { IfOk result (IsBest cells.now) }
+{
+    let runs = runs_in(cells);
+    let by_dict = costs_of(words_of(&dict), cells.len(), width_in(&dict), runs);
+    let Some(scale) = scale_of(numbers) else {
+        let codes = codes_in(alloc, &dict, cells)?;
+        return dict_body(alloc, dict, codes.as_slice(), by_dict);
+    };
+    let codes = value_codes(alloc, scale, numbers)?;
+    let by_scale = costs_of(2, cells.len(), width_of(codes.as_slice()), runs);
+    if fewest(by_scale) <= fewest(by_dict) {
+        return value_body(alloc, scale, codes.as_slice(), by_scale);
+    }
+    let codes = codes_in(alloc, &dict, cells)?;
+    dict_body(alloc, dict, codes.as_slice(), by_dict)
+}
+
+/// The best way to keep texts, whose dictionary this is.
+fn text_body(alloc: Global, cells: &[Value], dict: Dict) -> Result<SegmentBody, Memory>
+    requires some { 0 < length cells.now }
+    requires text { HasText cells.now }
+    requires dict { IsDictFor cells.now dict }
+    ensures { IfOk result (IsBest cells.now) }
+{
+    let costs = costs_of(
+        words_of(&dict),
+        cells.len(),
+        width_in(&dict),
+        runs_in(cells),
+    );
+    let codes = codes_in(alloc, &dict, cells)?;
+    dict_body(alloc, dict, codes.as_slice(), costs)
+}
+
+/// The segment of numbers, or of NULLs alone.
+fn number_segment(alloc: Global, cells: &[Value]) -> Result<Segment, Memory>
+    requires some { 0 < length cells.now }
+    requires no_text { HasNoText cells.now }
+    ensures { IfOk result (λ segment. IsSegmentOf cells.now segment.length segment.body segment.least segment.greatest segment.nulls) }
+{
+    let numbers = numbers_in(alloc, cells)?;
+    let dict = Dict::Numbers(numbers_of(alloc, numbers.as_slice())?);
+    let least = least_in(alloc, &dict)?;
+    let greatest = greatest_in(alloc, &dict)?;
+    let nulls = has_null(&dict);
+    let body = number_body(alloc, cells, numbers.as_slice(), dict)?;
+    Ok(Segment {
+        length: cells.len(),
+        body,
+        least,
+        greatest,
+        nulls,
+    })
+}
+
+/// The segment of texts.
+fn text_segment(alloc: Global, cells: &[Value]) -> Result<Segment, Memory>
+    requires some { 0 < length cells.now }
+    requires text { HasText cells.now }
+    requires no_number { HasNoNumber cells.now }
+    ensures { IfOk result (λ segment. IsSegmentOf cells.now segment.length segment.body segment.least segment.greatest segment.nulls) }
+{
+    let texts = texts_in(alloc, cells)?;
+    let dict = Dict::Texts(texts_of(alloc, texts.as_slice())?);
+    let least = least_in(alloc, &dict)?;
+    let greatest = greatest_in(alloc, &dict)?;
+    let nulls = has_null(&dict);
+    let body = text_body(alloc, cells, dict)?;
+    Ok(Segment {
+        length: cells.len(),
+        body,
+        least,
+        greatest,
+        nulls,
+    })
+}
+
+/// Whether a cell of a column is a text. In a column of texts all may be NULL.
+fn holds_text(kind: ColumnType, cells: &[Value]) -> bool
+    requires { All (λ cell. IsTrue (keeps kind cell)) cells.now }
+    ensures text { OnTrue result (HasText cells.now) }
+    ensures no_number { OnTrue result (HasNoNumber cells.now) }
+    ensures none { OnFalse result (HasNoText cells.now) }
+{
+    match kind {
+        ColumnType::VarChar { .. } => has_text(cells),
+        _ => false,
+    }
+}
+
+/// The segment of a column's cells, of which there is one at least, all of the column's type. It takes the way of
+/// fewest words; of equal ones the first of value packed, value in runs, dictionary packed, dictionary in runs.
+pub fn encode(alloc: Global, kind: ColumnType, cells: &[Value]) -> Result<Segment, Memory>
+    requires some { 0 < length cells.now }
+    requires of_type { All (λ cell. IsTrue (keeps kind cell)) cells.now }
+    ensures segment { IfOk result (λ segment. IsSegmentOf cells.now segment.length segment.body segment.least segment.greatest segment.nulls) }
+    ensures cells { IfOk result (λ segment. (i : ℕ) → i < length cells.now → slice_get cells.now i ≡ Some (cell_in segment.body i)) }
+{
+    if holds_text(kind, cells) {
+        text_segment(alloc, cells)
+    } else {
+        number_segment(alloc, cells)
+    }
+}

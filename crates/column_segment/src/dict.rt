@@ -1,0 +1,117 @@
+ghost use Rattle.std.specs.Prelude.{◌≡◌, ◌<◌, ◌≤◌, ◌^◌, ◌↔◌, ℕ, List, All, Contains, IfOk, IsTrue, length};
+ghost use Rattle.cs_types.specs.declared.Value.{Value as Cell};
+ghost use Rattle.cs_types.specs.declared.Value.TheVariants.{Null};
+ghost use Rattle.column_segment.specs.Cells.{seen, IsLeastCell, IsGreatestCell};
+ghost use Rattle.column_segment.specs.Layouts.{IsLeastWidth};
+ghost use Rattle.column_segment.specs.Dicts.{dict_cell, dict_codes, dict_nulls, dict_words, HasEntry, IsDictFor, IsDictCode, AreDictCodes};
+
+use crate::cell::{CellRef, as_number, as_text, number_shown};
+use crate::layout::bits_of;
+use cs_base::Memory;
+use cs_types::Value;
+use segment_dict::Dict;
+use std::alloc::Global;
+
+/// The cell of one of a dictionary's codes.
+pub fn entry_shown(dict: &Dict, code: u64) -> CellRef<'_>
+    requires { code < dict_codes dict.now }
+    ensures { seen result ≡ dict_cell dict.now code }
+{
+    match dict {
+        Dict::Numbers(numbers) => number_shown(numbers.entry(code)),
+        Dict::Texts(texts) => match texts.entry(code) {
+            None => CellRef::Null,
+            Some(text) => CellRef::Text(text),
+        },
+    }
+}
+
+/// The code of a cell that the dictionary has.
+fn code_for(dict: &Dict, cell: &Value) -> u64
+    requires { HasEntry dict.now cell.now }
+    ensures { IsDictCode dict.now cell.now result }
+{
+    match dict {
+        Dict::Numbers(numbers) => numbers.code_of(as_number(cell)).unwrap(),
+        Dict::Texts(texts) => texts.code_of(as_text(cell)).unwrap(),
+    }
+}
+
+/// The codes of some cells that the dictionary has.
+pub fn codes_in(alloc: Global, dict: &Dict, cells: &[Value]) -> Result<Vec<u64>, Memory>
+    requires { All (HasEntry dict.now) cells.now }
+    ensures { IfOk result (λ codes. AreDictCodes dict.now cells.now codes.items) }
+{
+    let mut codes = Vec::with_capacity(alloc, cells.len())?;
+    for cell in cells {
+        codes.push(code_for(dict, cell))?;
+    }
+    Ok(codes)
+}
+
+/// How many codes a dictionary has.
+fn codes_of(dict: &Dict) -> u64
+    ensures { result ≡ dict_codes dict.now }
+{
+    match dict {
+        Dict::Numbers(numbers) => numbers.entries.as_slice().len() as u64
+            + u64::from(numbers.nulls),
+        Dict::Texts(texts) => texts.ends.as_slice().len() as u64 + u64::from(texts.nulls),
+    }
+}
+
+/// What a dictionary costs in words: one for each number, or for each text one and its bytes, joined, 8 to a word.
+pub fn words_of(dict: &Dict) -> u64
+    ensures words { result ≡ dict_words dict.now }
+    ensures small { result < 2 ^ 63 }
+{
+    match dict {
+        Dict::Numbers(numbers) => numbers.entries.as_slice().len() as u64,
+        Dict::Texts(texts) => {
+            let ends = texts.ends.as_slice().len() as u64;
+            let bytes = texts.bytes.as_slice().len() as u64;
+            ends + bytes.div_ceil(8)
+        }
+    }
+}
+
+/// The least width with room for each code of the cells whose dictionary this is.
+pub fn width_in(dict: &Dict) -> u32
+    ensures most { result ≤ 64 }
+    ensures width { (cells : List Cell) (codes : List ℕ) → IsDictFor cells dict.now → AreDictCodes dict.now cells codes → 0 < length cells → IsLeastWidth codes result }
+{
+    bits_of(codes_of(dict).saturating_sub(1))
+}
+
+/// Whether a dictionary has a code for NULL.
+pub fn has_null(dict: &Dict) -> bool
+    ensures value { result ≡ dict_nulls dict.now }
+    ensures null { (cells : List Cell) → IsDictFor cells dict.now → IsTrue result ↔ Contains cells Null }
+{
+    match dict {
+        Dict::Numbers(numbers) => numbers.nulls,
+        Dict::Texts(texts) => texts.nulls,
+    }
+}
+
+/// The least of the cells whose dictionary this is that are not NULL, NULL where there is none.
+pub fn least_in(alloc: Global, dict: &Dict) -> Result<Value, Memory>
+    ensures { IfOk result (λ least. (cells : List Cell) → IsDictFor cells dict.now → IsLeastCell cells least) }
+{
+    let nulls = u64::from(has_null(dict));
+    if codes_of(dict) == nulls {
+        return Ok(Value::Null);
+    }
+    entry_shown(dict, nulls).to_value(alloc)
+}
+
+/// The greatest of the cells whose dictionary this is that are not NULL, NULL where there is none.
+pub fn greatest_in(alloc: Global, dict: &Dict) -> Result<Value, Memory>
+    ensures { IfOk result (λ greatest. (cells : List Cell) → IsDictFor cells dict.now → IsGreatestCell cells greatest) }
+{
+    let codes = codes_of(dict);
+    if codes == u64::from(has_null(dict)) {
+        return Ok(Value::Null);
+    }
+    entry_shown(dict, codes - 1).to_value(alloc)
+}

@@ -1,0 +1,22 @@
+//! Column segments: the cells of one column of a row group, kept in the fewest words.
+//!
+//! A segment keeps a code for each cell. The codes are those of a scale (numbers alone) or of a sorted dictionary, and
+//! they stand packed at their least width or in runs; `encode` takes the way of fewest words. Its one contract: cell i
+//! of `encode` is the given cell. It stands on `bit_pack`, `segment_value`, `segment_dict` and `segment_rle`, and on
+//! `cs_types` for values. Larson et al., SIGMOD 2011, describe value and dictionary encoding and these layouts.
+#![tactic(auto)]
+
+mod body;
+mod cell;
+mod choice;
+mod dict;
+mod layout;
+mod segment;
+
+pub use body::SegmentBody;
+pub use cell::CellRef;
+pub use choice::encode;
+pub use segment::{Batch, Segment};
+
+#[cfg(test)]
+mod tests;
