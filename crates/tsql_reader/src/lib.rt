@@ -14,5 +14,5 @@ mod statement;
 #[cfg(test)]
 mod tests;
 
-pub use read::read_statement;
-pub use refusal::ReadRefusal;
+pub use read::{number_at, place_at, read_statement};
+pub use refusal::{ReadRefusal, by_tokens};

@@ -28,7 +28,9 @@ fn follows_alter(symbols: &[Symbol], rest: &[Symbol]) -> bool
     }
 }
 
-fn number_at(symbols: &[Symbol], rest: &[Symbol]) -> u32
+/// The number of a refusal by the grammar, at the first of the rest: 50001 at a reserved word that the grammar has no
+/// form for and at TABLE after ALTER, and else 102.
+pub fn number_at(symbols: &[Symbol], rest: &[Symbol]) -> u32
     ensures { result ≡ number_at symbols.now rest.now }
 {
     match rest {
@@ -40,7 +42,8 @@ fn number_at(symbols: &[Symbol], rest: &[Symbol]) -> u32
     }
 }
 
-fn place_at(size: usize, rest: &[Symbol]) -> u32
+/// The place of the next token of a text of so many bytes. The end stands one past the last byte.
+pub fn place_at(size: usize, rest: &[Symbol]) -> u32
     requires { size ≤ 131_072 }
     ensures { result ≡ place_at size rest.now }
 {
