@@ -90,6 +90,7 @@ pub fn number_of(text: &[u8], symbol: &Symbol) -> NumberTree
     }
 }
 
+/// The sign that a symbol is: minus, or else plus.
 pub fn sign_of(symbol: &Symbol) -> SignTree
     ensures { result ≡ sign_of symbol.now }
 {

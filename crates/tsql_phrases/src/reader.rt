@@ -73,6 +73,7 @@ pub fn signed(sign: Option<SignTree>, number: NumberTree) -> NumberTree
 }
 
 impl Reader<'_> {
+    /// Whether the next token is this one. The end of the text is none.
     pub fn begins(&self, terminal: Terminal) -> bool
         ensures { result ≡ next_among (terminal ∷ []) self.now.rest.now }
     {
@@ -82,6 +83,7 @@ impl Reader<'_> {
         }
     }
 
+    /// Takes the next token, which has to be this one. Else it stops there.
     pub fn take(&mut self, terminal: Terminal) -> Result<Symbol, ReadError>
         ensures { Steps result self.new.rest.now ((word terminal).reads self.old.rest.now) }
     {

@@ -246,6 +246,7 @@ fn more_sets(
     Ok(list)
 }
 
+/// `name "=" expr {"," name "=" expr}`, the parts of SET in an UPDATE.
 pub fn sets(
     reader: &mut Reader<'_>,
     alloc: Global,
