@@ -1,0 +1,40 @@
+-- Places by key, as a list of pairs in the order of keys.
+use Rattle.std.specs.Prelude.{◌≡◌, ℕ, ℤ, pos, ◌<◌, ◌≤◌, ◌<ℤ◌, List, [], ◌∷◌, length, if◌then◌else◌, slice_index_or, Some, None, Option}
+use Rattle.std.specs.Ordering.{int_eq}
+use Rattle.cs_types.specs.declared.Key.{Key}
+
+-- what contracts see of an index: its pairs, and how many more find room without memory
+pub record Index : Type 0 where
+  pub pairs : List (Key × ℕ)
+  pub spare : ℕ
+
+-- the place in the first pair of the key
+abbrev pub place_in : List (Key × ℕ) → Key → Option ℕ
+place_in [] key = None
+place_in (x ∷ rest) key = if int_eq x.0.0 key.0 then Some x.1 else place_in rest key
+
+abbrev pub no_pair : Key × ℕ
+no_pair = (record { 0 = pos 0 }, 0)
+
+-- the number of the key of the pair at place i
+abbrev pub key_at : List (Key × ℕ) → ℕ → ℤ
+key_at pairs i = let pair = slice_index_or pairs i no_pair in pair.0.0
+
+-- the keys ascend strictly
+abbrev pub AreInOrder : List (Key × ℕ) → Type 0
+AreInOrder pairs = (i j : ℕ) → i < j → j < length pairs → key_at pairs i <ℤ key_at pairs j
+
+-- the pair at place i is of the key
+pub record IsAt (pairs : List (Key × ℕ)) (key : Key) (i : ℕ) : Type 0 where
+  pub in_range : i < length pairs
+  pub has_key : key_at pairs i ≡ key.0
+
+-- a pair of the key would go to place i: those before it have smaller keys, and those from it on greater ones
+pub record IsGapFor (pairs : List (Key × ℕ)) (key : Key) (i : ℕ) : Type 0 where
+  pub in_range : i ≤ length pairs
+  pub smaller_before : (j : ℕ) → j < i → key_at pairs j <ℤ key.0
+  pub greater_after : (j : ℕ) → i ≤ j → j < length pairs → key.0 <ℤ key_at pairs j
+
+-- the key has this place now, and every other key the one that it had
+abbrev pub SetsOnly : List (Key × ℕ) → List (Key × ℕ) → Key → ℕ → Type 0
+SetsOnly old new key place = (q : Key) → place_in new q ≡ (if int_eq key.0 q.0 then Some place else place_in old q)

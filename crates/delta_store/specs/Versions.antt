@@ -1,0 +1,45 @@
+-- Versions of rows with their keys, in the order in which they came.
+use Rattle.std.specs.Prelude.{◌≡◌, ◌≢◌, ◌+◌, ◌<◌, ℕ, List, length, ◌&&◌, Option, Some, None, is_none, is_some, Bool, if◌then◌else◌, All}
+use Rattle.std.specs.List.{AllWithin, HoldsAt, list_any}
+use Rattle.std.specs.Ordering.{int_eq}
+use Rattle.cs_types.specs.declared.Key.{Key}
+use Rattle.cs_types.specs.declared.Value.{Value}
+use Rattle.delta_store.specs.declared.store.KeyedVersion.{KeyedVersion}
+
+-- what contracts see of a delta store: its versions, and how many more find room without memory
+pub record Store : Type 0 where
+  pub versions : List KeyedVersion
+  pub spare : ℕ
+
+-- the version is of the key
+abbrev pub is_of : Key → KeyedVersion → Bool
+is_of key v = int_eq v.key.0 key.0
+
+-- the version has an end
+abbrev pub is_ended : KeyedVersion → Bool
+is_ended v = is_some v.version.end
+
+-- the version is of the key and has no end
+abbrev pub is_live : Key → KeyedVersion → Bool
+is_live key v = is_of key v && is_none v.version.end
+
+-- some version is of the key and has no end
+abbrev pub has_live : Key → List KeyedVersion → Bool
+has_live key versions = list_any (is_live key) versions
+
+-- a version of the key without an end
+abbrev pub new_version : Key → List Value → ℕ → KeyedVersion
+new_version key row begin = record { key = key; version = record { row = row; begin = begin; end = None } }
+
+-- the version, with this end where it is of the key and has none
+abbrev pub ended_at : Key → ℕ → KeyedVersion → KeyedVersion
+ended_at key end v =
+    record {
+      key = v.key;
+      version = record { row = v.version.row; begin = v.version.begin; end = if is_live key v then Some end else v.version.end };
+    }
+
+-- the place of the last version of the key, none where it has no version
+abbrev pub IsLastPlace : List KeyedVersion → Key → Option ℕ → Type 0
+IsLastPlace versions key None = All (λ v. v.key ≢ key) versions
+IsLastPlace versions key (Some place) = (place < length versions) × HoldsAt (λ v. v.key ≡ key) versions place × AllWithin (λ v. v.key ≢ key) versions (place + 1) (length versions)
