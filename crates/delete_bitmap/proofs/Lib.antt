@@ -1,2 +1,3 @@
-pub mod InPlace
-pub mod MarksLemmas
+pub mod BitLemmas
+pub mod EndLemmas
+pub mod StampSearch

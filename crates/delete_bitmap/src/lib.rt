@@ -5,10 +5,14 @@
 //! columnstore (Larson et al., SIGMOD 2013), with a commit number beside a mark until no snapshot can see the version.
 #![tactic(auto)]
 
-ghost use Rattle.std.specs.Prelude.{◌≡◌, ◌+◌, ◌-◌, ◌<◌, ◌≤◌, ◌++◌, length, map, replicate, slice_get, slice_set, count_by, OnOk, OnErr, IfOk, Some, None};
+mod bits;
+
+ghost use Rattle.std.specs.Prelude.{◌≡◌, ◌+◌, ◌<◌, length, map, replicate, slice_get, slice_set, count_by, filter, OnOk, OnErr, IfOk, IfErr, Some, None};
 ghost use Rattle.delete_bitmap.specs.Marks as spec;
 ghost use Rattle.delete_bitmap.specs.Marks.{settled, is_settling, end_at};
+ghost use Rattle.delete_bitmap.specs.Kept.{is_above, AreInOrder, IsStampAt, IsGapFor};
 
+use bits::Bits;
 use cs_base::Memory;
 use std::alloc::Global;
 use std::marker::Model;
@@ -22,25 +26,28 @@ pub enum MarkedEnd {
     Stamped(u64),
 }
 
-/// The ends of a group's versions, by position. It keeps its allocator.
-///
-/// The ends of the positions from `ends.len()` on are none and take no room, so that a group without deleted rows
-/// costs nothing.
+/// The ends of a group's versions, by position: a bit says whether there is one, and a stamp at which commit where it
+/// is not plain. A group without ended versions takes no room. It keeps its allocator.
 #[derive(Drop)]
 pub struct Marks {
-    length: usize,
-    ends: Vec<Option<MarkedEnd>>,
+    /// Set where the version has ended.
+    bits: Bits,
+    /// The positions and commits of the ends that are not plain, in the order of positions.
+    stamps: Vec<(usize, u64)>,
+    /// The number of bits that are set.
+    count: u64,
 }
 
 impl Model for Marks {
-    ghost use Rattle.std.specs.Prelude.{List, Option, None, ◌-◌, ◌≤◌, ◌++◌, length as list_length, replicate};
+    ghost use Rattle.std.specs.Prelude.{List, Option};
     ghost use Rattle.delete_bitmap.specs.declared.MarkedEnd.{MarkedEnd};
+    ghost use Rattle.delete_bitmap.specs.Kept.{ends_of, AreKept};
 
     ghost Value = { List (Option MarkedEnd) };
 
-    ghost view = { λ marks. marks.ends.items ++ replicate (marks.length - list_length marks.ends.items) None };
+    ghost view = { λ marks. ends_of marks.stamps.items marks.bits };
 
-    ghost invariant = { λ marks. list_length marks.ends.items ≤ marks.length };
+    ghost invariant = { λ marks. AreKept marks.bits marks.stamps.items marks.count };
 }
 
 impl Marks {
@@ -49,8 +56,9 @@ impl Marks {
         ensures { IfOk result (λ marks. marks ≡ replicate length None) }
     {
         Ok(Marks {
-            length,
-            ends: Vec::new(alloc),
+            bits: Bits::new(alloc, length),
+            stamps: Vec::new(alloc),
+            count: 0,
         })
     }
 
@@ -58,7 +66,7 @@ impl Marks {
     pub fn len(&self) -> usize
         ensures { result ≡ length self.now }
     {
-        self.length
+        self.bits.len()
     }
 
     /// Ends the version at a position that has no end. After `Memory` nothing has changed.
@@ -67,8 +75,17 @@ impl Marks {
         ensures ok { OnOk result (self.new ≡ slice_set self.old position (Some (MarkedEnd.Stamped end))) }
         ensures err { OnErr result (self.new ≡ self.old) }
     {
-        cover(&mut self.ends, self.length, position)?;
-        self.ends[position] = Some(MarkedEnd::Stamped(end));
+        self.stamps.reserve(1)?;
+        let place = match place_of(&self.stamps, position) {
+            Ok(_) => unreachable!(),
+            Err(place) => place,
+        };
+        self.bits.set(position)?;
+        match self.stamps.insert(place, (position, end)) {
+            Ok(()) => {}
+            Err(_) => unreachable!(),
+        }
+        self.count += 1;
         Ok(())
     }
 
@@ -76,35 +93,35 @@ impl Marks {
     pub fn end(&self, position: usize) -> Option<MarkedEnd>
         ensures { result ≡ end_at self.now position }
     {
-        match self.ends.get(position) {
-            Some(end) => *end,
-            None => None,
+        if !self.bits.get(position) {
+            return None;
+        }
+        match place_of(&self.stamps, position) {
+            Ok(place) => Some(MarkedEnd::Stamped(self.stamps[place].1)),
+            Err(_) => Some(MarkedEnd::Plain),
         }
     }
 
-    /// Makes each stamped end at most the floor a plain one, and gives their number.
+    /// Makes each stamped end at most the floor a plain one, and gives their number. It takes no memory.
     pub fn settle(&mut self, floor: u64) -> u64
         ensures marks { self.new ≡ map (settled floor) self.old }
         ensures count { result ≡ count_by (is_settling floor) self.old }
     {
-        settle_each(&mut self.ends, floor)
+        keep_above(&mut self.stamps, floor)
     }
 
     /// The number of versions that have ended.
     pub fn count(&self) -> u64
         ensures { result ≡ count_by spec.is_marked self.now }
     {
-        self.ends.iter().filter(|end| end.is_some()).count() as u64
+        self.count
     }
 
     /// The number of versions whose end is plain or at most the floor: a new copy of the group would leave them out.
     pub fn removable(&self, floor: u64) -> u64
         ensures { result ≡ count_by (spec.is_removable floor) self.now }
     {
-        self.ends
-            .iter()
-            .filter(|end| is_removable(**end, floor))
-            .count() as u64
+        self.count - count_above(&self.stamps, floor)
     }
 
     /// Marks equal to these.
@@ -112,63 +129,37 @@ impl Marks {
         ensures { IfOk result (λ marks. marks ≡ self.now) }
     {
         Ok(Marks {
-            length: self.length,
-            ends: self.ends.clone()?,
+            bits: self.bits.copy()?,
+            stamps: Vec::from_slice(*self.stamps.allocator(), &self.stamps)?,
+            count: self.count,
         })
     }
 }
 
-/// Gives the position a place among the ends, where all stand that have none. After `Memory` nothing has changed.
-fn cover(ends: &mut Vec<Option<MarkedEnd>>, versions: usize, position: usize) -> Result<(), Memory>
-    requires there { position < versions }
-    requires short { length ends.old.items ≤ versions }
-    ensures place { OnOk result (position < length ends.new.items) }
-    ensures short { length ends.new.items ≤ versions }
-    ensures same { ends.new.items ++ replicate (versions - length ends.new.items) None ≡ ends.old.items ++ replicate (versions - length ends.old.items) None }
+/// The place of a position's stamp, or where it would go.
+fn place_of(stamps: &[(usize, u64)], position: usize) -> Result<usize, usize>
+    requires { AreInOrder stamps.now }
+    ensures found { IfOk result (IsStampAt stamps.now position) }
+    ensures absent { IfErr result (IsGapFor stamps.now position) }
 {
-    if ends.len() <= position {
-        ends.resize(versions, None)?;
-    }
-    Ok(())
+    stamps.binary_search_by_key(&position, |&(place, _)| place)
 }
 
-/// Whether an end is plain or at most the floor.
-fn is_removable(end: Option<MarkedEnd>, floor: u64) -> bool
-    ensures { result ≡ spec.is_removable floor end }
+/// Keeps the stamps above the floor, and gives the number of the others.
+fn keep_above(stamps: &mut Vec<(usize, u64)>, floor: u64) -> u64
+    ensures kept { stamps.new.items ≡ filter (is_above floor) stamps.old.items }
+    ensures count { result + length stamps.new.items ≡ length stamps.old.items }
 {
-    match end {
-        None => false,
-        Some(MarkedEnd::Plain) => true,
-        Some(MarkedEnd::Stamped(commit)) => commit <= floor,
-    }
+    let all = stamps.len();
+    stamps.retain(|(_, commit)| *commit > floor);
+    (all - stamps.len()) as u64
 }
 
-/// Makes a stamped end at most the floor plain, and says whether it did.
-fn settle_one(end: &mut Option<MarkedEnd>, floor: u64) -> bool
-    ensures end { end.new ≡ settled floor end.old }
-    ensures count { result ≡ is_settling floor end.old }
+/// The number of stamps above the floor.
+fn count_above(stamps: &[(usize, u64)], floor: u64) -> u64
+    ensures { result ≡ count_by (is_above floor) stamps.now }
 {
-    match *end {
-        Some(MarkedEnd::Stamped(commit)) if commit <= floor => {
-            *end = Some(MarkedEnd::Plain);
-            true
-        }
-        _ => false,
-    }
-}
-
-/// Makes each stamped end at most the floor a plain one, and gives their number.
-fn settle_each(ends: &mut Vec<Option<MarkedEnd>>, floor: u64) -> u64
-    ensures ends { ends.new.items ≡ map (settled floor) ends.old.items }
-    ensures count { result ≡ count_by (is_settling floor) ends.old.items }
-{
-    let mut count = 0;
-    for end in ends.iter_mut() {
-        if settle_one(end, floor) {
-            count += 1;
-        }
-    }
-    count
+    stamps.iter().filter(|(_, commit)| *commit > floor).count() as u64
 }
 
 #[cfg(test)]

@@ -1,33 +1,96 @@
 use crate::{MarkedEnd, Marks};
+use cs_base::Memory;
+use std::alloc::Global;
+use std::process::Abort;
 use std::test::Fail;
+
+/// Ends the version at a position that is there and has no end.
+fn mark(marks: &mut Marks, position: usize, commit: u64) -> Result<(), Memory> {
+    if position < marks.len() && marks.end(position) == None {
+        marks.mark(position, commit)?;
+    }
+    Ok(())
+}
+
+/// Marks of this many versions of which these are ended at these commits.
+fn marked(alloc: Global, length: usize, ends: &[(usize, u64)]) -> Result<Marks, Memory> {
+    let mut marks = Marks::new(alloc, length)?;
+    for (position, commit) in ends {
+        mark(&mut marks, *position, *commit)?;
+    }
+    Ok(marks)
+}
+
+/// That the ends of these positions are these.
+fn expect_ends(rt: &impl Abort, marks: &Marks, expected: &[(usize, Option<MarkedEnd>)]) {
+    for (position, end) in expected {
+        assert!(rt; marks.end(*position) == *end);
+    }
+}
 
 #[test]
 fn ends_are_marked_and_settled(rt: HostRuntime) -> Result<(), Fail> {
-    let mut marks = Marks::new(rt.alloc(), 5)?;
-    for (position, end) in [(3, 7), (0, 9), (4, 8)] {
-        assert!(rt; position < marks.len() && marks.end(position) == None);
-        marks.mark(position, end)?;
-    }
+    let mut marks = marked(rt.alloc(), 5, &[(3, 7), (0, 9), (4, 8), (3, 1), (5, 1)])?;
     assert_eq!(rt;
-        (marks.count(), marks.removable(7), marks.removable(8)),
-        (3, 1, 2)
+        (
+            marks.count(),
+            marks.removable(6),
+            marks.removable(7),
+            marks.removable(8)
+        ),
+        (3, 0, 1, 2)
     );
-    assert_eq!(rt; marks.settle(7), 1);
+    assert_eq!(rt; (marks.settle(6), marks.settle(7)), (0, 1));
     let copy = marks.copy()?;
     assert_eq!(rt; marks.settle(8), 1);
-    let expected = [
-        (0, Some(MarkedEnd::Stamped(9)), Some(MarkedEnd::Stamped(9))),
-        (1, None, None),
-        (3, Some(MarkedEnd::Plain), Some(MarkedEnd::Plain)),
-        (4, Some(MarkedEnd::Plain), Some(MarkedEnd::Stamped(8))),
-        (5, None, None),
-    ];
-    for (position, end, copied) in expected {
-        assert_eq!(rt; (marks.end(position), copy.end(position)), (end, copied));
-    }
+    let plain = Some(MarkedEnd::Plain);
+    let last = Some(MarkedEnd::Stamped(9));
+    expect_ends(
+        &rt,
+        &marks,
+        &[(0, last), (1, None), (3, plain), (4, plain), (5, None)],
+    );
+    let stamped = Some(MarkedEnd::Stamped(8));
+    expect_ends(
+        &rt,
+        &copy,
+        &[(0, last), (1, None), (3, plain), (4, stamped), (5, None)],
+    );
     assert_eq!(rt;
-        (marks.count(), marks.removable(0), marks.settle(8)),
-        (3, 2, 0)
+        (
+            marks.count(),
+            marks.removable(0),
+            marks.settle(8),
+            marks.settle(20)
+        ),
+        (3, 2, 0, 1)
+    );
+    Ok(())
+}
+
+/// The count of ends, how many are removable at floor 5, and how many a settling at floor 5 changes, where the first
+/// and the last version are ended at 5 and 6; beside them the number of versions.
+fn first_and_last(alloc: Global, length: usize) -> Result<(usize, u64, u64, u64), Memory> {
+    let mut marks = marked(alloc, length, &[(length.saturating_sub(1), 6), (0, 5)])?;
+    let removable = marks.removable(5);
+    Ok((marks.len(), marks.count(), removable, marks.settle(5)))
+}
+
+#[test]
+fn ends_stand_at_the_edges_of_words(rt: HostRuntime) -> Result<(), Fail> {
+    let alloc = rt.alloc();
+    assert_eq!(rt; first_and_last(alloc, 0)?, (0, 0, 0, 0));
+    assert_eq!(rt; first_and_last(alloc, 1)?, (1, 1, 0, 0));
+    assert_eq!(rt; first_and_last(alloc, 63)?, (63, 2, 1, 1));
+    assert_eq!(rt; first_and_last(alloc, 64)?, (64, 2, 1, 1));
+    assert_eq!(rt; first_and_last(alloc, 65)?, (65, 2, 1, 1));
+    let marks = marked(alloc, 65, &[(63, 1), (64, 2)])?;
+    let first = Some(MarkedEnd::Stamped(1));
+    let second = Some(MarkedEnd::Stamped(2));
+    expect_ends(
+        &rt,
+        &marks,
+        &[(0, None), (62, None), (63, first), (64, second), (65, None)],
     );
     Ok(())
 }

@@ -1,10 +1,41 @@
-use Rattle.std.proofs.Common.{◌≡◌, ◌-◌, ◌++◌, ◌∙◌, length, replicate, None, Some}
+use Rattle.std.proofs.Common.{List, Bool, Some, true, set, ap, ◌∙◌, arith}
+use Rattle.std.specs.List.{count_by}
+use Rattle.std.proofs.lemmas.List.Sums.{count_by-le-length}
 use Rattle.delete_bitmap.specs.declared.MarkedEnd.TheVariants.{Stamped}
-use Rattle.delete_bitmap.proofs.MarksLemmas.{set-behind}
+use Rattle.delete_bitmap.specs.Kept.{no_stamp, ends_of}
+use Rattle.delete_bitmap.proofs.EndLemmas.{End, IsFree-unmarked, ends_of-insert}
+use Rattle.delete_bitmap.proofs.StampSearch.{count-set, AreKept-insert}
 use Rattle.delete_bitmap.proofs.Marks.mark.Goals as goal
+
+pub unreachable-requires : goal.unreachable-requires
+unreachable-requires c =
+    let free = IsFree-unmarked c.self.inside.stamps.items c.self.inside.bits c.args.position c.self.invariant.in_order c.self.invariant.marked (rw (← c.self.view_is) at c.requires) in
+    let found = rw (c.deref.ensures.value, c.in_ok-reserve.ensures.items) at c.in-Ok.ensures.found in
+    free.none c.in-Ok.field-0 no_stamp found.there found.is_of
+
+pub set-requires : goal.set-requires
+set-requires c =
+    let free = IsFree-unmarked c.self.inside.stamps.items c.self.inside.bits c.args.position c.self.invariant.in_order c.self.invariant.marked (rw (← c.self.view_is) at c.requires) in
+    free.within
+
+-- a bit was not set, so there are fewer that are than bits
+pub overflow_add-self : goal.overflow_add-self
+overflow_add-self c =
+    let free = IsFree-unmarked c.self.inside.stamps.items c.self.inside.bits c.args.position c.self.invariant.in_order c.self.invariant.marked (rw (← c.self.view_is) at c.requires) in
+    let more = count-set c.self.inside.bits c.args.position free.within free.unset in
+    let small = rw c.in_ok-set.ensures.ok at c.in_ok-set.ensures.small in
+    omega (arith, more, small, c.self.invariant.counted, count_by-le-length (λ (bit : Bool). bit) (set c.self.inside.bits c.args.position true))
+
+pub invariant_of-self-2 : goal.invariant_of-self-2
+invariant_of-self-2 c =
+    let free = IsFree-unmarked c.self.inside.stamps.items c.self.inside.bits c.args.position c.self.invariant.in_order c.self.invariant.marked (rw (← c.self.view_is) at c.requires) in
+    let gap = rw (c.deref.ensures.value, c.in_ok-reserve.ensures.items) at c.in-Err.ensures.absent in
+    rw (c.in_ok-set.ensures.ok, c.in-Ok-insert.ensures.items, c.in_ok-reserve.ensures.items)
+    (AreKept-insert c.self.inside.bits c.self.inside.stamps.items c.self.inside.count c.args.position c.args.end c.in-Err.place c.self.invariant free.within free.unset gap)
 
 pub returns-clause-ok : goal.returns-clause-ok
 returns-clause-ok c =
-    let seen : c.self.inside.ends.items ++ replicate (c.self.inside.length - length c.self.inside.ends.items) None ≡ c.args.self.now =
-    c.self.view_is in
-    set-behind c.cover.new.ends.items c.args.self.now c.self.inside.length c.args.position None (Some (Stamped c.args.end)) (c.cover.ensures.same ∙ seen) c.in_ok-cover.ensures.place
+    let free = IsFree-unmarked c.self.inside.stamps.items c.self.inside.bits c.args.position c.self.invariant.in_order c.self.invariant.marked (rw (← c.self.view_is) at c.requires) in
+    rw (c.in_ok-set.ensures.ok, c.in-Ok-insert.ensures.items, c.in_ok-reserve.ensures.items) (
+    ends_of-insert c.self.inside.stamps.items c.self.inside.bits c.in-Err.place c.args.position c.args.end free.none
+    ∙ ap (λ (ends : List End). set ends c.args.position (Some (Stamped c.args.end))) c.self.view_is)
