@@ -1,35 +1,44 @@
 -- The ends that bits and stamps stand for.
-use Rattle.std.proofs.Common.{◌≡◌, ◌≢◌, ℕ, zero, suc, ◌+◌, ◌-◌, ◌<◌, ◌≤◌, ◌⊎◌, inl, inr, Bool, true, false, not, cond, leb, ltb, List, [], ◌∷◌, ◌++◌, length, get_or, map, replicate, set, take, drop, Option, None, Some, All, AllPairs, refl, sym, ap, ◌∙◌, arith}
+use Rattle.std.proofs.Common.{◌≡◌, ◌≢◌, ℕ, zero, suc, ◌+◌, ◌<◌, inl, inr, Bool, true, false, not, cond, leb, ltb, List, [], ◌∷◌, length, get_or, map, replicate, set, Option, None, Some, All, refl, sym, ap, ◌∙◌, arith}
 use Rattle.std.specs.List.{count_by, filter, insert, slice_get}
-use Rattle.std.proofs.lemmas.Bool.{cases_eq, cases_lt}
+use Rattle.std.proofs.lemmas.Bool.{cases_lt}
 use Rattle.std.proofs.lemmas.Bool.Decides.{nat_tests}
-use Rattle.std.proofs.lemmas.List.{length-map, length-set, get_or_past, get_or_default, get_or-map, get_or-set_same, get_or-set_other, map-set, set-set, set_comm, set-get_or}
-use Rattle.std.proofs.lemmas.List.Elements.{All-head, All-tail, All-cons, All-append, All-take, All-drop, All-filter}
-use Rattle.std.proofs.lemmas.List.Folds.{sum_by-replicate}
+use Rattle.std.proofs.lemmas.List.{length-map, length-set, get_or_past, get_or-map, get_or-set_same, get_or-set_other, map-set, set-set, set_comm, set-get_or}
+use Rattle.std.proofs.lemmas.List.Elements.{All-head, All-tail, All-filter}
 use Rattle.std.proofs.lemmas.List.Kept.{AllPairs-filter}
 use Rattle.std.proofs.lemmas.List.Sums.{sum_by-cons, sum_by-set}
 use Rattle.delete_bitmap.specs.declared.MarkedEnd.{MarkedEnd}
 use Rattle.delete_bitmap.specs.declared.MarkedEnd.TheVariants.{Plain, Stamped}
 use Rattle.std.proofs.lemmas.Option.{get_or_from_slice_get, slice_get_within, unwrap_or-slice_get}
 use Rattle.delete_bitmap.specs.Marks.{end_at, settled, is_settling, is_removable, is_marked}
-use Rattle.delete_bitmap.specs.Kept.{Stamp, plain_end, ends_of, is_above, AreInOrder, AreKept, no_stamp, IsStampAt, IsGapFor}
+use Rattle.delete_bitmap.specs.Kept.{Stamp, plain_end, ends_of, is_above, AreInOrder, AreKept, no_stamp, IsStampAt}
 
 -- the end of a version, if it has one
 abbrev pub End : Type 0
 End = Option MarkedEnd
 
+-- the bit of the stamp is set
+abbrev pub IsSetIn : List Bool → Stamp → Type 0
+IsSetIn bits s = get_or bits s.0 false ≡ true
+
 -- the bits of the stamps are set
 abbrev pub AreMarked : List Bool → List Stamp → Type 0
-AreMarked bits stamps = All (λ (s : Stamp). get_or bits s.0 false ≡ true) stamps
+AreMarked bits stamps = All (IsSetIn bits) stamps
+
+-- the stamp is of another position
+abbrev pub IsApart : ℕ → Stamp → Type 0
+IsApart p s = s.0 ≢ p
 
 -- no stamp is of the position
 abbrev pub HasNone : ℕ → List Stamp → Type 0
-HasNone p stamps = All (λ (s : Stamp). s.0 ≢ p) stamps
+HasNone p stamps = All (IsApart p) stamps
 
+-- there are as many ends as bits
 pub length-ends_of : (stamps : List Stamp) (bits : List Bool) → length (ends_of stamps bits) ≡ length bits
 length-ends_of [] bits = length-map bits plain_end
 length-ends_of (s ∷ rest) bits = length-set (ends_of rest bits) s.0 (Some (Stamped s.1)) ∙ length-ends_of rest bits
 
+-- stamps in order are so behind the first, and stand at other positions than it
 in_order_tail : (s : Stamp) (rest : List Stamp) → AreInOrder (s ∷ rest) → AreInOrder rest
 in_order_tail s rest up i j d less there = up (suc i) (suc j) d (omega arith) (omega arith)
 
@@ -50,9 +59,9 @@ at_bit [] bits p none = elim (cases_lt p (length bits)) [
   | inr past ↦ get_or_past (map plain_end bits) p None (omega (arith, length-map bits plain_end)) ∙ sym (ap plain_end (get_or_past bits p false past))
 ]
 at_bit (s ∷ rest) bits p none =
-    let apart = All-head (λ (t : Stamp). t.0 ≢ p) s rest none in
+    let apart = All-head (IsApart p) s rest none in
     get_or-set_other (ends_of rest bits) s.0 p (Some (Stamped s.1)) None (λ e. apart (sym e))
-    ∙ at_bit rest bits p (All-tail (λ (t : Stamp). t.0 ≢ p) s rest none)
+    ∙ at_bit rest bits p (All-tail (IsApart p) s rest none)
 
 -- at a stamp it is the stamp's
 pub at_stamp : (stamps : List Stamp) (bits : List Bool) (k : ℕ) (d : Stamp) → AreInOrder stamps → AreMarked bits stamps → k < length stamps
@@ -60,10 +69,10 @@ pub at_stamp : (stamps : List Stamp) (bits : List Bool) (k : ℕ) (d : Stamp) �
 at_stamp [] bits k d up marked there = absurd (omega arith)
 at_stamp (s ∷ rest) bits zero d up marked there =
     get_or-set_same (ends_of rest bits) s.0 (Some (Stamped s.1)) None
-    (omega (arith, length-ends_of rest bits, set_within bits s.0 (All-head (λ (t : Stamp). get_or bits t.0 false ≡ true) s rest marked)))
+    (omega (arith, length-ends_of rest bits, set_within bits s.0 (All-head (IsSetIn bits) s rest marked)))
 at_stamp (s ∷ rest) bits (suc k) d up marked there =
     get_or-set_other (ends_of rest bits) s.0 (get_or rest k d).0 (Some (Stamped s.1)) None (later s rest up k d (omega arith))
-    ∙ at_stamp rest bits k d (in_order_tail s rest up) (All-tail (λ (t : Stamp). get_or bits t.0 false ≡ true) s rest marked) (omega arith)
+    ∙ at_stamp rest bits k d (in_order_tail s rest up) (All-tail (IsSetIn bits) s rest marked) (omega arith)
 
 -- under a stamp lies a plain end
 plain_under : (s : Stamp) (rest : List Stamp) (bits : List Bool) → HasNone s.0 rest → get_or bits s.0 false ≡ true → get_or (ends_of rest bits) s.0 None ≡ Some Plain
@@ -119,8 +128,8 @@ end-stamp stamps bits p place up marked at =
 pub ends_of-set : (stamps : List Stamp) (bits : List Bool) (p : ℕ) → HasNone p stamps → ends_of stamps (set bits p true) ≡ set (ends_of stamps bits) p (Some Plain)
 ends_of-set [] bits p none = map-set plain_end bits p true
 ends_of-set (s ∷ rest) bits p none =
-    ap (λ (ends : List End). set ends s.0 (Some (Stamped s.1))) (ends_of-set rest bits p (All-tail (λ (t : Stamp). t.0 ≢ p) s rest none))
-    ∙ set_comm (ends_of rest bits) p s.0 (Some Plain) (Some (Stamped s.1)) (λ e. All-head (λ (t : Stamp). t.0 ≢ p) s rest none (sym e))
+    ap (λ (ends : List End). set ends s.0 (Some (Stamped s.1))) (ends_of-set rest bits p (All-tail (IsApart p) s rest none))
+    ∙ set_comm (ends_of rest bits) p s.0 (Some Plain) (Some (Stamped s.1)) (λ e. All-head (IsApart p) s rest none (sym e))
 
 -- a new stamp at any place sets the end of its position
 pub ends_of-insert : (stamps : List Stamp) (bits : List Bool) (place p commit : ℕ) → HasNone p stamps
@@ -130,9 +139,10 @@ ends_of-insert stamps bits zero p commit none =
 ends_of-insert [] bits (suc place) p commit none =
     ap (λ (ends : List End). set ends p (Some (Stamped commit))) (ends_of-set [] bits p none) ∙ set-set (ends_of [] bits) p (Some Plain) (Some (Stamped commit))
 ends_of-insert (s ∷ rest) bits (suc place) p commit none =
-    ap (λ (ends : List End). set ends s.0 (Some (Stamped s.1))) (ends_of-insert rest bits place p commit (All-tail (λ (t : Stamp). t.0 ≢ p) s rest none))
-    ∙ set_comm (ends_of rest bits) p s.0 (Some (Stamped commit)) (Some (Stamped s.1)) (λ e. All-head (λ (t : Stamp). t.0 ≢ p) s rest none (sym e))
+    ap (λ (ends : List End). set ends s.0 (Some (Stamped s.1))) (ends_of-insert rest bits place p commit (All-tail (IsApart p) s rest none))
+    ∙ set_comm (ends_of rest bits) p s.0 (Some (Stamped commit)) (Some (Stamped s.1)) (λ e. All-head (IsApart p) s rest none (sym e))
 
+-- plain ends stay as they are
 settled-plain : (floor : ℕ) (bits : List Bool) → map (settled floor) (map plain_end bits) ≡ map plain_end bits
 settled-plain floor [] = refl
 settled-plain floor (true ∷ bits) = ap (λ (ends : List End). Some Plain ∷ ends) (settled-plain floor bits)
@@ -148,12 +158,12 @@ pub settled-ends_of : (floor : ℕ) (stamps : List Stamp) (bits : List Bool) →
 settled-ends_of floor [] bits up marked = sym (settled-plain floor bits)
 settled-ends_of floor (s ∷ rest) bits up marked =
     ap (λ (t : Bool). ends_of (cond t (s ∷ filter (is_above floor) rest) (filter (is_above floor) rest)) bits) (above-leb floor s.1)
-    ∙ step (settled-ends_of floor rest bits (in_order_tail s rest up) (All-tail (λ (t : Stamp). get_or bits t.0 false ≡ true) s rest marked)) (leb s.1 floor) refl
+    ∙ step (settled-ends_of floor rest bits (in_order_tail s rest up) (All-tail (IsSetIn bits) s rest marked)) (leb s.1 floor) refl
   where
     under : get_or (ends_of (filter (is_above floor) rest) bits) s.0 None ≡ Some Plain
     under =
-        plain_under s (filter (is_above floor) rest) bits (All-filter (is_above floor) (λ (t : Stamp). t.0 ≢ s.0) rest (later s rest up))
-        (All-head (λ (t : Stamp). get_or bits t.0 false ≡ true) s rest marked)
+        plain_under s (filter (is_above floor) rest) bits (All-filter (is_above floor) (IsApart s.0) rest (later s rest up))
+        (All-head (IsSetIn bits) s rest marked)
 
     step : ends_of (filter (is_above floor) rest) bits ≡ map (settled floor) (ends_of rest bits) → (t : Bool) → leb s.1 floor ≡ t
         → ends_of (cond (not t) (s ∷ filter (is_above floor) rest) (filter (is_above floor) rest)) bits ≡ map (settled floor) (set (ends_of rest bits) s.0 (Some (Stamped s.1)))
@@ -174,7 +184,7 @@ settled-ends_of floor (s ∷ rest) bits up marked =
 count_stamp : (p : End → Bool) (s : Stamp) (rest : List Stamp) (bits : List Bool) → AreInOrder (s ∷ rest) → AreMarked bits (s ∷ rest)
     → count_by p (ends_of (s ∷ rest) bits) + cond (p (Some Plain)) 1 0 ≡ count_by p (ends_of rest bits) + cond (p (Some (Stamped s.1))) 1 0
 count_stamp p s rest bits up marked =
-    let is = All-head (λ (t : Stamp). get_or bits t.0 false ≡ true) s rest marked in
+    let is = All-head (IsSetIn bits) s rest marked in
     let within : s.0 < length (ends_of rest bits) = omega (arith, length-ends_of rest bits, set_within bits s.0 is) in
     ap (λ (end : End). count_by p (ends_of (s ∷ rest) bits) + cond (p end) 1 0) (sym (plain_under s rest bits (later s rest up) is))
     ∙ sum_by-set (λ (end : End). cond (p end) 1 0) (ends_of rest bits) s.0 (Some (Stamped s.1)) None within
@@ -195,11 +205,12 @@ count-none p plain none [] = refl
 count-none p plain none (true ∷ bits) = sum_by-cons (λ (end : End). cond (p end) 1 0) (Some Plain) (map plain_end bits) ∙ rw (plain, count-none p plain none bits) refl
 count-none p plain none (false ∷ bits) = sum_by-cons (λ (end : End). cond (p end) 1 0) None (map plain_end bits) ∙ rw (none, count-none p plain none bits) refl
 
+-- each bit that is set is an end
 pub count-marked : (stamps : List Stamp) (bits : List Bool) → AreInOrder stamps → AreMarked bits stamps → count_by is_marked (ends_of stamps bits) ≡ count_by (λ (bit : Bool). bit) bits
 count-marked [] bits up marked = count-plain is_marked refl refl bits
 count-marked (s ∷ rest) bits up marked =
     let stamp = count_stamp is_marked s rest bits up marked in
-    let before = count-marked rest bits (in_order_tail s rest up) (All-tail (λ (t : Stamp). get_or bits t.0 false ≡ true) s rest marked) in
+    let before = count-marked rest bits (in_order_tail s rest up) (All-tail (IsSetIn bits) s rest marked) in
     omega (arith, stamp, before)
 
 -- how many stamps are above the floor
@@ -210,12 +221,13 @@ above-cons : (floor : ℕ) (s : Stamp) (rest : List Stamp) → above_in floor (s
 above-cons floor s rest =
     sum_by-cons (λ (t : Stamp). cond (is_above floor t) 1 0) s rest ∙ ap (λ (t : Bool). cond t 1 0 + above_in floor rest) (above-leb floor s.1)
 
+-- the ends that settle are those of the stamps that are not above the floor
 pub count-settling : (floor : ℕ) (stamps : List Stamp) (bits : List Bool) → AreInOrder stamps → AreMarked bits stamps
     → count_by (is_settling floor) (ends_of stamps bits) + length (filter (is_above floor) stamps) ≡ length stamps
 count-settling floor [] bits up marked = rw (count-none (is_settling floor) refl refl bits) refl
 count-settling floor (s ∷ rest) bits up marked =
     ap (λ (t : Bool). count_by (is_settling floor) (ends_of (s ∷ rest) bits) + length (cond t (s ∷ filter (is_above floor) rest) (filter (is_above floor) rest))) (above-leb floor s.1)
-    ∙ step (count-settling floor rest bits (in_order_tail s rest up) (All-tail (λ (t : Stamp). get_or bits t.0 false ≡ true) s rest marked)) (leb s.1 floor) (count_stamp (is_settling floor) s rest bits up marked)
+    ∙ step (count-settling floor rest bits (in_order_tail s rest up) (All-tail (IsSetIn bits) s rest marked)) (leb s.1 floor) (count_stamp (is_settling floor) s rest bits up marked)
   where
     step : count_by (is_settling floor) (ends_of rest bits) + length (filter (is_above floor) rest) ≡ length rest
         → (t : Bool) → count_by (is_settling floor) (ends_of (s ∷ rest) bits) + 0 ≡ count_by (is_settling floor) (ends_of rest bits) + cond t 1 0
@@ -223,11 +235,12 @@ count-settling floor (s ∷ rest) bits up marked =
     step before true stamp = omega (arith, stamp, before)
     step before false stamp = omega (arith, stamp, before)
 
+-- all ends are removable but those of the stamps above the floor
 pub count-removable : (floor : ℕ) (stamps : List Stamp) (bits : List Bool) → AreInOrder stamps → AreMarked bits stamps
     → count_by (is_removable floor) (ends_of stamps bits) + above_in floor stamps ≡ count_by (λ (bit : Bool). bit) bits
 count-removable floor [] bits up marked = rw (count-plain (is_removable floor) refl refl bits) (omega arith)
 count-removable floor (s ∷ rest) bits up marked =
-    step (count-removable floor rest bits (in_order_tail s rest up) (All-tail (λ (t : Stamp). get_or bits t.0 false ≡ true) s rest marked)) (leb s.1 floor) (count_stamp (is_removable floor) s rest bits up marked) (above-cons floor s rest)
+    step (count-removable floor rest bits (in_order_tail s rest up) (All-tail (IsSetIn bits) s rest marked)) (leb s.1 floor) (count_stamp (is_removable floor) s rest bits up marked) (above-cons floor s rest)
   where
     step : count_by (is_removable floor) (ends_of rest bits) + above_in floor rest ≡ count_by (λ (bit : Bool). bit) bits
         → (t : Bool) → count_by (is_removable floor) (ends_of (s ∷ rest) bits) + 1 ≡ count_by (is_removable floor) (ends_of rest bits) + cond t 1 0
@@ -240,20 +253,14 @@ map-replicate : (n : ℕ) → map plain_end (replicate n false) ≡ replicate n 
 map-replicate zero = refl
 map-replicate (suc n) = ap (λ (ends : List End). None ∷ ends) (map-replicate n)
 
--- no bit and no stamp
+-- without a bit that is set and without stamps there is no end
 pub ends_of-none : (n : ℕ) → ends_of [] (replicate n false) ≡ replicate n None
 ends_of-none n = map-replicate n
 
-pub AreKept-none : (n : ℕ) → AreKept (replicate n false) [] 0
-AreKept-none n = record {
-  in_order = λ i j d less there. absurd (omega arith);
-  marked = λ k d there. absurd (omega arith);
-  counted = sym (sum_by-replicate (λ (bit : Bool). cond bit 1 0) n false ∙ omega arith);
-}
-
+-- stamps that are dropped leave what is kept true
 pub AreKept-filter : (floor : ℕ) (bits : List Bool) (stamps : List Stamp) (count : ℕ) → AreKept bits stamps count → AreKept bits (filter (is_above floor) stamps) count
 AreKept-filter floor bits stamps count kept = record {
   in_order = AllPairs-filter (λ (s t : Stamp). s.0 < t.0) (is_above floor) stamps kept.in_order;
-  marked = All-filter (is_above floor) (λ (s : Stamp). get_or bits s.0 false ≡ true) stamps kept.marked;
+  marked = All-filter (is_above floor) (IsSetIn bits) stamps kept.marked;
   counted = kept.counted;
 }

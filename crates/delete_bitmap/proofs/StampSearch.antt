@@ -1,9 +1,9 @@
 -- What a search among stamps finds, and a new stamp at the place that it gives.
-use Rattle.std.proofs.Common.{◌≡◌, ◌≢◌, ℕ, ◌+◌, ◌-◌, ◌<◌, ◌≤◌, Bool, true, false, cond, List, length, get_or, set, take, drop, All, AllPairs, Result, Ok, Err, IfOk, IfErr, refl, sym, ap, subst, ◌∙◌, inl, inr, arith}
+use Rattle.std.proofs.Common.{◌≡◌, ℕ, ◌+◌, ◌-◌, ◌<◌, ◌≤◌, Bool, true, false, cond, List, length, get_or, set, take, drop, Result, Ok, Err, IfOk, IfErr, sym, ap, subst, ◌∙◌, inl, inr, arith}
 use Rattle.std.specs.List.{count_by, insert}
 use Rattle.std.specs.List.Sorted.{IsSearchInRange, IsBinarySearchResult, IsNonDecreasingBy}
 use Rattle.std.specs.Ordering.{nat_cmp, ordering_index}
-use Rattle.std.proofs.lemmas.Bool.{cases_eq, cases_lt}
+use Rattle.std.proofs.lemmas.Bool.{cases_lt}
 use Rattle.std.proofs.lemmas.Bool.Decides.{nat_tests}
 use Rattle.std.proofs.lemmas.Cmp.{ranked}
 use Rattle.std.proofs.lemmas.List.{get_or_default, get_or-set_same, get_or-set_other}
@@ -11,7 +11,7 @@ use Rattle.std.proofs.lemmas.List.Edits.{length-insert, get_or-insert_below, get
 use Rattle.std.proofs.lemmas.List.Elements.{All-append, All-cons, All-take, All-drop, All-weaker}
 use Rattle.std.proofs.lemmas.List.Sums.{sum_by-set}
 use Rattle.delete_bitmap.specs.Kept.{Stamp, AreInOrder, AreKept, no_stamp, IsStampAt, IsGapFor}
-use Rattle.delete_bitmap.proofs.EndLemmas.{AreMarked, HasNone}
+use Rattle.delete_bitmap.proofs.EndLemmas.{AreMarked, HasNone, IsSetIn}
 
 rises : (a b p : ℕ) → a ≤ b → ordering_index (nat_cmp a p) ≤ ordering_index (nat_cmp b p)
 rises a b p h = grind (arith, nat_tests)
@@ -58,10 +58,7 @@ HasNone-gap stamps p place gap k d there same =
       | inr more ↦ let l = gap.greater_after k more there in absurd (omega arith)
     ]
 
--- the bit of a stamp is set
-abbrev IsSetIn : List Bool → Stamp → Type 0
-IsSetIn bits s = get_or bits s.0 false ≡ true
-
+-- a bit that is set besides leaves the stamps at bits that are set
 stays_marked : (bits : List Bool) (stamps : List Stamp) (p : ℕ) → get_or bits p false ≡ false → AreMarked bits stamps → AreMarked (set bits p true) stamps
 stays_marked bits stamps p unset marked = All-weaker (IsSetIn bits) (IsSetIn (set bits p true)) stays stamps marked
   where

@@ -1,10 +1,10 @@
 -- What a look-up finds in a list of pairs, and what an edit of the list does to it.
-use Rattle.std.proofs.Common.{◌≡◌, ℕ, ℤ, zero, suc, ◌<◌, ◌≤◌, ◌≢◌, ◌⊎◌, Bool, true, false, cond, List, [], ◌∷◌, length, get_or, set, Some, None, refl, sym, ap, ◌∙◌, inl, inr, arith}
+use Rattle.std.proofs.Common.{◌≡◌, ℕ, ℤ, zero, suc, ◌<◌, ◌≢◌, ◌⊎◌, Bool, true, false, cond, List, [], ◌∷◌, length, get_or, set, Some, None, refl, sym, ap, ◌∙◌, inl, inr, arith}
 use Rattle.std.specs.List.{insert}
 use Rattle.std.specs.Ordering.{int_eq}
 use Rattle.std.proofs.lemmas.Bool.Decides.{Decides-int_eq, not_from_Decides}
 use Rattle.cs_types.specs.declared.Key.{Key}
-use Rattle.delta_store.specs.Index.{place_in, key_at, no_pair, IsAt, AreInOrder, SetsOnly}
+use Rattle.delta_store.specs.Index.{place_in, key_at, no_pair, IsAt, SetsOnly}
 
 -- the test on keys with what it tells, for grind
 pub int_tells : (a b : ℤ) → ((int_eq a b ≡ true) × (a ≡ b)) ⊎ ((int_eq a b ≡ false) × (a ≢ b))

@@ -1,14 +1,13 @@
 -- What a search finds among sorted pairs, and what an edit at that place does.
-use Rattle.std.proofs.Common.{◌≡◌, ℕ, ℤ, ◌+◌, ◌-◌, ◌<◌, ◌≤◌, ◌<ℤ◌, List, length, get_or, set, Some, None, Result, Ok, Err, IfOk, IfErr, refl, sym, ap, inl, inr, subst, arith}
+use Rattle.std.proofs.Common.{◌≡◌, ℕ, ℤ, ◌+◌, ◌-◌, ◌<◌, ◌≤◌, ◌<ℤ◌, List, length, get_or, set, Some, None, Result, Ok, Err, IfOk, IfErr, sym, ap, inl, inr, subst, arith}
 use Rattle.std.specs.List.{insert}
 use Rattle.std.specs.List.Sorted.{IsSearchInRange, IsBinarySearchResult, IsNonDecreasingBy}
 use Rattle.std.specs.Ordering.{int_cmp, ordering_index}
-use Rattle.std.proofs.lemmas.Cmp.{int_ranked, int_cmp_total}
+use Rattle.std.proofs.lemmas.Cmp.{int_ranked}
 use Rattle.std.proofs.lemmas.Int.{ints}
 use Rattle.std.proofs.lemmas.Bool.{cases_lt}
 use Rattle.std.proofs.lemmas.List.Sorted.{IsNonDecreasingBy-from_default}
 use Rattle.std.proofs.lemmas.List.Edits.{length-insert, get_or-insert_below, get_or-insert_at, get_or-insert_above}
-use Rattle.std.proofs.lemmas.Grind.{common_steps}
 use Rattle.cs_types.specs.declared.Key.{Key}
 use Rattle.delta_store.specs.Index.{place_in, key_at, no_pair, AreInOrder, IsAt, IsGapFor, SetsOnly}
 use Rattle.delta_store.proofs.Pairs.{NoKeyBefore, place_in-absent, place_in-present, place_in-set, place_in-insert}

@@ -4,16 +4,18 @@ use Rattle.std.specs.Ordering.{int_eq}
 use Rattle.std.proofs.lemmas.Bool.Decides.{Decides-int_eq}
 use Rattle.cs_types.specs.declared.Key.{Key}
 use Rattle.delta_store.specs.declared.store.KeyedVersion.{KeyedVersion}
-use Rattle.delta_store.specs.Index.{SetsOnly}
+use Rattle.delta_store.specs.Index.{SetsOnly, place_in}
 use Rattle.delta_store.specs.Versions.{is_of, is_live, has_live, ended_at, is_ended, IsLastPlace}
 use Rattle.delta_store.specs.Places.{one_on, last_place, AreEndedButLast, IsIndexed}
 
+-- keys that test alike are one, and one key tests alike
 pub key_is : (a b : Key) → int_eq a.0 b.0 ≡ true → a ≡ b
 key_is a b is = ap (λ (z : ℤ). let k : Key = record { 0 = z } in k) ((Decides-int_eq a.0 b.0).0 is)
 
 key_itself : (a b : Key) → a ≡ b → int_eq b.0 a.0 ≡ true
 key_itself a b is = (Decides-int_eq b.0 a.0).1 (ap (λ (k : Key). k.0) (sym is))
 
+-- the place behind the last version is that of its key, and every other key keeps its place
 last_place-push_step : (o : Option ℕ) (t s : Bool) (n : ℕ) → one_on (cond t (Some n) o) s ≡ cond t (Some (n + 1)) (one_on o s)
 last_place-push_step o true s n = refl
 last_place-push_step o false s n = refl
@@ -26,10 +28,7 @@ last_place-push [] v q = step (is_of q v)
     step false = refl
 last_place-push (u ∷ vs) v q = rw (last_place-push vs v q) (last_place-push_step (last_place vs q) (is_of q v) (is_of q u) (length vs) ∙ ap (λ n. cond (is_of q v) (Some n) (one_on (last_place vs q) (is_of q u))) (omega arith))
 
-none_or : (t : Bool) → (t || true) ≡ true
-none_or true = refl
-none_or false = refl
-
+-- a version behind them all leaves the others ended but the last of each key, where its key has no live version
 ended-push_step : (u v : KeyedVersion) (vs : List KeyedVersion) (t : Bool) → is_of u.key v ≡ t → (is_live v.key u || has_live v.key vs) ≡ false → (is_none (last_place vs u.key) || is_ended u) ≡ true → (is_none (cond t (Some (length vs)) (last_place vs u.key)) || is_ended u) ≡ true
 ended-push_step u v vs false is dead was = was
 ended-push_step u v vs true is dead was = step (is_of v.key u) u.version.end (key_itself v.key u.key (key_is v.key u.key is)) dead
@@ -50,14 +49,15 @@ ended-push (u ∷ vs) v ended dead = (
   ended-push vs v ended.1 (dead_rest (is_live v.key u) (has_live v.key vs) dead),
 )
 
+-- an index that was given the place of the new version has the last places
 pub IsIndexed-push : (vs : List KeyedVersion) (v : KeyedVersion) (old new : List (Key × ℕ)) → SetsOnly old new v.key (length vs) → has_live v.key vs ≡ false → IsIndexed vs old → IsIndexed (vs ++ v ∷ []) new
 IsIndexed-push vs v old new sets dead ok = record {
   places = λ q. sets q ∙ ap (λ (o : Option ℕ). cond (is_of q v) (Some (length vs)) o) (ok.places q) ∙ sym (last_place-push vs v q);
   ended = ended-push vs v ok.ended dead;
 }
 
--- a key that no version has
-pub dead_absent_step : (o : Option ℕ) (s n l : Bool) → one_on o s ≡ None → (o ≡ None → l ≡ false) → ((s && n) || l) ≡ false
+-- a key without a last place has no live version, and nothing changes where it is ended
+dead_absent_step : (o : Option ℕ) (s n l : Bool) → one_on o s ≡ None → (o ≡ None → l ≡ false) → ((s && n) || l) ≡ false
 dead_absent_step (Some p) s n l is rest = cc
 dead_absent_step None true n l is rest = cc
 dead_absent_step None false n l is rest = rest refl
@@ -66,11 +66,13 @@ pub dead_absent : (vs : List KeyedVersion) (q : Key) → last_place vs q ≡ Non
 dead_absent [] q is = refl
 dead_absent (v ∷ vs) q is = dead_absent_step (last_place vs q) (is_of q v) (is_none v.version.end) (has_live q vs) is (dead_absent vs q)
 
+-- a key that has no place among some versions has none among those behind the first
 none_rest : (o : Option ℕ) (s : Bool) → one_on o s ≡ None → (o ≡ None) × (s ≡ false)
 none_rest (Some p) s is = cc
 none_rest None true is = cc
 none_rest None false is = (refl, refl)
 
+-- a version of another key, and one that is not live, stays as it is
 ended_at-other : (v : KeyedVersion) (q : Key) (e : ℕ) → is_of q v ≡ false → ended_at q e v ≡ v
 ended_at-other v q e is = rw is refl
 
@@ -80,7 +82,8 @@ map-absent (v ∷ vs) q e is =
     let parts = none_rest (last_place vs q) (is_of q v) is in
     rw (ended_at-other v q e parts.1, map-absent vs q e parts.0) refl
 
-pub last_place_below : (vs : List KeyedVersion) (q : Key) (p : ℕ) → last_place vs q ≡ Some p → p < length vs
+-- a last place is a place that is there
+last_place_below : (vs : List KeyedVersion) (q : Key) (p : ℕ) → last_place vs q ≡ Some p → p < length vs
 last_place_below [] q p is = cc
 last_place_below (v ∷ vs) q p is = step (last_place vs q) (is_of q v) (last_place_below vs q) is
   where
@@ -105,7 +108,7 @@ ended_at-settled : (v : KeyedVersion) (q : Key) (e : ℕ) → is_live q v ≡ fa
 ended_at-settled v q e dead = rw dead refl
 
 -- the live version of a key stands at its last place
-pub live_at : (vs : List KeyedVersion) (q : Key) (p : ℕ) (d : KeyedVersion) → AreEndedButLast vs → last_place vs q ≡ Some p → has_live q vs ≡ is_live q (get_or vs p d)
+live_at : (vs : List KeyedVersion) (q : Key) (p : ℕ) (d : KeyedVersion) → AreEndedButLast vs → last_place vs q ≡ Some p → has_live q vs ≡ is_live q (get_or vs p d)
 live_at [] q p d ended is = cc
 live_at (v ∷ vs) q p d ended is = step (last_place vs q) (is_of q v) p refl is (λ r r_is. live_at vs q r d ended.1 r_is) (dead_absent vs q)
   where
@@ -122,7 +125,8 @@ live_at (v ∷ vs) q p d ended is = step (last_place vs q) (is_of q v) p refl is
         or-false false = refl
     step None false p o_is is rest none = cc
 
-pub map_at : (vs : List KeyedVersion) (q : Key) (e p : ℕ) (d : KeyedVersion) → AreEndedButLast vs → last_place vs q ≡ Some p → map (ended_at q e) vs ≡ set vs p (ended_at q e (get_or vs p d))
+-- to end the version at the last place of a key is to end its live version
+map_at : (vs : List KeyedVersion) (q : Key) (e p : ℕ) (d : KeyedVersion) → AreEndedButLast vs → last_place vs q ≡ Some p → map (ended_at q e) vs ≡ set vs p (ended_at q e (get_or vs p d))
 map_at [] q e p d ended is = cc
 map_at (v ∷ vs) q e p d ended is = step (last_place vs q) (is_of q v) p refl is (λ r r_is. map_at vs q e r d ended.1 r_is) (map-absent vs q e)
   where
@@ -135,6 +139,7 @@ map_at (v ∷ vs) q e p d ended is = step (last_place vs q) (is_of q v) p refl i
         rw (← same, none o_is) refl
     step None false p o_is is rest none = cc
 
+-- an end moves no place
 pub last_place-map : (vs : List KeyedVersion) (q k : Key) (e : ℕ) → last_place (map (ended_at q e) vs) k ≡ last_place vs k
 last_place-map [] q k e = refl
 last_place-map (v ∷ vs) q k e = ap (λ (o : Option ℕ). one_on o (is_of k v)) (last_place-map vs q k e)
@@ -188,3 +193,22 @@ IsLastPlace-last_place (v ∷ vs) q = step (last_place vs q) (is_of q v) refl (I
         all : (k : ℕ) (d : KeyedVersion) → k < length (v ∷ vs) → (get_or (v ∷ vs) k d).key ≢ q
         all zero d below = λ same. differ (sym (key_itself q v.key (sym same)) ∙ is)
         all (suc k) d below = none k d (omega arith)
+
+-- the place that an index has for a key is that of its live version, if there is one
+module _ (vs : List KeyedVersion) (pairs : List (Key × ℕ)) (q : Key) (e p : ℕ) (ok : IsIndexed vs pairs) (has : place_in pairs q ≡ Some p) where
+  at : last_place vs q ≡ Some p
+  at = sym (ok.places q) ∙ has
+
+  pub there : p < length vs
+  there = last_place_below vs q p at
+
+  pub live_there : (v : KeyedVersion) → has_live q vs ≡ is_live q (get_or vs p v)
+  live_there v = live_at vs q p v ok.ended at
+
+  -- to end it in place is to end the key's live version
+  pub ended_there : (v w : KeyedVersion) → v ≡ get_or vs p v → w ≡ ended_at q e v → set vs p w ≡ map (ended_at q e) vs
+  ended_there v w read ended = ap (λ (x : KeyedVersion). set vs p x) (ended ∙ ap (ended_at q e) read) ∙ sym (map_at vs q e p v ok.ended at)
+
+-- a key without a place has no version
+pub absent : (vs : List KeyedVersion) (pairs : List (Key × ℕ)) (q : Key) → IsIndexed vs pairs → place_in pairs q ≡ None → last_place vs q ≡ None
+absent vs pairs q ok has = sym (ok.places q) ∙ has

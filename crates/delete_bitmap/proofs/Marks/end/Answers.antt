@@ -1,4 +1,4 @@
-use Rattle.std.proofs.Common.{◌≡◌, ℕ, Some, true, false, get_or, sym, ap, ◌∙◌}
+use Rattle.std.proofs.Common.{Some, sym, ap, ◌∙◌}
 use Rattle.std.proofs.lemmas.List.{get_or_default}
 use Rattle.delete_bitmap.specs.declared.MarkedEnd.TheVariants.{Stamped}
 use Rattle.delete_bitmap.specs.Kept.{Stamp, no_stamp}

@@ -1,8 +1,7 @@
 use Rattle.std.proofs.Common.{List, Bool, Some, true, set, ap, ◌∙◌, arith}
-use Rattle.std.specs.List.{count_by}
 use Rattle.std.proofs.lemmas.List.Sums.{count_by-le-length}
 use Rattle.delete_bitmap.specs.declared.MarkedEnd.TheVariants.{Stamped}
-use Rattle.delete_bitmap.specs.Kept.{no_stamp, ends_of}
+use Rattle.delete_bitmap.specs.Kept.{no_stamp}
 use Rattle.delete_bitmap.proofs.EndLemmas.{End, IsFree-unmarked, ends_of-insert}
 use Rattle.delete_bitmap.proofs.StampSearch.{count-set, AreKept-insert}
 use Rattle.delete_bitmap.proofs.Marks.mark.Goals as goal

@@ -1,4 +1,4 @@
-use Rattle.std.proofs.Common.{arith, ap, ◌∙◌}
+use Rattle.std.proofs.Common.{arith}
 use Rattle.delete_bitmap.proofs.EndLemmas.{settled-ends_of, count-settling, AreKept-filter}
 use Rattle.delete_bitmap.proofs.Marks.settle.Goals as goal
 

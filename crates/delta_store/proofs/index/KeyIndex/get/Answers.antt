@@ -1,6 +1,6 @@
-use Rattle.std.proofs.Common.{sym, subst, arith}
+use Rattle.std.proofs.Common.{sym, arith}
 use Rattle.std.proofs.lemmas.List.{get_or_default}
-use Rattle.delta_store.specs.Index.{AreInOrder, Index, no_pair}
+use Rattle.delta_store.specs.Index.{no_pair}
 use Rattle.delta_store.proofs.Search.{place_at, no_place}
 use Rattle.delta_store.proofs.index.KeyIndex.get.Goals as goal
 

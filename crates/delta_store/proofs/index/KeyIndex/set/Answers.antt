@@ -1,5 +1,3 @@
-use Rattle.std.proofs.Common.{subst, arith}
-use Rattle.delta_store.specs.Index.{AreInOrder}
 use Rattle.delta_store.proofs.Search.{sets_only_set, sorted_insert, sets_only_insert}
 use Rattle.delta_store.proofs.index.KeyIndex.set.Goals as goal
 

@@ -1,4 +1,4 @@
-use Rattle.std.proofs.Common.{refl, rules, None, ◌≡◌, length}
+use Rattle.std.proofs.Common.{rules, None, ◌≡◌, length}
 use Rattle.delta_store.proofs.VersionLemmas.{IsIndexed-push}
 use Rattle.delta_store.proofs.store.Delta.insert.Goals as goal
 
