@@ -7,7 +7,7 @@ use std::marker::Model;
 
 /// A bit for each position, in words of 64 bits, the lowest bit of the first word first. Contracts see the list of
 /// bits. It takes no room until a bit is set, and keeps its allocator.
-#[derive(Drop)]
+#[derive(Debug, Drop)]
 pub struct Bits {
     length: usize,
     words: Vec<u64>,

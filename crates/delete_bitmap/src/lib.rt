@@ -28,7 +28,7 @@ pub enum MarkedEnd {
 
 /// The ends of a group's versions, by position: a bit says whether there is one, and a stamp at which commit where it
 /// is not plain. A group without ended versions takes no room. It keeps its allocator.
-#[derive(Drop)]
+#[derive(Debug, Drop)]
 pub struct Marks {
     /// Set where the version has ended.
     bits: Bits,

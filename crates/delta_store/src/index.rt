@@ -7,7 +7,7 @@ use std::marker::Model;
 
 /// A place for each key, in the order of keys. Contracts see the pairs of key and place, and beside them `spare`, the
 /// number of keys that find room without memory.
-#[derive(Drop)]
+#[derive(Debug, Drop)]
 pub struct KeyIndex {
     pairs: Vec<(Key, usize)>,
 }

@@ -43,7 +43,7 @@ impl KeyedVersion {
 
 /// A delta store that takes rows. Contracts see its versions with their keys, in the order in which they came, and
 /// beside them `spare`, the number of versions that find room without memory. It keeps its allocator.
-#[derive(Drop)]
+#[derive(Debug, Drop)]
 pub struct Delta {
     versions: Vec<KeyedVersion>,
     /// The last place of each key.
@@ -162,7 +162,7 @@ impl Delta {
 }
 
 /// A delta store that takes no more rows. Contracts see its versions with their keys, in the order in which they came.
-#[derive(Drop)]
+#[derive(Debug, Drop)]
 pub struct Frozen {
     versions: Vec<KeyedVersion>,
     /// The last place of each key.
