@@ -42,4 +42,7 @@ ended_at key end v =
 -- the place of the last version of the key, none where it has no version
 abbrev pub IsLastPlace : List KeyedVersion → Key → Option ℕ → Type 0
 IsLastPlace versions key None = All (λ v. v.key ≢ key) versions
-IsLastPlace versions key (Some place) = (place < length versions) × HoldsAt (λ v. v.key ≡ key) versions place × AllWithin (λ v. v.key ≢ key) versions (place + 1) (length versions)
+IsLastPlace versions key (Some place) =
+    (place < length versions)
+    × HoldsAt (λ v. v.key ≡ key) versions place
+    × AllWithin (λ v. v.key ≢ key) versions (place + 1) (length versions)
