@@ -6,11 +6,10 @@ use Rattle.delete_bitmap.proofs.BitLemmas.{length-bits_in, bits_in-alike, bits_i
 use Rattle.delete_bitmap.proofs.bits.Bits.set.Goals as goal
 
 pub returns-in_err-cover-clause-small : goal.returns-in_err-cover-clause-small
-returns-in_err-cover-clause-small c = omega (arith, length-bits_in c.self.inside.length c.cover.new.words.items)
+returns-in_err-cover-clause-small c = omega (arith, length-bits_in)
 
 pub returns-clause-small : goal.returns-clause-small
-returns-clause-small c =
-    omega (arith, length-bits_in c.self.inside.length (set c.cover.new.words.items (c.args.position / 64) (bit_or c.index-word.result.now (1 * 2 ^ (c.args.position % 64) % 2 ^ 64))))
+returns-clause-small c = omega (arith, length-bits_in)
 
 pub index-word-requires : goal.index-word-requires
 index-word-requires c =
