@@ -87,13 +87,13 @@ RefusesTable text refusal.Memory = Unit {0}
 
 -- ---- how it is found
 
-abbrev pub Faults : ℕ → CreateTree → ReadRefusal → Type 0
-Faults size tree (refusal.At number at) = IsFaulty size tree number at
-Faults size tree refusal.Memory = Unit {0}
+abbrev pub JudgedTable : ℕ → CreateTree → ReadRefusal → Type 0
+JudgedTable size tree (refusal.At number at) = IsFaulty size tree number at
+JudgedTable size tree refusal.Memory = Unit {0}
 
 abbrev pub JudgesTable : ℕ → CreateTree → Result Schema ReadRefusal → Type 0
 JudgesTable size tree (Ok schema) = Means size tree schema
-JudgesTable size tree (Err e) = Faults size tree e
+JudgesTable size tree (Err e) = JudgedTable size tree e
 
 -- the columns and the keys are those of a tree
 abbrev pub IsWrittenBy : CreateTree → Written → Type 0

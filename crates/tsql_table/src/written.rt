@@ -12,7 +12,9 @@ use tsql_trees::NameTree;
 /// A column as it is written.
 #[derive(Drop)]
 pub struct WrittenColumn {
+    /// Its name.
     pub name: NameTree,
+    /// Its type.
     pub kind: TypeTree,
     /// The place of its first NULL.
     pub null: Option<u32>,
@@ -32,7 +34,9 @@ pub enum WrittenKey {
 /// The columns and the keys of a setup statement, each in order.
 #[derive(Drop)]
 pub struct Written {
+    /// The columns, whatever their number.
     pub columns: Items<WrittenColumn>,
+    /// The keys, of which a statement without faults has one.
     pub keys: Items<WrittenKey>,
 }
 
