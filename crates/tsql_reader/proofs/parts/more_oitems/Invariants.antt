@@ -1,0 +1,13 @@
+use Rattle.std.proofs.Common.{◌≡◌, [], ◌∷◌, length}
+use Rattle.tsql_grammar.specs.declared.terminal.Terminal.TheVariants as terminal
+use Rattle.tsql_grammar.specs.Forms.{many, with_front}
+use Rattle.tsql_grammar.specs.Grammar.{behind, oitem}
+use Rattle.tsql_reader.proofs.parts.more_oitems.Given as goal
+
+abbrev pub invariant-more : goal.invariant-more
+invariant-more l =
+    with_front l.list ((many (behind terminal.CommaSign (oitem l.text))).reads l.reader.rest.now)
+    ≡ with_front (l.fn.first ∷ []) ((many (behind terminal.CommaSign (oitem l.text))).reads l.fn.reader.rest.now)
+
+abbrev pub decreases-more : goal.decreases-more
+decreases-more l = length l.reader.rest.now

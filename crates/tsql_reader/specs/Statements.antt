@@ -1,0 +1,87 @@
+-- The statement that a text is, and where a text that is none is refused.
+use Rattle.std.specs.Prelude.{◌≡◌, ℕ, ◌+◌, List, [], ◌∷◌, length, Bool, false, ◌==◌, ◌&&◌, ◌⊎◌, if◌then◌else◌, Result, Ok, Err, None, Some}
+use Rattle.tsql_trees.specs.declared.statement.Statement.{Statement}
+use Rattle.tsql_tokens.specs.declared.token.Token.{Token}
+use Rattle.tsql_tokens.specs.Tokens.{HasTokens, IsRefused}
+use Rattle.tsql_grammar.specs.declared.terminal.Terminal.TheVariants as terminal
+use Rattle.tsql_grammar.specs.Terminals.{same}
+use Rattle.tsql_grammar.specs.Forms.{Symbols, Form}
+use Rattle.tsql_grammar.specs.Places.{IsRefusedAt, to_end}
+use Rattle.tsql_grammar.specs.Words.{symbols_of}
+use Rattle.tsql_grammar.specs.Grammar.{line}
+use Rattle.tsql_reader.specs.declared.refusal.ReadRefusal.{ReadRefusal}
+use Rattle.tsql_reader.specs.declared.refusal.ReadRefusal.TheVariants as refusal
+use Rattle.tsql_reader.specs.Limits.{passed_limit}
+
+-- a line with a statement, in which at most 64 parentheses are open, as the limits of tokens have it
+unfoldable pub grammar : List ℕ → Form Statement
+grammar text = line text 64
+
+-- a text is a statement where its tokens have it by the grammar, and no list is over a limit
+abbrev pub IsStatement : List ℕ → Statement → Type 0
+IsStatement text statement = (tokens : List Token) × HasTokens text tokens
+    × (grammar text).Has (symbols_of text tokens) statement × (passed_limit (symbols_of text tokens) statement ≡ None)
+
+-- the next token is the second one, and the first is ALTER
+abbrev pub follows_alter : Symbols → Symbols → Bool
+follows_alter [] rest = false
+follows_alter (t ∷ more) rest = same t.terminal terminal.Alter && length more == length rest
+
+-- 50001 at an outside word and at TABLE after ALTER, and else 102
+abbrev pub number_at : Symbols → Symbols → ℕ
+number_at symbols [] = 102
+number_at symbols (t ∷ rest) =
+    if same t.terminal terminal.Outside then 50001
+    else if same t.terminal terminal.Table && follows_alter symbols (t ∷ rest) then 50001
+    else 102
+
+-- the place of the next token; the end stands one past the last byte
+abbrev pub place_at : ℕ → Symbols → ℕ
+place_at size [] = size + 1
+place_at size (t ∷ rest) = t.place
+
+-- the grammar goes on with no statement at the first of the rest
+abbrev pub StopsAt : List ℕ → Symbols → ℕ → ℕ → Type 0
+StopsAt text symbols number at = (rest : Symbols) × IsRefusedAt (grammar text) symbols rest
+    × (number ≡ number_at symbols rest) × (at ≡ place_at (length text) rest)
+
+-- a statement has a list over a limit
+abbrev pub PassesAt : List ℕ → Symbols → ℕ → ℕ → Type 0
+PassesAt text symbols number at = (statement : Statement) × (grammar text).Has symbols statement × (passed_limit symbols statement ≡ Some (number, at))
+
+-- a text is refused by its tokens, and else by the grammar, and else by a limit of its lists
+abbrev pub IsNoStatement : List ℕ → ℕ → ℕ → Type 0
+IsNoStatement text number at = IsRefused text number at
+    ⊎ ((tokens : List Token) × HasTokens text tokens × (StopsAt text (symbols_of text tokens) number at ⊎ PassesAt text (symbols_of text tokens) number at))
+
+-- a refusal is one of the text's
+abbrev pub RefusesStatement : List ℕ → ReadRefusal → Type 0
+RefusesStatement text (refusal.At number at) = IsNoStatement text number at
+RefusesStatement text refusal.Memory = Unit {0}
+
+-- a refusal is this one, unless memory ran out
+abbrev pub AnswersOnly : ℕ → ℕ → ReadRefusal → Type 0
+AnswersOnly number at (refusal.At n place) = (n ≡ number) × (place ≡ at)
+AnswersOnly number at refusal.Memory = Unit {0}
+
+-- ---- how it is found
+
+-- what reading all the symbols gave
+abbrev pub Judged : ℕ → Symbols → ReadRefusal → Result Statement Symbols → Type 0
+Judged size symbols refusal.Memory read = Unit {0}
+Judged size symbols (refusal.At number at) read = (rest : Symbols) × (read ≡ Err rest) × (number ≡ number_at symbols rest) × (at ≡ place_at size rest)
+
+abbrev pub Judges : ℕ → Symbols → Result Statement ReadRefusal → Result Statement Symbols → Type 0
+Judges size symbols (Ok statement) read = read ≡ Ok statement
+Judges size symbols (Err e) read = Judged size symbols e read
+
+-- what reading the symbols of a text gave, and the limits of its lists
+abbrev pub FollowsRefused : List ℕ → Symbols → ReadRefusal → Type 0
+FollowsRefused text symbols refusal.Memory = Unit {0}
+FollowsRefused text symbols (refusal.At number at) =
+    Judged (length text) symbols (refusal.At number at) (to_end ((grammar text).reads symbols))
+    ⊎ ((statement : Statement) × (to_end ((grammar text).reads symbols) ≡ Ok statement) × (passed_limit symbols statement ≡ Some (number, at)))
+
+abbrev pub FollowsTokens : List ℕ → Symbols → Result Statement ReadRefusal → Type 0
+FollowsTokens text symbols (Ok statement) = (to_end ((grammar text).reads symbols) ≡ Ok statement) × (passed_limit symbols statement ≡ None)
+FollowsTokens text symbols (Err e) = FollowsRefused text symbols e

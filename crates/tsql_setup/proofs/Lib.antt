@@ -1,0 +1,2 @@
+pub mod SetupLines
+pub mod CreateClauses

@@ -1,0 +1,5 @@
+pub mod Leftmost
+pub mod Sound
+pub mod TextOrder
+pub mod AllNames
+pub mod TableClauses

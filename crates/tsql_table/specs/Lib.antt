@@ -1,0 +1,4 @@
+pub mod Written
+pub mod Order
+pub mod Faults
+pub mod Tables
