@@ -5,6 +5,7 @@
 #![tactic(auto)]
 
 mod distinct;
+mod marks;
 mod numbers;
 mod texts;
 

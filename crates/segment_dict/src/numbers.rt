@@ -2,7 +2,8 @@ ghost use Rattle.std.specs.Prelude.{◌≡◌, ◌^◌, ◌<◌, ◌↔◌, leng
 ghost use Rattle.std.specs.Ordering.{int_cmp};
 ghost use Rattle.segment_dict.specs.Dictionaries.{Ascends, IsDictOf, HasCell, IsCodeOf, IsPlaceOf, cell_of, codes_of};
 
-use crate::distinct::{distinct, has_null};
+use crate::distinct::has_null;
+use crate::marks::distinct_numbers;
 use cs_base::{Items, Memory};
 use std::alloc::Global;
 
@@ -21,7 +22,7 @@ pub fn numbers_of(alloc: Global, cells: &[Option<i64>]) -> Result<NumberDict, Me
     ensures { IfOk result (λ dict. IsDictOf int_cmp cells.now dict.entries dict.nulls) }
 {
     Ok(NumberDict {
-        entries: Items::from_vec(distinct(alloc, cells)?),
+        entries: Items::from_vec(distinct_numbers(alloc, cells)?),
         nulls: has_null(cells),
     })
 }

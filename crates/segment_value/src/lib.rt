@@ -4,9 +4,25 @@
 //! Larson et al., SIGMOD 2011, describe value encoding.
 #![tactic(auto)]
 
-ghost use Rattle.std.specs.Prelude.{◌≡◌, ◌≤◌, ◌<◌, ◌^◌, ◌↔◌, ℕ, ℤ, List, [], ◌∷◌, ◌++◌, Contains, IsTrue, None, Some, pos, int_div, ◌+ℤ◌, FitsSigned};
+ghost use Rattle.std.specs.Prelude.{◌≡◌, ◌≤◌, ◌<◌, ◌^◌, ◌↔◌, ℕ, ℤ, List, [], ◌∷◌, ◌++◌, Contains, IsTrue, None, Some, pos, int_div, unsigned_abs, ◌%◌, ◌+ℤ◌, FitsSigned};
 ghost use Rattle.std.specs.Int.{w64};
 ghost use Rattle.segment_value.specs.Scales.{numbers_in, Divides, AreBounds, IsRange, IsExponent, IsCommonExponent, IsScaling, Takes, IsCode, code_of, cell_of};
+
+macro_rules! choose {
+    ($exponent:expr, $call:ident $given:tt, $($n:literal)*) => {
+        match $exponent {
+            $($n => $call::<$n> $given,)*
+            _ => unreachable!(),
+        }
+    };
+}
+
+/// A call at an exponent from 0 to 18 that is known only when it runs.
+macro_rules! by_exponent {
+    ($exponent:expr, $call:ident $given:tt) => {
+        choose!($exponent, $call $given, 0 1 2 3 4 5 6 7 8 9 10 11 12 13 14 15 16 17 18)
+    };
+}
 
 /// How a column's numbers are kept as codes.
 #[derive(Debug, Clone, Copy, PartialEq, Eq)]
@@ -119,7 +135,24 @@ fn is_multiple(number: i64, exponent: u32) -> bool
     requires { exponent ≤ 18 }
     ensures { IsTrue result ↔ Divides exponent number }
 {
-    number.unsigned_abs() % power_of_ten(exponent) == 0
+    remainder_of(number, exponent) == 0
+}
+
+/// What the power of ten leaves of the number's size.
+fn remainder_of(number: i64, exponent: u32) -> u64
+    requires { exponent ≤ 18 }
+    ensures { result ≡ unsigned_abs number % 10 ^ exponent }
+{
+    by_exponent!(exponent, remainder(number))
+}
+
+/// As `remainder_of`, at an exponent that is known when it is compiled.
+#[inline(always)]
+fn remainder<const E: u32>(number: i64) -> u64
+    requires { E ≤ 18 }
+    ensures { result ≡ unsigned_abs number % 10 ^ E }
+{
+    number.unsigned_abs() % power_of_ten(E)
 }
 
 /// The number that lies so far above the base. The way there may pass the range of the base.
@@ -135,7 +168,17 @@ fn units_of(number: i64, exponent: u32) -> i64
     requires { exponent ≤ 18 }
     ensures { result ≡ int_div number (pos (10 ^ exponent)) }
 {
-    number / power_of_ten(exponent) as i64
+    by_exponent!(exponent, quotient(number))
+}
+
+/// As `units_of`, at an exponent that is known when it is compiled: a division by a constant takes a tenth of the time
+/// of one by a variable.
+#[inline(always)]
+fn quotient<const E: u32>(number: i64) -> i64
+    requires { E ≤ 18 }
+    ensures { result ≡ int_div number (pos (10 ^ E)) }
+{
+    number / power_of_ten(E) as i64
 }
 
 /// 10 to the power of the exponent.
