@@ -12,7 +12,7 @@ ghost use Rattle.column_segment.specs.Choices.{AreCosts, IsValueBody, IsDictBody
 
 use crate::body::SegmentBody;
 use crate::cell::{has_text, numbers_in, texts_in};
-use crate::dict::{codes_in, greatest_in, has_null, least_in, width_in, words_of};
+use crate::dict::{codes_in, greatest_in, has_null, least_in, number_codes, width_in, words_of};
 use crate::layout::{runs_in, width_of};
 use crate::segment::Segment;
 use bit_pack::pack_width;
@@ -137,7 +137,7 @@ fn number_body(
     let runs = runs_in(cells);
     let by_dict = costs_of(words_of(&dict), cells.len(), width_in(&dict), runs);
     let Some(scale) = scale_of(numbers) else {
-        let codes = codes_in(alloc, &dict, cells)?;
+        let codes = number_codes(alloc, &dict, numbers)?;
         return dict_body(alloc, dict, codes.as_slice(), by_dict);
     };
     let codes = value_codes(alloc, scale, numbers)?;
@@ -145,7 +145,7 @@ fn number_body(
     if fewest(by_scale) <= fewest(by_dict) {
         return value_body(alloc, scale, codes.as_slice(), by_scale);
     }
-    let codes = codes_in(alloc, &dict, cells)?;
+    let codes = number_codes(alloc, &dict, numbers)?;
     dict_body(alloc, dict, codes.as_slice(), by_dict)
 }
 

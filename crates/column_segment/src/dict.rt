@@ -3,7 +3,7 @@ ghost use Rattle.cs_types.specs.declared.Value.{Value as Cell};
 ghost use Rattle.cs_types.specs.declared.Value.TheVariants.{Null};
 ghost use Rattle.column_segment.specs.Cells.{seen, IsLeastCell, IsGreatestCell};
 ghost use Rattle.column_segment.specs.Layouts.{IsLeastWidth};
-ghost use Rattle.column_segment.specs.Dicts.{dict_cell, dict_codes, dict_nulls, dict_words, HasEntry, IsDictFor, IsDictCode, AreDictCodes};
+ghost use Rattle.column_segment.specs.Dicts.{dict_cell, dict_codes, dict_nulls, dict_words, HasEntry, IsDictFor, IsDictCode, AreDictCodes, HasNumbers, AreNumberCodes};
 
 use crate::cell::{CellRef, as_number, as_text, number_shown};
 use crate::layout::bits_of;
@@ -47,6 +47,17 @@ pub fn codes_in(alloc: Global, dict: &Dict, cells: &[Value]) -> Result<Vec<u64>,
         codes.push(code_for(dict, cell))?;
     }
     Ok(codes)
+}
+
+/// The codes of numbers that the dictionary has, which is one of numbers.
+pub fn number_codes(alloc: Global, dict: &Dict, numbers: &[Option<i64>]) -> Result<Vec<u64>, Memory>
+    requires { HasNumbers dict.now numbers.now }
+    ensures { IfOk result (λ codes. AreNumberCodes dict.now numbers.now codes.items) }
+{
+    match dict {
+        Dict::Numbers(dict) => dict.codes(alloc, numbers),
+        Dict::Texts(_) => unreachable!(),
+    }
 }
 
 /// How many codes a dictionary has.

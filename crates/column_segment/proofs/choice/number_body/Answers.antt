@@ -4,20 +4,20 @@ use Rattle.segment_value.specs.Scales.{IsScaling}
 use Rattle.column_segment.specs.declared.body.SegmentBody.{SegmentBody}
 use Rattle.column_segment.specs.Bodies.{IsBest}
 use Rattle.column_segment.specs.Choices.{IsDictBody, IsValueBody}
-use Rattle.column_segment.proofs.Dicts.{has-entries}
+use Rattle.column_segment.proofs.Dicts.{has-numbers, number-codes}
 use Rattle.column_segment.proofs.Best.{IsLeastWidth-at, best-without-scale, best-by-scale, best-by-dict}
 use Rattle.column_segment.proofs.choice.number_body.Goals as goal
 
-pub codes_in-requires : goal.codes_in-requires
-codes_in-requires c = has-entries c.args.cells.now c.args.dict c.requires.dict
+pub number_codes-requires : goal.number_codes-requires
+number_codes-requires c = rw c.requires.numbers (has-numbers c.args.cells.now c.args.dict c.requires.no_text c.requires.dict)
 
-pub codes_in-requires-2 : goal.codes_in-requires-2
-codes_in-requires-2 c = has-entries c.args.cells.now c.args.dict c.requires.dict
+pub number_codes-requires-2 : goal.number_codes-requires-2
+number_codes-requires-2 c = rw c.requires.numbers (has-numbers c.args.cells.now c.args.dict c.requires.no_text c.requires.dict)
 
 pub dict_body-requires-clause-room : goal.dict_body-requires-clause-room
 dict_body-requires-clause-room c =
     IsLeastWidth-at c.in_ok-codes.codes.items _ c.width_in.result _ c.as_slice.ensures.value c.costs_of-by_dict.ensures.0
-    (c.width_in.ensures.width c.args.cells.now c.in_ok-codes.codes.items c.requires.dict c.in_ok-codes.ensures c.requires.some)
+    (c.width_in.ensures.width c.args.cells.now c.in_ok-codes.codes.items c.requires.dict (number-codes c.args.cells.now c.args.numbers.now c.args.dict c.in_ok-codes.codes.items c.requires.no_text c.requires.numbers c.in_ok-codes.ensures) c.requires.some)
 
 pub returns-in_default : goal.returns-in_default
 returns-in_default c =
@@ -26,8 +26,8 @@ returns-in_default c =
     let P : List (Option ℤ) → Type 0 = λ numbers. IsScaling numbers None in
     IfOk-weaker c.dict_body.result Made Wanted
     (best-without-scale c.args.cells.now c.args.dict c.in_ok-codes.codes.items c.as_slice.result.now c.words_of.result c.width_in.result c.runs_in-runs.result c.costs_of-by_dict.result
-    (inl (c.requires.no_text, subst P c.requires.numbers c.in_default.ensures)) c.requires.dict c.in_ok-codes.ensures c.as_slice.ensures.value
-    (c.width_in.ensures.width c.args.cells.now c.in_ok-codes.codes.items c.requires.dict c.in_ok-codes.ensures c.requires.some)
+    (inl (c.requires.no_text, subst P c.requires.numbers c.in_default.ensures)) c.requires.dict (number-codes c.args.cells.now c.args.numbers.now c.args.dict c.in_ok-codes.codes.items c.requires.no_text c.requires.numbers c.in_ok-codes.ensures) c.as_slice.ensures.value
+    (c.width_in.ensures.width c.args.cells.now c.in_ok-codes.codes.items c.requires.dict (number-codes c.args.cells.now c.args.numbers.now c.args.dict c.in_ok-codes.codes.items c.requires.no_text c.requires.numbers c.in_ok-codes.ensures) c.requires.some)
     c.width_in.ensures.most c.words_of.ensures.words c.costs_of-by_dict.ensures c.runs_in-runs.ensures.runs)
     c.dict_body.ensures
 
@@ -52,7 +52,7 @@ returns-then-fewest c =
 pub dict_body-requires-2-clause-room : goal.dict_body-requires-2-clause-room
 dict_body-requires-2-clause-room c =
     IsLeastWidth-at c.in_ok-codes-3.codes.items _ c.width_in.result _ c.as_slice-3.ensures.value c.costs_of-by_dict.ensures.0
-    (c.width_in.ensures.width c.args.cells.now c.in_ok-codes-3.codes.items c.requires.dict c.in_ok-codes-3.ensures c.requires.some)
+    (c.width_in.ensures.width c.args.cells.now c.in_ok-codes-3.codes.items c.requires.dict (number-codes c.args.cells.now c.args.numbers.now c.args.dict c.in_ok-codes-3.codes.items c.requires.no_text c.requires.numbers c.in_ok-codes-3.ensures) c.requires.some)
 
 pub returns : goal.returns
 returns c =
@@ -62,7 +62,7 @@ returns c =
     IfOk-weaker c.dict_body-2.result Made Wanted
     (best-by-dict c.args.cells.now c.args.numbers.now c.args.dict c.in-Some.scale c.in_ok-codes-2.codes.items c.as_slice-2.result.now c.in_ok-codes-3.codes.items c.as_slice-3.result.now c.width_of.result c.width_in.result c.words_of.result c.runs_in-runs.result c.costs_of-by_scale.result c.costs_of-by_dict.result
     c.requires.numbers c.requires.no_text c.in-Some.ensures c.requires.dict c.in_ok-codes-2.ensures c.as_slice-2.ensures.value c.width_of.ensures.width c.costs_of-by_scale.ensures
-    c.in_ok-codes-3.ensures c.as_slice-3.ensures.value
-    (c.width_in.ensures.width c.args.cells.now c.in_ok-codes-3.codes.items c.requires.dict c.in_ok-codes-3.ensures c.requires.some)
+    (number-codes c.args.cells.now c.args.numbers.now c.args.dict c.in_ok-codes-3.codes.items c.requires.no_text c.requires.numbers c.in_ok-codes-3.ensures) c.as_slice-3.ensures.value
+    (c.width_in.ensures.width c.args.cells.now c.in_ok-codes-3.codes.items c.requires.dict (number-codes c.args.cells.now c.args.numbers.now c.args.dict c.in_ok-codes-3.codes.items c.requires.no_text c.requires.numbers c.in_ok-codes-3.ensures) c.requires.some)
     c.width_in.ensures.most c.words_of.ensures.words c.costs_of-by_dict.ensures c.runs_in-runs.ensures.runs dearer)
     c.dict_body-2.ensures
