@@ -1,6 +1,5 @@
 ghost use Rattle.std.specs.Prelude.{◌≡◌, ◌≢◌, ◌+◌, ◌<◌, ◌≤◌, ◌^◌, ◌↔◌, ℕ, List, All, map, length, min, IfOk, IsTrue, Contains, Some, slice_get};
 ghost use Rattle.bit_pack.specs.Codes.{packed};
-ghost use Rattle.segment_value.specs.Scales.{Takes, code_of};
 ghost use Rattle.cs_types.specs.Kinds.{keeps};
 ghost use Rattle.std.specs.Bool.{OnTrue, OnFalse};
 ghost use Rattle.column_segment.specs.Cells.{number_of, HasText, HasNoText, HasNoNumber};
@@ -20,7 +19,7 @@ use cs_base::{Items, Memory};
 use cs_types::{ColumnType, Value};
 use segment_dict::{Dict, numbers_of, texts_of};
 use segment_rle::runs_of;
-use segment_value::{Scale, scale_of, shrink};
+use segment_value::{Scale, scale_of, shrink_all};
 use std::alloc::Global;
 
 /// What the codes of a column cost in words, in each of the two layouts.
@@ -109,18 +108,6 @@ fn dict_body(alloc: Global, dict: Dict, codes: &[u64], costs: Costs) -> Result<S
     Ok(SegmentBody::DictRuns { dict, runs })
 }
 
-/// The codes of numbers that the scale takes.
-fn value_codes(alloc: Global, scale: Scale, numbers: &[Option<i64>]) -> Result<Vec<u64>, Memory>
-    requires { All (Takes scale) numbers.now }
-    ensures { IfOk result (λ codes. codes.items ≡ map (code_of scale) numbers.now) }
-{
-    let mut codes = Vec::with_capacity(alloc, numbers.len())?;
-    for number in numbers {
-        codes.push(shrink(scale, *number))?;
-    }
-    Ok(codes)
-}
-
 /// The best way to keep numbers, whose dictionary this is.
 fn number_body(
     alloc: Global,
@@ -140,7 +127,7 @@ fn number_body(
         let codes = number_codes(alloc, &dict, numbers)?;
         return dict_body(alloc, dict, codes.as_slice(), by_dict);
     };
-    let codes = value_codes(alloc, scale, numbers)?;
+    let codes = shrink_all(alloc, scale, numbers)?;
     let by_scale = costs_of(2, cells.len(), width_of(codes.as_slice()), runs);
     if fewest(by_scale) <= fewest(by_dict) {
         return value_body(alloc, scale, codes.as_slice(), by_scale);

@@ -1,6 +1,7 @@
 use Rattle.std.proofs.Common.{◌<◌, ◌≤◌, List, Option, ℤ, None, min, refl, sym, ◌∙◌, subst, inl, arith}
 use Rattle.std.proofs.lemmas.Result.{IfOk-weaker}
 use Rattle.segment_value.specs.Scales.{IsScaling}
+use Rattle.segment_value.proofs.Exponents.{IsExponent-most}
 use Rattle.column_segment.specs.declared.body.SegmentBody.{SegmentBody}
 use Rattle.column_segment.specs.Bodies.{IsBest}
 use Rattle.column_segment.specs.Choices.{IsDictBody, IsValueBody}
@@ -13,6 +14,9 @@ number_codes-requires c = rw c.requires.numbers (has-numbers c.args.cells.now c.
 
 pub number_codes-requires-2 : goal.number_codes-requires-2
 number_codes-requires-2 c = rw c.requires.numbers (has-numbers c.args.cells.now c.args.dict c.requires.no_text c.requires.dict)
+
+pub shrink_all-requires-clause-exponent : goal.shrink_all-requires-clause-exponent
+shrink_all-requires-clause-exponent c = IsExponent-most _ _ c.in-Some.ensures.0.exponent
 
 pub dict_body-requires-clause-room : goal.dict_body-requires-clause-room
 dict_body-requires-clause-room c =
