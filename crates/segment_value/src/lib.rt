@@ -162,6 +162,9 @@ fn common_exponent(cells: &[Option<i64>]) -> u32
 {
     let mut exponent = 18;
     for cell in cells {
+        if exponent == 0 {
+            return 0;
+        }
         if let Some(number) = *cell {
             exponent = exponent_up_to(exponent, number);
         }
@@ -191,9 +194,7 @@ fn is_multiple(number: i64, exponent: u32) -> bool
     remainder_of(number, exponent) == 0
 }
 
-/// What the power of ten leaves of the number's size. Inlined it would be computed for each number of a column, also
-/// where the exponent is 0 already.
-#[inline(never)]
+/// What the power of ten leaves of the number's size.
 fn remainder_of(number: i64, exponent: u32) -> u64
     requires { exponent ≤ 18 }
     ensures { result ≡ unsigned_abs number % 10 ^ exponent }
