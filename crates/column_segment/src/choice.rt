@@ -1,5 +1,6 @@
-ghost use Rattle.std.specs.Prelude.{◌≡◌, ◌≢◌, ◌+◌, ◌<◌, ◌≤◌, ◌^◌, ◌↔◌, ℕ, List, All, map, length, min, IfOk, IsTrue, Contains, Some, slice_get};
+ghost use Rattle.std.specs.Prelude.{◌≡◌, ◌≢◌, ◌+◌, ◌<◌, ◌≤◌, ◌^◌, ◌↔◌, ℕ, List, All, map, length, min, IfOk, IsTrue, Contains, None, Some, ◌⊎◌, slice_get};
 ghost use Rattle.bit_pack.specs.Codes.{packed};
+ghost use Rattle.segment_value.specs.Scales.{IsScaling};
 ghost use Rattle.cs_types.specs.Kinds.{keeps};
 ghost use Rattle.std.specs.Bool.{OnTrue, OnFalse};
 ghost use Rattle.column_segment.specs.Cells.{number_of, HasText, HasNoText, HasNoNumber};
@@ -108,6 +109,28 @@ fn dict_body(alloc: Global, dict: Dict, codes: &[u64], costs: Costs) -> Result<S
     Ok(SegmentBody::DictRuns { dict, runs })
 }
 
+/// The best way to keep cells that have no scale, whose dictionary and codes these are.
+fn unscaled_body(
+    alloc: Global,
+    cells: &[Value],
+    dict: Dict,
+    codes: &[u64],
+) -> Result<SegmentBody, Memory>
+    requires some { 0 < length cells.now }
+    requires unscaled { (HasNoText cells.now × IsScaling (map number_of cells.now) None) ⊎ HasText cells.now }
+    requires dict { IsDictFor cells.now dict }
+    requires codes { AreDictCodes dict cells.now codes.now }
+    ensures { IfOk result (IsBest cells.now) }
+{
+    let costs = costs_of(
+        words_of(&dict),
+        cells.len(),
+        width_in(&dict),
+        runs_in(codes),
+    );
+    dict_body(alloc, dict, codes, costs)
+}
+
 /// The best way to keep numbers, whose dictionary this is.
 fn number_body(
     alloc: Global,
@@ -121,13 +144,13 @@ fn number_body(
     requires dict { IsDictFor cells.now dict }
     ensures { IfOk result (IsBest cells.now) }
 {
-    let runs = runs_in(cells);
-    let by_dict = costs_of(words_of(&dict), cells.len(), width_in(&dict), runs);
     let Some(scale) = scale_of(numbers) else {
         let codes = number_codes(alloc, &dict, numbers)?;
-        return dict_body(alloc, dict, codes.as_slice(), by_dict);
+        return unscaled_body(alloc, cells, dict, codes.as_slice());
     };
     let codes = shrink_all(alloc, scale, numbers)?;
+    let runs = runs_in(codes.as_slice());
+    let by_dict = costs_of(words_of(&dict), cells.len(), width_in(&dict), runs);
     let by_scale = costs_of(2, cells.len(), width_of(codes.as_slice()), runs);
     if fewest(by_scale) <= fewest(by_dict) {
         return value_body(alloc, scale, codes.as_slice(), by_scale);
@@ -143,14 +166,8 @@ fn text_body(alloc: Global, cells: &[Value], dict: Dict) -> Result<SegmentBody, 
     requires dict { IsDictFor cells.now dict }
     ensures { IfOk result (IsBest cells.now) }
 {
-    let costs = costs_of(
-        words_of(&dict),
-        cells.len(),
-        width_in(&dict),
-        runs_in(cells),
-    );
     let codes = codes_in(alloc, &dict, cells)?;
-    dict_body(alloc, dict, codes.as_slice(), costs)
+    unscaled_body(alloc, cells, dict, codes.as_slice())
 }
 
 /// The segment of numbers, or of NULLs alone.
