@@ -77,12 +77,8 @@ pub fn words_of(dict: &Dict) -> u64
     ensures small { result < 2 ^ 63 }
 {
     match dict {
-        Dict::Numbers(numbers) => numbers.entries.as_slice().len() as u64,
-        Dict::Texts(texts) => {
-            let ends = texts.ends.as_slice().len() as u64;
-            let bytes = texts.bytes.as_slice().len() as u64;
-            ends + bytes.div_ceil(8)
-        }
+        Dict::Numbers(numbers) => numbers.words(),
+        Dict::Texts(texts) => texts.words(),
     }
 }
 

@@ -98,8 +98,9 @@ impl NumberDict {
 
     /// What the entries cost in words of 64 bits: one each.
     pub fn words(&self) -> u64
-        ensures { result ≡ length self.now.entries }
+        ensures words { result ≡ length self.now.entries }
+        ensures small { result < 2 ^ 63 }
     {
-        self.entries.len() as u64
+        self.entries.as_slice().len() as u64
     }
 }
