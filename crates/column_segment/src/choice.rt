@@ -1,11 +1,11 @@
-ghost use Rattle.std.specs.Prelude.{◌≡◌, ◌≢◌, ◌+◌, ◌<◌, ◌≤◌, ◌^◌, ◌↔◌, ℕ, List, All, map, length, min, IfOk, IsTrue, Contains, None, Some, ◌⊎◌, slice_get};
+ghost use Rattle.std.specs.Prelude.{◌≡◌, ◌+◌, ◌<◌, ◌≤◌, ℕ, All, map, length, min, IfOk, IsTrue, None, Some, ◌⊎◌, slice_get};
 ghost use Rattle.bit_pack.specs.Codes.{packed};
 ghost use Rattle.segment_value.specs.Scales.{IsScaling};
 ghost use Rattle.cs_types.specs.Kinds.{keeps};
 ghost use Rattle.std.specs.Bool.{OnTrue, OnFalse};
 ghost use Rattle.column_segment.specs.Cells.{number_of, HasText, HasNoText, HasNoNumber};
 ghost use Rattle.column_segment.specs.Layouts.{IsLeastWidth};
-ghost use Rattle.column_segment.specs.Dicts.{HasEntry, IsDictFor, AreDictCodes};
+ghost use Rattle.column_segment.specs.Dicts.{IsDictFor, AreDictCodes};
 ghost use Rattle.column_segment.specs.Bodies.{IsBest, cell_in};
 ghost use Rattle.column_segment.specs.Segments.{IsSegmentOf};
 ghost use Rattle.column_segment.specs.Choices.{AreCosts, IsValueBody, IsDictBody};

@@ -1,5 +1,4 @@
-ghost use Rattle.std.specs.Prelude.{◌≡◌, ◌+◌, ◌*◌, ◌<◌, ◌≤◌, ◌^◌, ◌/◌, ◌⊎◌, ◌↔◌, ℕ, List, map, length, slice_get, slice_index, take, All, Contains, IfOk, IsTrue, Some};
-ghost use Rattle.bit_pack.specs.Codes.{packed};
+ghost use Rattle.std.specs.Prelude.{◌≡◌, ◌+◌, ◌*◌, ◌<◌, ◌≤◌, ◌^◌, ◌/◌, ◌⊎◌, ℕ, List, length, All, Contains};
 ghost use Rattle.column_segment.specs.Layouts.{IsLeastWidth, MatchNeighbours, begins_run, runs_below};
 
 /// The least number of bits that a number has room in, 0 to 64.
