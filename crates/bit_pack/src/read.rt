@@ -106,9 +106,12 @@ fn singles<const W: usize>(words: &[u64], from: usize, at: usize, end: usize, ou
 pub fn unpack<const W: usize>(words: &[u64], from: usize, count: usize, out: &mut [u64; 1024])
     requires width { W ≤ 64 }
     requires within { count ≤ 1024 }
-    requires there { (from + count) * W ≤ 64 * length words.now }
+    requires there { 0 < count → (from + count) * W ≤ 64 * length words.now }
     ensures { HasCodes W words.now from 0 count out.old out.new }
 {
+    if count == 0 {
+        return;
+    }
     let head = count.min((64 - from % 64) % 64);
     let blocks = (count - head) / 64;
     singles::<W>(words, from, 0, head, out);

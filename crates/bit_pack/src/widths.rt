@@ -38,7 +38,7 @@ pub fn lane_width(width: u32, words: &[u64], i: usize) -> u64
 pub fn unpack_width(width: u32, words: &[u64], from: usize, count: usize, out: &mut [u64; 1024])
     requires width { width ≤ 64 }
     requires within { count ≤ 1024 }
-    requires there { (from + count) * width ≤ 64 * length words.now }
+    requires there { 0 < count → (from + count) * width ≤ 64 * length words.now }
     ensures { HasCodes width words.now from 0 count out.old out.new }
 {
     by_width!(width, unpack(words, from, count, out))

@@ -176,6 +176,33 @@ dict-best cells by costs vp vr most least prices dearer (DictRuns kept runs) is 
 abbrev pub CountsRuns : List Value → ℕ → Type 0
 CountsRuns cells runs = (codes : List ℕ) → MatchNeighbours cells codes → runs ≡ runs_below codes (length codes)
 
+-- codes of the same cells match one another
+match-codes : (cells : List Value) (codes others : List ℕ) → MatchNeighbours cells codes → MatchNeighbours cells others → MatchNeighbours codes others
+match-codes cells codes others a b = (omega (arith, a.0, b.0), λ i low. both i low)
+  where
+    both : (i : ℕ) → i + 1 < length codes → (get_or others i 0 ≡ get_or others (i + 1) 0) ↔ (slice_get codes i ≡ slice_get codes (i + 1))
+    both i low =
+        let within : i + 1 < length cells = omega (arith, low, a.0) in
+        let here : slice_get codes i ≡ Some (get_or codes i 0) = slice_get-get_or codes i 0 (omega (arith, low)) in
+        let next : slice_get codes (i + 1) ≡ Some (get_or codes (i + 1) 0) = slice_get-get_or codes (i + 1) 0 low in (
+          (λ e. here ∙ ap Some ((a.1 i within).1 ((b.1 i within).0 e)) ∙ sym next),
+          (λ e. let f : Some (get_or codes i 0) ≡ Some (get_or codes (i + 1) 0) = sym here ∙ e ∙ next in
+              (b.1 i within).1 ((a.1 i within).0 (let g : get_or codes i 0 ≡ get_or codes (i + 1) 0 = cc in g))),
+        )
+
+-- the runs of codes of the cells are those of any codes of the cells
+pub counts-runs : (cells : List Value) (codes slice : List ℕ) (runs : ℕ) → MatchNeighbours cells codes → slice ≡ codes → ((others : List ℕ) → MatchNeighbours slice others → runs ≡ runs_below others (length others)) → CountsRuns cells runs
+counts-runs cells codes slice runs are same count = λ others match.
+    let P : List ℕ → Type 0 = λ l. MatchNeighbours l others in
+    count others (subst P (sym same) (match-codes cells codes others are match))
+
+pub counts-scaled : (cells : List Value) (numbers : List (Option ℤ)) (scale : Scale) (vcodes slice : List ℕ) (runs : ℕ) → numbers ≡ map number_of cells → HasNoText cells → IsScaling numbers (Some scale) → vcodes ≡ map (code_of scale) numbers → slice ≡ vcodes → ((others : List ℕ) → MatchNeighbours slice others → runs ≡ runs_below others (length others)) → CountsRuns cells runs
+counts-scaled cells numbers scale vcodes slice runs from none scaling coded same count =
+    let P : List ℕ → Type 0 = λ l. MatchNeighbours cells l in
+    let Q : List (Option ℤ) → Type 0 = λ ns. All (Takes scale) ns in
+    counts-runs cells vcodes slice runs
+    (subst P (sym (coded ∙ ap (map (code_of scale)) from)) (value-neighbours scale cells none (subst Q from scaling.1))) same count
+
 pub IsLeastWidth-at : (codes codes' : List ℕ) (w w' : ℕ) → codes' ≡ codes → w' ≡ w → IsLeastWidth codes w → IsLeastWidth codes' w'
 IsLeastWidth-at codes codes' w w' e f is =
     let P : List ℕ → Type 0 = λ l. IsLeastWidth l w' in
@@ -191,18 +218,18 @@ value-priced : (cells : List Value) (scale : Scale) (width runs : ℕ) (costs : 
 value-priced cells scale width runs costs none takes least cost count =
     priced 2 (length cells) width runs (map (code_of scale) (map number_of cells)) costs cost (value-length scale cells) least (count (map (code_of scale) (map number_of cells)) (value-neighbours scale cells none takes))
 
-abbrev pub no-scale : Option Scale
-no-scale = None
-
 -- where there is no scale, the dictionary's cheaper layout is the best
-pub best-without-scale : (cells : List Value) (dict : Dict) (codes slice : List ℕ) (base width runs : ℕ) (costs : Costs) → ((HasNoText cells × IsScaling (map number_of cells) None) ⊎ (HasText cells × (no-scale ≡ None))) → IsDictFor cells dict → AreDictCodes dict cells codes → slice ≡ codes → IsLeastWidth codes width → width ≤ 64 → base ≡ dict_words dict → AreCosts base (length cells) width runs costs → CountsRuns cells runs → (body : SegmentBody) → IsDictBody dict slice costs body → IsBest cells body
-best-without-scale cells dict codes slice base width runs costs scaling is are same least most e cost count body kept =
-    let by : Codings cells = record { scale = None; scaling = scaling; dict = dict; of_cells = is; codes = codes; coded = are } in
-    let P : List ℕ → Type 0 = λ l. IsDictBody dict l costs body in
+pub best-unscaled : (cells : List Value) (dict : Dict) (codes : List ℕ) (base width runs : ℕ) (costs : Costs) → ((HasNoText cells × IsScaling (map number_of cells) None) ⊎ HasText cells) → IsDictFor cells dict → AreDictCodes dict cells codes → IsLeastWidth codes width → width ≤ 64 → base ≡ dict_words dict → AreCosts base (length cells) width runs costs → CountsRuns cells runs → (body : SegmentBody) → IsDictBody dict codes costs body → IsBest cells body
+best-unscaled cells dict codes base width runs costs unscaled is are least most e cost count body kept =
+    let by : Codings cells = record { scale = None; scaling = scaling unscaled; dict = dict; of_cells = is; codes = codes; coded = are } in
     dict-best cells by costs 0 0 (omega (arith, most, cost.0)) (IsLeastWidth-at codes codes width costs.width refl cost.0 least)
     (record { value = λ s f. absurd (none_some s f); dict = dict-priced cells dict codes base width runs costs is are least e cost count })
-    (λ s f. absurd (none_some s f)) body (subst P same kept)
+    (λ s f. absurd (none_some s f)) body kept
   where
+    scaling : (HasNoText cells × IsScaling (map number_of cells) None) ⊎ HasText cells → (HasNoText cells × IsScaling (map number_of cells) None) ⊎ (HasText cells × (let none : Option Scale = None in none ≡ None))
+    scaling (inl numbers) = inl numbers
+    scaling (inr text) = inr (text, refl)
+
     none_some : (s : Scale) → None ≡ Some s → ⊥
     none_some s f = cc
 

@@ -1,24 +1,24 @@
 -- A column's dictionary: its codes, their least width, and the least and the greatest cell.
-use Rattle.std.proofs.Common.{◌≡◌, ℕ, ℤ, zero, suc, ◌+◌, ◌-◌, ◌<◌, ◌≤◌, ◌^◌, ◌↔◌, ◌⊎◌, inl, inr, List, [], ◌∷◌, ◌++◌, length, get_or, take, refl, sym, ◌∙◌, ap, subst, arith, Bool, false, IsNone, Bor, All, Contains, Option, None, Some, slice_get}
+use Rattle.std.proofs.Common.{◌≡◌, ℕ, ℤ, zero, suc, ◌+◌, ◌-◌, ◌<◌, ◌≤◌, ◌^◌, ◌↔◌, ◌⊎◌, inl, inr, List, [], ◌∷◌, ◌++◌, length, get_or, take, refl, sym, ◌∙◌, ap, subst, arith, Bool, false, IsNone, IsSome, Bor, All, Contains, Option, None, Some, slice_get, map, option_map}
 use Rattle.std.specs.Int.{from_bool}
 use Rattle.std.specs.Option.{option_copied, is_some}
 use Rattle.std.specs.Ordering.{nat_cmp, int_cmp}
 use Rattle.std.specs.Cmp.Lexicographic.{slice_cmp}
 use Rattle.std.proofs.lemmas.Cmp.{int_cmp_total}
 use Rattle.std.proofs.lemmas.Bool.{cases_lt}
-use Rattle.std.proofs.lemmas.List.{get_or_default, get_or_append_left, get_or_push, length_push, take_more}
-use Rattle.std.proofs.lemmas.Option.{slice_get_within, get_or_from_slice_get, slice_get-get_or}
+use Rattle.std.proofs.lemmas.List.{get_or_default, get_or-map, length-map, get_or_append_left, get_or_push, length_push, take_more}
+use Rattle.std.proofs.lemmas.Option.{slice_get-map, slice_get_within, get_or_from_slice_get, slice_get-get_or}
 use Rattle.cs_types.specs.declared.Value.{Value}
 use Rattle.cs_types.specs.declared.Value.TheVariants.{Null, Number, Text}
 use Rattle.segment_dict.specs.declared.Dict.{Dict}
 use Rattle.segment_dict.specs.declared.Dict.TheVariants.{Numbers, Texts}
-use Rattle.segment_dict.specs.Dictionaries.{cell_of, codes_of}
+use Rattle.segment_dict.specs.Dictionaries.{HasCell, cell_of, codes_of}
 use Rattle.segment_dict.specs.Texts.{texts_in}
 use Rattle.segment_dict.proofs.Orders.{text_order}
 use Rattle.segment_dict.proofs.TextLemmas.{length-texts_from}
 use Rattle.column_segment.specs.Cells.{number_of, number_cell, text_of, text_cell, HasNoText, HasNoNumber, IsLeastCell, IsGreatestCell}
 use Rattle.column_segment.specs.Layouts.{IsLeastWidth, MatchNeighbours}
-use Rattle.column_segment.specs.Dicts.{IsDictFor, IsDictCode, AreDictCodes, HasEntry, dict_cell, dict_codes, dict_nulls}
+use Rattle.column_segment.specs.Dicts.{IsDictFor, IsDictCode, AreDictCodes, HasEntry, HasNumbers, AreNumberCodes, dict_cell, dict_codes, dict_nulls}
 use Rattle.column_segment.proofs.Entries.{AreCells, code-injective, has-cell, code-exists, last-cell, bound-cell, no-cell}
 use Rattle.column_segment.proofs.Layouts.{IsLeastWidth-greatest}
 
@@ -74,7 +74,36 @@ pub has-entries : (cells : List Value) (dict : Dict) → IsDictFor cells dict �
 has-entries cells (Numbers dict) is = λ k d l. (is.0 k d l, has-cell number_of cells dict.entries dict.nulls is.1 (get_or cells k d) (k, l, get_or_default cells k (get_or cells k d) d l))
 has-entries cells (Texts dict) is = λ k d l. (is.1 k d l, has-cell text_of cells (texts_in dict.ends dict.bytes) dict.nulls is.2 (get_or cells k d) (k, l, get_or_default cells k (get_or cells k d) d l))
 
--- and a code for it
+no_texts-twice : (o : Option (List ℕ)) → IsNone o → IsSome o → ⊥
+no_texts-twice None is_none is_some = cc
+no_texts-twice (Some t) is_none is_some = cc
+
+-- the dictionary of cells of which none is a text has their numbers
+pub has-numbers : (cells : List Value) (dict : Dict) → HasNoText cells → IsDictFor cells dict → HasNumbers dict (map number_of cells)
+has-numbers cells (Numbers dict) none is = λ k d l.
+    let low : k < length cells = omega (arith, l, length-map cells number_of) in
+    let P : Option ℤ → Type 0 = λ n. HasCell dict.entries dict.nulls n in
+    subst P (sym (get_or-map number_of cells k Null d low)) (has-entries cells (Numbers dict) is k Null low).1
+has-numbers cells (Texts dict) none is =
+    let (k, v, l, e, some) = is.0 in
+    let P : Value → Type 0 = λ w. IsNone (text_of w) in
+    absurd (no_texts-twice (text_of v) (subst P e (none k v l)) some)
+
+-- the codes of their numbers are those of the cells
+own-codes : (cells : List Value) (dict : Dict) (codes : List ℕ) → HasNoText cells → AreNumberCodes dict (map number_of cells) codes → AreDictCodes dict cells codes
+own-codes cells (Texts dict) codes none are = absurd are
+own-codes cells (Numbers dict) codes none are = (are.0 ∙ length-map cells number_of, λ i v e. at i v e)
+  where
+    at : (i : ℕ) (v : Value) → slice_get cells i ≡ Some v → IsDictCode (Numbers dict) v (get_or codes i 0)
+    at i v e =
+        let code = are.1 i (number_of v) (slice_get-map number_of cells i ∙ ap (option_map number_of) e) in
+        (code.0, ap number_cell code.1 ∙ own-number cells none v (i, slice_get_within cells i v e, get_or_from_slice_get cells i v v e))
+
+pub number-codes : (cells : List Value) (numbers : List (Option ℤ)) (dict : Dict) (codes : List ℕ) → HasNoText cells → numbers ≡ map number_of cells → AreNumberCodes dict numbers codes → AreDictCodes dict cells codes
+number-codes cells numbers dict codes none e are =
+    let P : List (Option ℤ) → Type 0 = λ l. AreNumberCodes dict l codes in own-codes cells dict codes none (subst P e are)
+
+-- each cell has a code
 code-of-cell : (cells : List Value) (dict : Dict) → IsDictFor cells dict → (v : Value) → Contains cells v → (code : ℕ) × IsDictCode dict v code
 code-of-cell cells (Numbers dict) is v has =
     let found = code-exists dict.entries dict.nulls (number_of v) (has-cell number_of cells dict.entries dict.nulls is.1 v has) in

@@ -1,10 +1,10 @@
 -- The dictionary of a column's cells, and its codes.
-use Rattle.std.specs.Prelude.{◌≡◌, ◌+◌, ◌<◌, ◌/◌, ℕ, Bool, List, map, length, slice_index, slice_get, Some, IsNone}
+use Rattle.std.specs.Prelude.{◌≡◌, ◌+◌, ◌<◌, ◌/◌, ℕ, ℤ, Bool, List, Option, All, map, length, slice_index, slice_get, Some, IsNone}
 use Rattle.std.specs.Ordering.{nat_cmp, int_cmp}
 use Rattle.std.specs.Cmp.Lexicographic.{slice_cmp}
 use Rattle.segment_dict.specs.declared.Dict.{Dict}
 use Rattle.segment_dict.specs.declared.Dict.TheVariants.{Numbers, Texts}
-use Rattle.segment_dict.specs.Dictionaries.{IsDictOf, HasCell, codes_of, cell_of}
+use Rattle.segment_dict.specs.Dictionaries.{IsDictOf, HasCell, AreCodesOf, codes_of, cell_of}
 use Rattle.segment_dict.specs.Texts.{texts_in}
 use Rattle.cs_types.specs.declared.Value.{Value}
 use Rattle.column_segment.specs.Cells.{number_of, number_cell, text_of, text_cell, HasNoText, HasNoNumber, HasText}
@@ -47,3 +47,13 @@ AreDictCodes dict cells codes =
 abbrev pub HasEntry : Dict → Value → Type 0
 HasEntry (Numbers dict) cell = IsNone (text_of cell) × HasCell dict.entries dict.nulls (number_of cell)
 HasEntry (Texts dict) cell = IsNone (number_of cell) × HasCell (texts_in dict.ends dict.bytes) dict.nulls (text_of cell)
+
+-- the dictionary is one of numbers, and has these
+abbrev pub HasNumbers : Dict → List (Option ℤ) → Type 0
+HasNumbers (Numbers dict) numbers = All (HasCell dict.entries dict.nulls) numbers
+HasNumbers (Texts dict) numbers = ⊥
+
+-- each code is that of the number in its place
+abbrev pub AreNumberCodes : Dict → List (Option ℤ) → List ℕ → Type 0
+AreNumberCodes (Numbers dict) numbers codes = AreCodesOf dict.entries dict.nulls numbers codes
+AreNumberCodes (Texts dict) numbers codes = ⊥

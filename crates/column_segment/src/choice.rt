@@ -1,18 +1,18 @@
-ghost use Rattle.std.specs.Prelude.{◌≡◌, ◌≢◌, ◌+◌, ◌<◌, ◌≤◌, ◌^◌, ◌↔◌, ℕ, List, All, map, length, min, IfOk, IsTrue, Contains, Some, slice_get};
+ghost use Rattle.std.specs.Prelude.{◌≡◌, ◌+◌, ◌<◌, ◌≤◌, ℕ, All, map, length, min, IfOk, IsTrue, None, Some, ◌⊎◌, slice_get};
 ghost use Rattle.bit_pack.specs.Codes.{packed};
-ghost use Rattle.segment_value.specs.Scales.{Takes, code_of};
+ghost use Rattle.segment_value.specs.Scales.{IsScaling};
 ghost use Rattle.cs_types.specs.Kinds.{keeps};
 ghost use Rattle.std.specs.Bool.{OnTrue, OnFalse};
 ghost use Rattle.column_segment.specs.Cells.{number_of, HasText, HasNoText, HasNoNumber};
 ghost use Rattle.column_segment.specs.Layouts.{IsLeastWidth};
-ghost use Rattle.column_segment.specs.Dicts.{HasEntry, IsDictFor, AreDictCodes};
+ghost use Rattle.column_segment.specs.Dicts.{IsDictFor, AreDictCodes};
 ghost use Rattle.column_segment.specs.Bodies.{IsBest, cell_in};
 ghost use Rattle.column_segment.specs.Segments.{IsSegmentOf};
 ghost use Rattle.column_segment.specs.Choices.{AreCosts, IsValueBody, IsDictBody};
 
 use crate::body::SegmentBody;
 use crate::cell::{has_text, numbers_in, texts_in};
-use crate::dict::{codes_in, greatest_in, has_null, least_in, width_in, words_of};
+use crate::dict::{codes_in, greatest_in, has_null, least_in, number_codes, width_in, words_of};
 use crate::layout::{runs_in, width_of};
 use crate::segment::Segment;
 use bit_pack::pack_width;
@@ -20,7 +20,7 @@ use cs_base::{Items, Memory};
 use cs_types::{ColumnType, Value};
 use segment_dict::{Dict, numbers_of, texts_of};
 use segment_rle::runs_of;
-use segment_value::{Scale, scale_of, shrink};
+use segment_value::{Scale, scale_of, shrink_all};
 use std::alloc::Global;
 
 /// What the codes of a column cost in words, in each of the two layouts.
@@ -109,16 +109,26 @@ fn dict_body(alloc: Global, dict: Dict, codes: &[u64], costs: Costs) -> Result<S
     Ok(SegmentBody::DictRuns { dict, runs })
 }
 
-/// The codes of numbers that the scale takes.
-fn value_codes(alloc: Global, scale: Scale, numbers: &[Option<i64>]) -> Result<Vec<u64>, Memory>
-    requires { All (Takes scale) numbers.now }
-    ensures { IfOk result (λ codes. codes.items ≡ map (code_of scale) numbers.now) }
+/// The best way to keep cells that have no scale, whose dictionary and codes these are.
+fn unscaled_body(
+    alloc: Global,
+    cells: &[Value],
+    dict: Dict,
+    codes: &[u64],
+) -> Result<SegmentBody, Memory>
+    requires some { 0 < length cells.now }
+    requires unscaled { (HasNoText cells.now × IsScaling (map number_of cells.now) None) ⊎ HasText cells.now }
+    requires dict { IsDictFor cells.now dict }
+    requires codes { AreDictCodes dict cells.now codes.now }
+    ensures { IfOk result (IsBest cells.now) }
 {
-    let mut codes = Vec::with_capacity(alloc, numbers.len())?;
-    for number in numbers {
-        codes.push(shrink(scale, *number))?;
-    }
-    Ok(codes)
+    let costs = costs_of(
+        words_of(&dict),
+        cells.len(),
+        width_in(&dict),
+        runs_in(codes),
+    );
+    dict_body(alloc, dict, codes, costs)
 }
 
 /// The best way to keep numbers, whose dictionary this is.
@@ -134,18 +144,18 @@ fn number_body(
     requires dict { IsDictFor cells.now dict }
     ensures { IfOk result (IsBest cells.now) }
 {
-    let runs = runs_in(cells);
-    let by_dict = costs_of(words_of(&dict), cells.len(), width_in(&dict), runs);
     let Some(scale) = scale_of(numbers) else {
-        let codes = codes_in(alloc, &dict, cells)?;
-        return dict_body(alloc, dict, codes.as_slice(), by_dict);
+        let codes = number_codes(alloc, &dict, numbers)?;
+        return unscaled_body(alloc, cells, dict, codes.as_slice());
     };
-    let codes = value_codes(alloc, scale, numbers)?;
+    let codes = shrink_all(alloc, scale, numbers)?;
+    let runs = runs_in(codes.as_slice());
+    let by_dict = costs_of(words_of(&dict), cells.len(), width_in(&dict), runs);
     let by_scale = costs_of(2, cells.len(), width_of(codes.as_slice()), runs);
     if fewest(by_scale) <= fewest(by_dict) {
         return value_body(alloc, scale, codes.as_slice(), by_scale);
     }
-    let codes = codes_in(alloc, &dict, cells)?;
+    let codes = number_codes(alloc, &dict, numbers)?;
     dict_body(alloc, dict, codes.as_slice(), by_dict)
 }
 
@@ -156,14 +166,8 @@ fn text_body(alloc: Global, cells: &[Value], dict: Dict) -> Result<SegmentBody, 
     requires dict { IsDictFor cells.now dict }
     ensures { IfOk result (IsBest cells.now) }
 {
-    let costs = costs_of(
-        words_of(&dict),
-        cells.len(),
-        width_in(&dict),
-        runs_in(cells),
-    );
     let codes = codes_in(alloc, &dict, cells)?;
-    dict_body(alloc, dict, codes.as_slice(), costs)
+    unscaled_body(alloc, cells, dict, codes.as_slice())
 }
 
 /// The segment of numbers, or of NULLs alone.

@@ -3,7 +3,7 @@ ghost use Rattle.cs_types.specs.declared.Value.{Value as Cell};
 ghost use Rattle.cs_types.specs.declared.Value.TheVariants.{Null};
 ghost use Rattle.column_segment.specs.Cells.{seen, IsLeastCell, IsGreatestCell};
 ghost use Rattle.column_segment.specs.Layouts.{IsLeastWidth};
-ghost use Rattle.column_segment.specs.Dicts.{dict_cell, dict_codes, dict_nulls, dict_words, HasEntry, IsDictFor, IsDictCode, AreDictCodes};
+ghost use Rattle.column_segment.specs.Dicts.{dict_cell, dict_codes, dict_nulls, dict_words, HasEntry, IsDictFor, IsDictCode, AreDictCodes, HasNumbers, AreNumberCodes};
 
 use crate::cell::{CellRef, as_number, as_text, number_shown};
 use crate::layout::bits_of;
@@ -49,6 +49,17 @@ pub fn codes_in(alloc: Global, dict: &Dict, cells: &[Value]) -> Result<Vec<u64>,
     Ok(codes)
 }
 
+/// The codes of numbers that the dictionary has, which is one of numbers.
+pub fn number_codes(alloc: Global, dict: &Dict, numbers: &[Option<i64>]) -> Result<Vec<u64>, Memory>
+    requires { HasNumbers dict.now numbers.now }
+    ensures { IfOk result (λ codes. AreNumberCodes dict.now numbers.now codes.items) }
+{
+    match dict {
+        Dict::Numbers(dict) => dict.codes(alloc, numbers),
+        Dict::Texts(_) => unreachable!(),
+    }
+}
+
 /// How many codes a dictionary has.
 fn codes_of(dict: &Dict) -> u64
     ensures { result ≡ dict_codes dict.now }
@@ -66,12 +77,8 @@ pub fn words_of(dict: &Dict) -> u64
     ensures small { result < 2 ^ 63 }
 {
     match dict {
-        Dict::Numbers(numbers) => numbers.entries.as_slice().len() as u64,
-        Dict::Texts(texts) => {
-            let ends = texts.ends.as_slice().len() as u64;
-            let bytes = texts.bytes.as_slice().len() as u64;
-            ends + bytes.div_ceil(8)
-        }
+        Dict::Numbers(numbers) => numbers.words(),
+        Dict::Texts(texts) => texts.words(),
     }
 }
 

@@ -1,8 +1,5 @@
-ghost use Rattle.std.specs.Prelude.{◌≡◌, ◌+◌, ◌*◌, ◌<◌, ◌≤◌, ◌^◌, ◌/◌, ◌⊎◌, ◌↔◌, ℕ, List, map, length, slice_get, slice_index, take, All, Contains, IfOk, IsTrue, Some};
-ghost use Rattle.bit_pack.specs.Codes.{packed};
+ghost use Rattle.std.specs.Prelude.{◌≡◌, ◌+◌, ◌*◌, ◌<◌, ◌≤◌, ◌^◌, ◌/◌, ◌⊎◌, ℕ, List, length, All, Contains};
 ghost use Rattle.column_segment.specs.Layouts.{IsLeastWidth, MatchNeighbours, begins_run, runs_below};
-
-use cs_types::Value;
 
 /// The least number of bits that a number has room in, 0 to 64.
 pub fn bits_of(number: u64) -> u32
@@ -35,29 +32,22 @@ pub fn width_of(codes: &[u64]) -> u32
     bits_of(greatest_of(codes))
 }
 
-/// Whether two cells are equal.
-fn same(a: &Value, b: &Value) -> bool
-    ensures { IsTrue result ↔ (a.now ≡ b.now) }
+/// Whether a place begins a run of equal codes, and so one of other codes of the same cells.
+fn begins(codes: &[u64], i: usize) -> bool
+    requires { i < length codes.now }
+    ensures { (others : List ℕ) → MatchNeighbours codes.now others → result ≡ begins_run others i }
 {
-    a == b
+    i == 0 || codes[i - 1] != codes[i]
 }
 
-/// Whether a place begins a run of equal cells, and so one of codes, where different cells have different codes.
-fn begins(cells: &[Value], i: usize) -> bool
-    requires { i < length cells.now }
-    ensures { (codes : List ℕ) → MatchNeighbours cells.now codes → result ≡ begins_run codes i }
-{
-    i == 0 || !same(&cells[i - 1], &cells[i])
-}
-
-/// How many maximal runs of equal cells there are, and so of codes, where different cells have different codes.
-pub fn runs_in(cells: &[Value]) -> usize
-    ensures bound { result ≤ length cells.now }
-    ensures runs { (codes : List ℕ) → MatchNeighbours cells.now codes → result ≡ runs_below codes (length codes) }
+/// How many maximal runs of equal codes there are, and so of any codes that tell the same cells apart.
+pub fn runs_in(codes: &[u64]) -> usize
+    ensures bound { result ≤ length codes.now }
+    ensures runs { (others : List ℕ) → MatchNeighbours codes.now others → result ≡ runs_below others (length others) }
 {
     let mut runs = 0;
-    for i in 0..cells.len() {
-        if begins(cells, i) {
+    for i in 0..codes.len() {
+        if begins(codes, i) {
             runs += 1;
         }
     }

@@ -14,7 +14,6 @@ use cs_base::{Items, Memory};
 use cs_types::{Encoding, Value};
 use segment_rle::Runs;
 use segment_value::restore;
-use std::mem;
 
 /// Up to 1,024 cells, one after another.
 pub type Batch = Items<Value>;
@@ -123,13 +122,12 @@ impl Segment {
     }
 
     /// Puts the cells from place `from` on into the batch, in place of what was there: 1,024 of them, or those that are
-    /// left. After `Memory` the batch is empty.
+    /// left. After `Memory` the batch is as before.
     pub fn decode_batch(&self, from: usize, out: &mut Batch) -> Result<(), Memory>
         ensures cells { OnOk result (HasCells self.now.body self.now.length from out.new) }
-        ensures err { OnErr result (out.new ≡ []) }
+        ensures err { OnErr result (out.new ≡ out.old) }
     {
-        let mut cells = mem::replace(out, Items::new(out.allocator())).into_vec();
-        cells.clear();
+        let mut cells = Vec::new(out.allocator());
         if from < self.length {
             let count = (self.length - from).min(1024);
             cells = self.decoded(from, count, cells)?;

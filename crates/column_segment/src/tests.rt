@@ -94,6 +94,11 @@ fn fewest_words(rt: HostRuntime) -> Result<(), Fail> {
             3,
         ),
         (
+            &[(1, low), (1, high), (1, CellRef::Number(5)), (1, NULL)][..],
+            Encoding::DictPacked,
+            4,
+        ),
+        (
             &[(500, NULL), (500, low), (500, high)][..],
             Encoding::DictRuns,
             8,

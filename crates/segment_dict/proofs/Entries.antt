@@ -1,10 +1,11 @@
 -- Entries, their places and their codes.
-use Rattle.std.proofs.Common.{◌≡◌, ℕ, ◌+◌, ◌-◌, ◌<◌, ◌↔◌, List, [], ◌∷◌, length, get_or, map, refl, sym, ◌∙◌, ap, subst, arith, Bool, true, false, IsTrue, Contains, Option, None, Some, cond, nat_lt, slice_get, option_map, zero, suc}
+use Rattle.std.proofs.Common.{◌≡◌, ℕ, ◌+◌, ◌-◌, ◌<◌, ◌↔◌, inl, inr, List, [], ◌∷◌, ◌++◌, length, get_or, map, refl, sym, ◌∙◌, ap, subst, arith, Bool, true, false, IsTrue, Contains, Option, None, Some, cond, nat_lt, slice_get, option_map, zero, suc}
 use Rattle.std.specs.declared.cmp.Ordering.{Ordering}
 use Rattle.std.specs.declared.cmp.Ordering.TheVariants.{Less}
 use Rattle.std.specs.Int.{from_bool}
 use Rattle.std.proofs.lemmas.Bool.Decides.{nat_tests}
-use Rattle.std.proofs.lemmas.List.{get_or-map, length-map}
+use Rattle.std.proofs.lemmas.Bool.{cases_lt}
+use Rattle.std.proofs.lemmas.List.{get_or-map, length-map, length_push, get_or_append_left, get_or_push}
 use Rattle.std.proofs.lemmas.List.Elements.{All-contains}
 use Rattle.std.proofs.lemmas.Option.{slice_get_within, get_or_from_slice_get}
 use Rattle.segment_dict.specs.Dictionaries.{Ascends, AreDistinct, IsDictOf, IsCodeOf}
@@ -73,3 +74,24 @@ IsCodeOf-place entries nulls x place e =
 
 pub Contains-place : {X : Type 0} (entries : List X) (x : X) (place : ℕ) → slice_get entries place ≡ Some x → Contains entries x
 Contains-place entries x place e = (place, slice_get_within entries place x e, get_or_from_slice_get entries place x x e)
+
+-- the codes of the first n cells
+pub record AreCodesBelow {X : Type 0} (entries : List X) (nulls : Bool) (cells : List (Option X)) (n : ℕ) (codes : List ℕ) : Type 0 where
+  pub counted : length codes ≡ n
+  pub are : (k : ℕ) → k < n → (cell : Option X) → slice_get cells k ≡ Some cell → IsCodeOf entries nulls cell (get_or codes k 0)
+
+pub AreCodesBelow-push : {X : Type 0} (entries : List X) (nulls : Bool) (cells : List (Option X)) (n : ℕ) (codes : List ℕ) (code : ℕ) (d : Option X) → AreCodesBelow entries nulls cells n codes → IsCodeOf entries nulls (get_or cells n d) code → AreCodesBelow entries nulls cells (n + 1) (codes ++ code ∷ [])
+AreCodesBelow-push {X} entries nulls cells n codes code d is last =
+    let counted : length codes ≡ n = is.counted in
+    record {
+      counted = omega (arith, length_push codes code, counted);
+      are = λ k l cell e. elim (cases_lt k n) [
+        | inl less ↦
+            subst (λ (m : ℕ). IsCodeOf entries nulls cell m) (sym (get_or_append_left codes (code ∷ []) 0 k (omega (arith, less, counted)))) (is.are k less cell e)
+        | inr more ↦
+            let same : k ≡ n = omega arith in
+            let here : get_or cells n d ≡ cell = ap (λ j. get_or cells j d) (sym same) ∙ get_or_from_slice_get cells k cell d e in
+            subst (λ (m : ℕ). IsCodeOf entries nulls cell m) (sym (get_or_push codes code 0 k (omega (arith, same, counted))))
+            (subst (λ (o : Option X). IsCodeOf entries nulls o code) here last)
+      ];
+    }

@@ -2,3 +2,4 @@ pub mod Entries
 pub mod Orders
 pub mod Searches
 pub mod TextLemmas
+pub mod MarkLemmas

@@ -1,5 +1,5 @@
 -- Sorted dictionaries: the code of a cell is the place of its entry, after the code of NULL where there is one.
-use Rattle.std.specs.Prelude.{◌≡◌, ◌+◌, ◌-◌, ◌<◌, ◌↔◌, ℕ, Bool, true, List, Option, None, Some, IsTrue, All, AllPairs, Any, Contains, length, slice_get, nat_lt, if◌then◌else◌}
+use Rattle.std.specs.Prelude.{◌≡◌, ◌+◌, ◌-◌, ◌<◌, ◌↔◌, ℕ, Bool, true, List, Option, None, Some, IsTrue, All, AllPairs, Any, Contains, length, slice_get, slice_index, nat_lt, if◌then◌else◌}
 use Rattle.std.specs.Int.{from_bool}
 use Rattle.std.specs.declared.cmp.Ordering.{Ordering}
 use Rattle.std.specs.declared.cmp.Ordering.TheVariants.{Less}
@@ -41,3 +41,9 @@ pub record AreDistinct {X : Type 0} (cmp : X → X → Ordering) (eq : X → X �
 abbrev pub IsPlaceOf : {X : Type 0} → List X → X → Option ℕ → Type 0
 IsPlaceOf entries x None = ¬ Contains entries x
 IsPlaceOf entries x (Some place) = slice_get entries place ≡ Some x
+
+-- each code is that of the cell in its place
+abbrev pub AreCodesOf : {X : Type 0} → List X → Bool → List (Option X) → List ℕ → Type 0
+AreCodesOf {X} entries nulls cells codes =
+    (length codes ≡ length cells)
+    × ((i : ℕ) (cell : Option X) → slice_get cells i ≡ Some cell → IsCodeOf entries nulls cell (slice_index codes i))

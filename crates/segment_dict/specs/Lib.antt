@@ -1,2 +1,3 @@
 pub mod Dictionaries
 pub mod Texts
+pub mod Marks

@@ -4,7 +4,9 @@
 //! code is the cell. It stands on `cs_base`. Larson et al., SIGMOD 2011, describe dictionary encoding.
 #![tactic(auto)]
 
+mod directory;
 mod distinct;
+mod marks;
 mod numbers;
 mod texts;
 

@@ -115,7 +115,8 @@ impl TextDict {
 
     /// What the entries cost in words of 64 bits: one for each end, and the joined bytes, 8 to a word.
     pub fn words(&self) -> u64
-        ensures { result ≡ length self.now.ends + (length self.now.bytes + 7) / 8 }
+        ensures words { result ≡ length self.now.ends + (length self.now.bytes + 7) / 8 }
+        ensures small { result < 2 ^ 63 }
     {
         let ends = self.ends.as_slice().len() as u64;
         let bytes = self.bytes.as_slice().len() as u64;

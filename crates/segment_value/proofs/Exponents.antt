@@ -1,8 +1,9 @@
 -- The exponent of the numbers so far, as a loop goes on.
-use Rattle.std.proofs.Common.{◌≡◌, ◌≢◌, ℕ, ◌≤◌, ◌⊎◌, inl, inr, List, [], ◌∷◌, ◌++◌, get_or, refl, arith, ℤ, pos, ◌≤ℤ◌, All}
+use Rattle.std.proofs.Common.{◌≡◌, ◌≢◌, ℕ, ◌≤◌, ◌⊎◌, inl, inr, List, [], ◌∷◌, ◌++◌, length, get_or, take, drop, refl, sym, ◌∙◌, ap, subst, arith, Option, ℤ, pos, ◌≤ℤ◌, All, length-append}
 use Rattle.std.proofs.lemmas.Int.{ints}
-use Rattle.std.proofs.lemmas.List.Elements.{All-push, All-nil, All-weaker}
-use Rattle.segment_value.specs.Scales.{Divides, IsCommonExponent, IsExponent, AreBounds}
+use Rattle.std.proofs.lemmas.List.{take-append-drop, get_or_append_left}
+use Rattle.std.proofs.lemmas.List.Elements.{All-push, All-nil, All-weaker, filter_map-append}
+use Rattle.segment_value.specs.Scales.{numbers_in, Divides, IsCommonExponent, IsExponent, AreBounds}
 use Rattle.segment_value.proofs.Cells.{All-front, All-last}
 use Rattle.segment_value.proofs.Powers.{Divides-less, Divides-none}
 
@@ -15,6 +16,25 @@ IsCommonExponent-push ns n e f is less divides greatest = record {
   divides = All-push (Divides f) ns n (All-weaker (Divides e) (Divides f) (λ m h. Divides-less f e m less h) ns is.divides) divides;
   greatest = λ d l all. greatest d (is.greatest d l (All-front (Divides d) ns n all)) (All-last (Divides d) ns n all);
 }
+
+-- once the exponent is 0 it stays so
+pub IsCommonExponent-least : (cells : List (Option ℤ)) (i : ℕ) → IsCommonExponent (numbers_in (take i cells)) 0 → IsCommonExponent (numbers_in cells) 0
+IsCommonExponent-least cells i is = record {
+  most = omega arith;
+  divides = λ k d l. Divides-none (get_or (numbers_in cells) k d);
+  greatest = λ d l all. is.greatest d l (front d all);
+}
+  where
+    parts : numbers_in cells ≡ numbers_in (take i cells) ++ numbers_in (drop i cells)
+    parts = ap numbers_in (sym (take-append-drop i cells)) ∙ filter_map-append (λ c. c) (take i cells) (drop i cells)
+
+    front : (d : ℕ) → All (Divides d) (numbers_in cells) → All (Divides d) (numbers_in (take i cells))
+    front d all = λ k e low.
+        let P : List ℤ → Type 0 = λ l. All (Divides d) l in
+        let Q : ℤ → Type 0 = λ n. Divides d n in
+        let both = subst P parts all in
+        subst Q (get_or_append_left (numbers_in (take i cells)) (numbers_in (drop i cells)) e k low)
+        (both k e (omega (arith, low, length-append (numbers_in (take i cells)) (numbers_in (drop i cells)))))
 
 -- numbers whose least and greatest are 0 are all 0
 pub IsExponent-zeros : (ns : List ℤ) (least greatest : ℤ) → AreBounds ns least greatest → least ≡ pos 0 → greatest ≡ pos 0 → IsExponent ns 0

@@ -18,7 +18,7 @@ pub record IsCommonExponent (numbers : List ℤ) (e : ℕ) : Type 0 where
   pub divides : All (Divides e) numbers
   pub greatest : (d : ℕ) → d ≤ 18 → All (Divides d) numbers → d ≤ e
 
--- the exponent of the numbers: that one, but 0 where all of them are 0
+-- the exponent of the numbers: that one, but 0 where all of them are 0 or there is none
 abbrev pub IsExponent : List ℤ → ℕ → Type 0
 IsExponent numbers e = (All (λ n. n ≡ pos 0) numbers × (e ≡ 0)) ⊎ (Any (λ n. n ≢ pos 0) numbers × IsCommonExponent numbers e)
 

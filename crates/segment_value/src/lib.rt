@@ -4,9 +4,27 @@
 //! Larson et al., SIGMOD 2011, describe value encoding.
 #![tactic(auto)]
 
-ghost use Rattle.std.specs.Prelude.{◌≡◌, ◌≤◌, ◌<◌, ◌^◌, ◌↔◌, ℕ, ℤ, List, [], ◌∷◌, ◌++◌, Contains, IsTrue, None, Some, pos, int_div, ◌+ℤ◌, FitsSigned};
+ghost use Rattle.std.specs.Prelude.{◌≡◌, ◌≤◌, ◌<◌, ◌^◌, ◌↔◌, ℕ, ℤ, List, [], ◌∷◌, ◌++◌, Contains, IsTrue, None, Some, pos, int_div, unsigned_abs, ◌%◌, ◌+ℤ◌, ◌-ℤ◌, ◌+◌, FitsSigned, All, map, IfOk};
 ghost use Rattle.std.specs.Int.{w64};
-ghost use Rattle.segment_value.specs.Scales.{numbers_in, Divides, AreBounds, IsRange, IsExponent, IsCommonExponent, IsScaling, Takes, IsCode, code_of, cell_of};
+ghost use Rattle.segment_value.specs.Scales.{numbers_in, Divides, AreBounds, IsRange, IsExponent, IsCommonExponent, IsScaling, Takes, IsCode, null_codes, code_of, cell_of};
+
+use std::alloc::{AllocError, Global};
+
+macro_rules! choose {
+    ($exponent:expr, $call:ident $given:tt, $($n:literal)*) => {
+        match $exponent {
+            $($n => $call::<$n> $given,)*
+            _ => unreachable!(),
+        }
+    };
+}
+
+/// A call at an exponent from 0 to 18 that is known only when it runs.
+macro_rules! by_exponent {
+    ($exponent:expr, $call:ident $given:tt) => {
+        choose!($exponent, $call $given, 0 1 2 3 4 5 6 7 8 9 10 11 12 13 14 15 16 17 18)
+    };
+}
 
 /// How a column's numbers are kept as codes.
 #[derive(Debug, Clone, Copy, PartialEq, Eq)]
@@ -45,11 +63,62 @@ pub fn shrink(scale: Scale, cell: Option<i64>) -> u64
 {
     match cell {
         None => 0,
-        Some(number) => {
-            let units = units_of(number, scale.exponent);
-            units.abs_diff(scale.base) + u64::from(scale.nulls)
-        }
+        Some(number) => code_above(scale, units_of(number, scale.exponent)),
     }
+}
+
+/// The codes of cells that the scale takes, one after another: those of `shrink`. `AllocError` comes where there is no
+/// room for them.
+pub fn shrink_all(
+    alloc: Global,
+    scale: Scale,
+    cells: &[Option<i64>],
+) -> Result<Vec<u64>, AllocError>
+    requires exponent { scale.exponent ≤ 18 }
+    requires cells { All (Takes scale) cells.now }
+    ensures { IfOk result (λ codes. codes.items ≡ map (code_of scale) cells.now) }
+{
+    by_exponent!(scale.exponent, shrink_all_at(alloc, scale, cells))
+}
+
+/// As `shrink_all`, at an exponent that is known when it is compiled: a loop that divides by a constant is much quicker than
+/// one that divides by a variable.
+fn shrink_all_at<const E: u32>(
+    alloc: Global,
+    scale: Scale,
+    cells: &[Option<i64>],
+) -> Result<Vec<u64>, AllocError>
+    requires exponent { (scale.exponent ≡ E) × (E ≤ 18) }
+    requires cells { All (Takes scale) cells.now }
+    ensures { IfOk result (λ codes. codes.items ≡ map (code_of scale) cells.now) }
+{
+    let mut codes = Vec::with_capacity(alloc, cells.len())?;
+    for cell in cells {
+        codes.push(shrink_at::<E>(scale, *cell))?;
+    }
+    Ok(codes)
+}
+
+/// As `shrink`, at an exponent that is known when it is compiled.
+#[inline(always)]
+fn shrink_at<const E: u32>(scale: Scale, cell: Option<i64>) -> u64
+    requires exponent { (scale.exponent ≡ E) × (E ≤ 18) }
+    requires takes { Takes scale cell }
+    ensures { result ≡ code_of scale cell }
+{
+    match cell {
+        None => 0,
+        Some(number) => code_above(scale, quotient::<E>(number)),
+    }
+}
+
+/// The code of a number that is so many units.
+#[inline(always)]
+fn code_above(scale: Scale, units: i64) -> u64
+    requires { unsigned_abs (units -ℤ scale.base) + null_codes scale.nulls < 2 ^ 64 }
+    ensures { result ≡ unsigned_abs (units -ℤ scale.base) + null_codes scale.nulls }
+{
+    units.abs_diff(scale.base) + u64::from(scale.nulls)
 }
 
 /// The cell of a code. The code is that of a cell which the scale takes.
@@ -93,6 +162,9 @@ fn common_exponent(cells: &[Option<i64>]) -> u32
 {
     let mut exponent = 18;
     for cell in cells {
+        if exponent == 0 {
+            return 0;
+        }
         if let Some(number) = *cell {
             exponent = exponent_up_to(exponent, number);
         }
@@ -119,7 +191,24 @@ fn is_multiple(number: i64, exponent: u32) -> bool
     requires { exponent ≤ 18 }
     ensures { IsTrue result ↔ Divides exponent number }
 {
-    number.unsigned_abs() % power_of_ten(exponent) == 0
+    remainder_of(number, exponent) == 0
+}
+
+/// What the power of ten leaves of the number's size.
+fn remainder_of(number: i64, exponent: u32) -> u64
+    requires { exponent ≤ 18 }
+    ensures { result ≡ unsigned_abs number % 10 ^ exponent }
+{
+    by_exponent!(exponent, remainder(number))
+}
+
+/// As `remainder_of`, at an exponent that is known when it is compiled.
+#[inline(always)]
+fn remainder<const E: u32>(number: i64) -> u64
+    requires { E ≤ 18 }
+    ensures { result ≡ unsigned_abs number % 10 ^ E }
+{
+    number.unsigned_abs() % power_of_ten(E)
 }
 
 /// The number that lies so far above the base. The way there may pass the range of the base.
@@ -135,7 +224,16 @@ fn units_of(number: i64, exponent: u32) -> i64
     requires { exponent ≤ 18 }
     ensures { result ≡ int_div number (pos (10 ^ exponent)) }
 {
-    number / power_of_ten(exponent) as i64
+    by_exponent!(exponent, quotient(number))
+}
+
+/// As `units_of`, at an exponent that is known when it is compiled.
+#[inline(always)]
+fn quotient<const E: u32>(number: i64) -> i64
+    requires { E ≤ 18 }
+    ensures { result ≡ int_div number (pos (10 ^ E)) }
+{
+    number / power_of_ten(E) as i64
 }
 
 /// 10 to the power of the exponent.

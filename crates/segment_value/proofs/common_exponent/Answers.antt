@@ -1,7 +1,7 @@
 use Rattle.std.proofs.Common.{rules, Some, FitsSigned, w64}
 use Rattle.std.proofs.lemmas.Int.{to_z-of_z}
 use Rattle.segment_value.proofs.Cells.{numbers_in-more, numbers_in-null}
-use Rattle.segment_value.proofs.Exponents.{IsCommonExponent-push}
+use Rattle.segment_value.proofs.Exponents.{IsCommonExponent-push, IsCommonExponent-least}
 use Rattle.segment_value.proofs.common_exponent.Goals as goal
 use Rattle.segment_value.proofs.common_exponent.Goals.{in-Some, in_default}
 
@@ -14,3 +14,6 @@ loop-cell-preserved c = elim c.match-cell.branch [
       (IsCommonExponent-push _ _ _ _ c.loop-cell.invariant told.bound told.divides told.greatest)
   | in_default w ↦ rw (w.exponent-is, numbers_in-null c.args.cells.now c.loop-cell.cell-index c.loop-cell-test.true w.in_default.is) c.loop-cell.invariant
 ]
+
+pub returns-then-exponent-eq0 : goal.returns-then-exponent-eq0
+returns-then-exponent-eq0 c = IsCommonExponent-least c.args.cells.now c.loop-cell.cell-index (rw c.if-exponent-eq0.true at c.loop-cell.invariant)

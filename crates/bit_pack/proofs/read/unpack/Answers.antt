@@ -5,7 +5,7 @@ use Rattle.bit_pack.proofs.read.unpack.Goals as goal
 pub blocks_from-requires-clause-there : goal.blocks_from-requires-clause-there
 blocks_from-requires-clause-there g c = λ b low.
     let within : c.min-head.result + 64 * (b + 1) ≤ c.args.count = omega (arith, low) in
-    whole_there c.args.from c.min-head.result c.div_ceil.result b c.args.count g.row.W (length c.args.words.now) (aligned c.args.from c.args.count _ _ b c.min-head.ensures c.div_ceil.ensures low) within c.requires.there
+    whole_there c.args.from c.min-head.result c.div_ceil.result b c.args.count g.row.W (length c.args.words.now) (aligned c.args.from c.args.count _ _ b c.min-head.ensures c.div_ceil.ensures low) within (c.requires.there (omega arith))
 
 pub returns : goal.returns
 returns g c =

@@ -7,10 +7,10 @@ pub loop-i-preserved : goal.loop-i-preserved
 loop-i-preserved c = elim c.if-begins.branch [
   | then-begins w ↦ record {
     bound = omega (arith, w.runs-is, c.loop-i.invariant.bound);
-    runs = λ codes match. w.runs-is ∙ one_begins codes c.loop-i.i _ _ (c.begins.ensures codes match) w.if-begins.true (c.loop-i.invariant.runs codes match);
+    runs = λ others match. w.runs-is ∙ one_begins others c.loop-i.i _ _ (c.begins.ensures others match) w.if-begins.true (c.loop-i.invariant.runs others match);
   }
   | else-begins w ↦ record {
     bound = omega (arith, w.runs-is, c.loop-i.invariant.bound);
-    runs = λ codes match. w.runs-is ∙ none_begins codes c.loop-i.i _ _ (c.begins.ensures codes match) w.if-begins.false (c.loop-i.invariant.runs codes match);
+    runs = λ others match. w.runs-is ∙ none_begins others c.loop-i.i _ _ (c.begins.ensures others match) w.if-begins.false (c.loop-i.invariant.runs others match);
   }
 ]

@@ -6,7 +6,7 @@ use Rattle.column_segment.proofs.Kept.{IsReadable, readable}
 use Rattle.column_segment.proofs.segment.Segment.codes_from.Goals as goal
 
 pub unpack_width-requires-clause-there : goal.unpack_width-requires-clause-there
-unpack_width-requires-clause-there c =
+unpack_width-requires-clause-there c = λ some.
     let P : SegmentBody → Type 0 = λ b. IsReadable c.args.self.now.length b in
     let reads = subst P c.in-ValuePacked.is (readable c.args.self.now.length c.args.self.now.body c.args.self.now.least c.args.self.now.greatest c.args.self.now.nulls c.args.self.now.of_cells) in
     let Q : List ℕ → Type 0 = λ l. (c.args.from + c.args.count) * c.in-ValuePacked.width ≤ 64 * length l in
@@ -25,7 +25,7 @@ unpack_width-requires-in-DictPacked-clause-width c =
     (subst P c.in-DictPacked.is (readable c.args.self.now.length c.args.self.now.body c.args.self.now.least c.args.self.now.greatest c.args.self.now.nulls c.args.self.now.of_cells)).0
 
 pub unpack_width-requires-in-DictPacked-clause-there : goal.unpack_width-requires-in-DictPacked-clause-there
-unpack_width-requires-in-DictPacked-clause-there c =
+unpack_width-requires-in-DictPacked-clause-there c = λ some.
     let P : SegmentBody → Type 0 = λ b. IsReadable c.args.self.now.length b in
     let reads = subst P c.in-DictPacked.is (readable c.args.self.now.length c.args.self.now.body c.args.self.now.least c.args.self.now.greatest c.args.self.now.nulls c.args.self.now.of_cells) in
     let Q : List ℕ → Type 0 = λ l. (c.args.from + c.args.count) * c.in-DictPacked.width ≤ 64 * length l in

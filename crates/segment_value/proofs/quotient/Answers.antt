@@ -1,15 +1,15 @@
 use Rattle.std.proofs.Common.{pos, arith, ap, w64, int_div}
 use Rattle.std.proofs.lemmas.Int.{ints, to_z-of_z, to_z_pos, quot_fits}
-use Rattle.segment_value.proofs.units_of.Goals as goal
+use Rattle.segment_value.proofs.quotient.Goals as goal
 
 pub nonzero_div-result : goal.nonzero_div-result
-nonzero_div-result c =
+nonzero_div-result g c =
     let bounds = c.power_of_ten.ensures.bounds in
     let fits = c.ranges.number in
     (omega arith, rw (to_z-of_z, to_z_pos w64 c.power_of_ten.result (omega arith)) (quot_fits w64 c.args.number (pos c.power_of_ten.result) fits (omega (arith, ints))))
 
 pub returns : goal.returns
-returns c =
+returns g c =
     let bounds = c.power_of_ten.ensures.bounds in
     let fits = c.ranges.number in
     let quotient_fits = quot_fits w64 c.args.number (pos c.power_of_ten.result) fits (omega (arith, ints)) in
