@@ -1,0 +1,4 @@
+pub mod OrderLemmas
+pub mod RankLemmas
+pub mod ShownLemmas
+pub mod GroupLemmas

@@ -1,0 +1,7 @@
+use Rattle.std.proofs.Common.{◌≡◌, length, map}
+use Rattle.row_group.specs.Rows.{repacked}
+use Rattle.row_group.specs.Kept.{IsKept}
+use Rattle.row_group.proofs.kept.kept_of.Given as goal
+
+abbrev pub invariant-loop-version : goal.invariant-loop-version
+invariant-loop-version l = IsKept (length l.schema.columns) l.schema.key (repacked l.yielded l.floor) l.kept.columns.items l.kept.keys.items l.kept.begins.items

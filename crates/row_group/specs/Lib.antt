@@ -1,0 +1,5 @@
+pub mod Orders
+pub mod Rows
+pub mod Groups
+pub mod Kept
+pub mod Sources
