@@ -3,3 +3,4 @@ pub mod Rows
 pub mod Groups
 pub mod Kept
 pub mod Sources
+pub mod Arranged

@@ -1,7 +1,7 @@
 -- The rows of a group, and their order.
-use Rattle.std.specs.Prelude.{◌≡◌, ◌≢◌, ℕ, ◌==◌, nat_le, Bool, false, not, List, [], ◌∷◌, length, map, filter, slice_index_or, AllPairs, Option, None, Some, if◌then◌else◌, IsPermutation}
+use Rattle.std.specs.Prelude.{◌≡◌, ◌≢◌, ℕ, ◌==◌, nat_le, Bool, false, not, List, length, map, filter, slice_index_or, AllPairs, Option, None, Some, if◌then◌else◌, IsPermutation}
 use Rattle.std.specs.declared.cmp.Ordering.{Ordering}
-use Rattle.std.specs.declared.cmp.Ordering.TheVariants.{Less, Equal, Greater}
+use Rattle.std.specs.declared.cmp.Ordering.TheVariants.{Less, Greater}
 use Rattle.std.specs.List.{range_with_len}
 use Rattle.std.specs.Ordering.{nat_cmp, ordering_then, eq_by_cmp}
 use Rattle.std.specs.Set.{distinct_count}
@@ -9,6 +9,7 @@ use Rattle.cs_types.specs.declared.Value.{Value}
 use Rattle.cs_types.specs.declared.row.Version.{Version}
 use Rattle.cs_types.specs.Rows.{cell_at}
 use Rattle.cs_types.specs.Values.{value_cmp}
+use Rattle.row_group.specs.Orders.{by_rank}
 
 -- a row of a group: its cells, one a column, and the number of the commit from which it is there
 pub record PackedRow : Type 0 where
@@ -50,12 +51,9 @@ column_cmp rows a b =
     ordering_then (nat_cmp (distinct_cells (column_of rows a)) (distinct_cells (column_of rows b))) (nat_cmp a b)
 
 -- rows by their cells in the rank of the columns, NULL first, then by begin
-abbrev pub cells_cmp : List ℕ → List Value → List Value → Ordering
-cells_cmp [] x y = Equal
-cells_cmp (column ∷ rank) x y = ordering_then (value_cmp (cell_at x column) (cell_at y column)) (cells_cmp rank x y)
-
 abbrev pub row_cmp : List ℕ → PackedRow → PackedRow → Ordering
-row_cmp rank x y = ordering_then (cells_cmp rank x.cells y.cells) (nat_cmp x.begin y.begin)
+row_cmp rank x y =
+    ordering_then (by_rank (λ column. value_cmp (cell_at x.cells column) (cell_at y.cells column)) rank) (nat_cmp x.begin y.begin)
 
 -- the rows of so many columns are in the order of a group
 pub record AreInOrder (width : ℕ) (rows : List PackedRow) : Type 0 where

@@ -7,9 +7,12 @@
 //! sorted; SQL Server's columnstore guide calls them compressed rowgroups.
 #![tactic(auto)]
 
+mod arrange;
 mod kept;
 mod order;
+mod pack;
 mod packed;
 mod ranks;
 
+pub use pack::pack_rows;
 pub use packed::{Packed, Places};

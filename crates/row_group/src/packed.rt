@@ -18,17 +18,17 @@ pub struct Places {
 #[derive(Debug, Drop)]
 pub struct Packed {
     /// The segments of the columns, in the columns' order.
-    segments: Items<Segment>,
+    pub(crate) segments: Items<Segment>,
     /// The place of the key's column.
-    key: usize,
+    pub(crate) key: usize,
     /// The number of rows.
-    length: usize,
+    pub(crate) length: usize,
     /// The begin of every row without a stamped one.
-    base: u64,
+    pub(crate) base: u64,
     /// The stamped begins, by position.
-    late: Items<(usize, u64)>,
+    pub(crate) late: Items<(usize, u64)>,
     /// The positions of the rows, by key.
-    places: Items<usize>,
+    pub(crate) places: Items<usize>,
 }
 
 impl Model for Packed {
