@@ -5,3 +5,6 @@ pub mod ShownLemmas
 pub mod GroupLemmas
 pub mod KeptLemmas
 pub mod ArrangeLemmas
+pub mod StampLemmas
+pub mod FieldLemmas
+pub mod PackLemmas

@@ -31,7 +31,7 @@ length-shown segments late base count = length-map-range_with_len (shown_row seg
 pub row-shown : (segments : List Segment) (late : List (ℕ × ℕ)) (base count position : ℕ) (d : PackedRow) → position < count → get_or (shown_rows segments late base count) position d ≡ shown_row segments late base position
 row-shown segments late base count position d l = get_or-map-range_with_len (shown_row segments late base) 0 count position position d l (omega arith)
 
-map-map : {X Y Z : Type 0} (f : X → Y) (g : Y → Z) (h : X → Z) → ((x : X) → g (f x) ≡ h x) → (xs : List X) → map g (map f xs) ≡ map h xs
+pub map-map : {X Y Z : Type 0} (f : X → Y) (g : Y → Z) (h : X → Z) → ((x : X) → g (f x) ≡ h x) → (xs : List X) → map g (map f xs) ≡ map h xs
 map-map f g h same [] = refl
 map-map f g h same (x ∷ xs) = ap (λ y. y ∷ map g (map f xs)) (same x) ∙ ap (λ ys. h x ∷ ys) (map-map f g h same xs)
 
@@ -42,7 +42,7 @@ column-shown segments late base count column segment l same is =
       (λ i. cell_at-map (λ s. cell_in s.body i) segments column segment l ∙ ap (λ s. cell_in s.body i) (sym is)) (range_with_len 0 count)
     ∙ ap (λ n. map (λ i. cell_in segment.body i) (range_with_len 0 n)) (sym same)
 
-stamp-none : (late : List (ℕ × ℕ)) (position : ℕ) → ((k : ℕ) (d : ℕ × ℕ) → k < length late → (get_or late k d).0 ≢ position) → stamp_in late position ≡ None
+pub stamp-none : (late : List (ℕ × ℕ)) (position : ℕ) → ((k : ℕ) (d : ℕ × ℕ) → k < length late → (get_or late k d).0 ≢ position) → stamp_in late position ≡ None
 stamp-none [] position other = refl
 stamp-none (entry ∷ late) position other =
     ap (λ b. cond b (Some entry.1) (stamp_in late position)) (ne_eqb entry.0 position (other 0 entry (omega arith)))
