@@ -36,7 +36,7 @@ held-kept column (Number z) held = held
 held-kept column (Text t) held = held
 
 -- the versions that are kept fit as all do
-repacked-fits : (schema : Schema) (versions : List Version) (floor : ℕ) → All (λ version. IsRowOf schema version.row) versions → All (λ version. IsRowOf schema version.row) (repacked versions floor)
+pub repacked-fits : (schema : Schema) (versions : List Version) (floor : ℕ) → All (λ version. IsRowOf schema version.row) versions → All (λ version. IsRowOf schema version.row) (repacked versions floor)
 repacked-fits schema versions floor fit =
     All-map (λ (version : Version). IsRowOf schema version.row) (raised floor) (filter (λ v. not (ended_by floor v.end)) versions)
     (All-filter (λ v. not (ended_by floor v.end)) (λ (version : Version). IsRowOf schema version.row) versions fit)
@@ -94,15 +94,72 @@ module _ (schema : Schema) (versions : List Version) (columns : List (List Value
     pub places-apart : AllPairs (λ a b. a ≢ b) order
     places-apart i j d l m = range-apart (length begins) order ordered.all i j d l m
 
-    all_rows : List PackedRow
-    all_rows = map (source_row columns begins) order
+    length-column : (c : ℕ) → c < length columns → length (get_or columns c []) ≡ length begins
+    length-column c l =
+        ap length (kept.of_rows.cells c (omega (arith, kept.of_rows.counted)))
+        ∙ length-map (map (λ (v : Version). v.row) versions) (λ row. cell_at row c) ∙ length-map versions (λ (v : Version). v.row) ∙ sym length-begins
 
     -- a column of the rows has its cells in another order
     column-moved : (c : ℕ) → c < length columns → IsPermutation (get_or columns c []) (column_of (map (source_row columns begins) order) c)
-    column-moved c l = ?
+    column-moved c l =
+        let column = get_or columns c [] in
+        let before = fill_by_all (cell_at column) column (length begins) Null (length-column c l) (λ k m. sym (cell_at-get_or column k)) in
+        let after = map-map (source_row columns begins) (λ (row : PackedRow). cell_at row.cells c) (cell_at column) (λ i. cell_of-source columns begins i c) order in
+        subst (λ (cells : List Value). IsPermutation cells (column_of (map (source_row columns begins) order) c)) (sym before)
+        (subst (IsPermutation (map (cell_at column) (range_with_len 0 (length begins)))) (sym after)
+        (IsPermutation-map (cell_at column) (range_with_len 0 (length begins)) order ordered.all))
+
+    rank-within : All (λ c. c < length columns) ordered.rank
+    rank-within = All-permutation (λ c. c < length columns) (range_with_len 0 (length columns)) ordered.rank ordered.of_columns
+        (λ k d l. let m : k < length columns = omega (arith, length-range_with_len 0 (length columns)) in omega (arith, get_or-range_with_len 0 (length columns) k d m))
+
+    counted : (c : ℕ) → c < length columns → get_or ordered.counts c 0 ≡ distinct_cells (column_of (map (source_row columns begins) order) c)
+    counted c l = ordered.counted c (column_of (map (source_row columns begins) order) c) l (column-moved c l)
+
+    -- rows stand as the places of the columns do
+    rows-stand : (p q : ℕ) → row_cmp ordered.rank (source_row columns begins p) (source_row columns begins q) ≡ source_cmp columns begins ordered.rank p q
+    rows-stand p q =
+        ap (λ r. ordering_then r (nat_cmp (get_or begins p 0) (get_or begins q 0)))
+        (by_rank-same (λ c. value_cmp (cell_at (source_row columns begins p).cells c) (cell_at (source_row columns begins q).cells c)) (λ c. value_cmp (cell_at (get_or columns c []) p) (cell_at (get_or columns c []) q)) ordered.rank
+          (λ k d l.
+            let c = get_or ordered.rank k d in
+            ap (λ x. value_cmp x (cell_at (source_row columns begins q).cells c)) (cell_of-source columns begins p c) ∙ ap (value_cmp (cell_at (get_or columns c []) p)) (cell_of-source columns begins q c)))
 
     in-order : AreInOrder (length schema.columns) (map (source_row columns begins) order)
-    in-order = ?
+    in-order = record {
+        rank = ordered.rank;
+        of_columns = subst (λ n. IsPermutation (range_with_len 0 n) ordered.rank) kept.of_rows.counted ordered.of_columns;
+        ranked = λ i j d l m.
+          let a = get_or ordered.rank i d in
+          let b = get_or ordered.rank j d in
+          sym (ap (λ x. ordering_then (nat_cmp x (get_or ordered.counts b 0)) (nat_cmp a b)) (counted a (rank-within i d (omega arith)))
+            ∙ ap (λ y. ordering_then (nat_cmp (distinct_cells (column_of (map (source_row columns begins) order) a)) y) (nat_cmp a b)) (counted b (rank-within j d m)))
+          ∙ ordered.ranked i j d l m;
+        ascending = λ i j d l m greater.
+          let n : j < length order = omega (arith, m, length-map order (source_row columns begins)) in
+          let x = get_or-map (source_row columns begins) order i 0 d (omega arith) in
+          let y = get_or-map (source_row columns begins) order j 0 d n in
+          ordered.ascending i j 0 l n
+            (sym (rows-stand (get_or order i 0) (get_or order j 0))
+            ∙ sym (ap (λ row. row_cmp ordered.rank row (get_or (map (source_row columns begins) order) j d)) x ∙ ap (row_cmp ordered.rank (source_row columns begins (get_or order i 0))) y)
+            ∙ greater);
+      }
 
-    pub group-kept : (floor : ℕ) (group : Group) → IsArranged columns begins order schema.key floor group → IsPermutation (map (row_of (length schema.columns)) versions) group.rows × AreInOrder (length schema.columns) group.rows
-    group-kept floor group arranged = ?
+    -- the rows of the group
+    pub rows-moved : IsPermutation (map (row_of (length schema.columns)) versions) (map (source_row columns begins) order)
+    rows-moved = subst (λ (all : List PackedRow). IsPermutation all (map (source_row columns begins) order)) (sym rows-kept)
+        (IsPermutation-map (source_row columns begins) (range_with_len 0 (length begins)) order ordered.all)
+
+    pub rows-ordered : AreInOrder (length schema.columns) (map (source_row columns begins) order)
+    rows-ordered = in-order
+
+-- the group is that of the versions
+pub group-made : (schema : Schema) (versions : List Version) (floor : ℕ) (columns : List (List Value)) (keys : List Key) (begins order : List ℕ) (group : Group) → IsKept (length schema.columns) schema.key (repacked versions floor) columns keys begins → IsRowOrder columns begins order → IsArranged columns begins order schema.key floor group → IsGroupOf schema versions floor group
+group-made schema versions floor columns keys begins order group kept ordered arranged = record {
+    rows = subst (IsPermutation (map (row_of (length schema.columns)) (repacked versions floor))) (sym arranged.rows) (rows-moved schema (repacked versions floor) columns keys begins kept order ordered);
+    order = subst (AreInOrder (length schema.columns)) (sym arranged.rows) (rows-ordered schema (repacked versions floor) columns keys begins kept order ordered);
+    places = arranged.places;
+    width = arranged.width ∙ kept.of_rows.counted;
+    key = arranged.key;
+    base = arranged.base;
+  }
