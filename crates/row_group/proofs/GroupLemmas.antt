@@ -1,5 +1,5 @@
 -- The positions of a group by key.
-use Rattle.std.proofs.Common.{◌≡◌, ◌≢◌, ℕ, ◌+◌, ◌<◌, ◌≤◌, ◌⊎◌, inl, inr, List, [], length, map, get_or, refl, sym, ◌∙◌, ap, subst, arith, Bool, true, false, true≢false}
+use Rattle.std.proofs.Common.{◌≡◌, ◌≢◌, ℕ, ◌+◌, ◌<◌, ◌≤◌, inl, inr, [], length, get_or, refl, sym, ◌∙◌, ap, arith, Bool, true, false, true≢false}
 use Rattle.std.specs.declared.cmp.Ordering.{Ordering}
 use Rattle.std.specs.declared.cmp.Ordering.TheVariants.{Less, Equal, Greater}
 use Rattle.std.specs.Cmp.{IsTotalOrder}
@@ -52,7 +52,7 @@ module _ (group : Group) (is : IsOrderOf key_cmp (keys_of group.key group.rows) 
     | inl less ↦
         let d = key_at_place group p in
         not_greater-order key_cmp (keys_of group.key group.rows) group.places is d p q less l
-          (ap (λ k. key_cmp k (get_or (keys_of group.key group.rows) (get_or group.places q 0) d)) (key-at d p (omega arith)) ∙ ap (λ k. key_cmp d k) (key-at d q l) ∙ greater)
+        (ap (λ k. key_cmp k (get_or (keys_of group.key group.rows) (get_or group.places q 0) d)) (key-at d p (omega arith)) ∙ ap (λ k. key_cmp d k) (key-at d q l) ∙ greater)
     | inr n ↦
         let e : p ≡ q = omega arith in
         differ (sym (tied_itself key_total (key_at_place group q)) ∙ ap (λ i. key_cmp (key_at_place group i) (key_at_place group q)) (sym e) ∙ greater)
@@ -85,18 +85,18 @@ clash Greater e f = cc
 
 pub places_found : (group : Group) (key : Key) (from to : ℕ) → HasEachPosition group → IsFirstPlace group key false from → IsFirstPlace group key true to → ArePlacesOf group key from to
 places_found group key from to each first last = record {
-    ordered = elim (cases_lt to from) [
-      | inl less ↦ absurd (clash (key_cmp (key_at_place group to) key) (first.before to less) (last.after to (omega arith) (omega (arith, first.within))))
-      | inr more ↦ more
-    ];
-    within = last.within;
-    of_key = λ i l m. same_key (key_at_place group i) key (tie (key_cmp (key_at_place group i) key) (first.after i l (omega (arith, last.within))) (last.before i m));
-    every = λ position l e.
+  ordered = elim (cases_lt to from) [
+    | inl less ↦ absurd (clash (key_cmp (key_at_place group to) key) (first.before to less) (last.after to (omega arith) (omega (arith, first.within))))
+    | inr more ↦ more
+  ];
+  within = last.within;
+  of_key = λ i l m. same_key (key_at_place group i) key (tie (key_cmp (key_at_place group i) key) (first.after i l (omega (arith, last.within))) (last.before i m));
+  every = λ position l e.
       let (i, m, is) = each position l in
       let same : key_at_place group i ≡ key = ap (λ p. key_in group.key (row_at group p).cells) is ∙ e in
       let tied = ap (λ k. key_cmp k key) same ∙ tied_itself key_total key in
       (i, at_least i same (first.before i), below i m same, is);
-  }
+}
   where
     tied : (i : ℕ) → key_at_place group i ≡ key → key_cmp (key_at_place group i) key ≡ Equal
     tied i same = ap (λ k. key_cmp k key) same ∙ tied_itself key_total key

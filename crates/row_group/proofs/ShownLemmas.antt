@@ -1,12 +1,11 @@
 -- The rows that the fields of a packed group show.
-use Rattle.std.proofs.Common.{◌≡◌, ◌≢◌, ℕ, ◌+◌, ◌-◌, ◌<◌, ◌≤◌, zero, suc, ◌⊎◌, inl, inr, List, [], ◌∷◌, length, map, get_or, refl, sym, ◌∙◌, ap, subst, arith, Bool, true, false, true≢false, cond, eqb, eq-eqb, Option, Some, None}
+use Rattle.std.proofs.Common.{◌≡◌, ◌≢◌, ℕ, ◌<◌, ◌≤◌, zero, suc, List, [], ◌∷◌, length, map, get_or, refl, sym, ◌∙◌, ap, subst, arith, Bool, true, false, cond, eqb, eq-eqb, Option, Some, None}
 use Rattle.std.specs.List.{All, AllPairs, range_with_len, slice_get}
-use Rattle.std.specs.List.Sorted.{IsPartitionPoint}
 use Rattle.std.specs.Option.{unwrap_or}
-use Rattle.std.proofs.lemmas.List.{get_or-map, length-map, get_or_past, get_or_default, same_lists}
-use Rattle.std.proofs.lemmas.List.FromFn.{length-map-range_with_len, get_or-map-range_with_len, length-range_with_len}
+use Rattle.std.proofs.lemmas.List.{get_or-map}
+use Rattle.std.proofs.lemmas.List.FromFn.{length-map-range_with_len, get_or-map-range_with_len}
 use Rattle.std.proofs.lemmas.Option.{unwrap_or-slice_get}
-use Rattle.std.proofs.lemmas.Bool.{cases_lt, eqb-true, eqb-false, ne_eqb}
+use Rattle.std.proofs.lemmas.Bool.{ne_eqb}
 use Rattle.cs_types.specs.declared.Value.{Value}
 use Rattle.cs_types.specs.declared.Value.TheVariants.{Null}
 use Rattle.cs_types.specs.declared.Key.{Key}
@@ -39,7 +38,7 @@ map-map f g h same (x ∷ xs) = ap (λ y. y ∷ map g (map f xs)) (same x) ∙ a
 pub column-shown : (segments : List Segment) (late : List (ℕ × ℕ)) (base count column : ℕ) (segment : Segment) → column < length segments → segment.length ≡ count → segment ≡ get_or segments column segment → column_of (shown_rows segments late base count) column ≡ cells_in segment
 column-shown segments late base count column segment l same is =
     map-map (shown_row segments late base) (λ row. cell_at row.cells column) (λ i. cell_in segment.body i)
-      (λ i. cell_at-map (λ s. cell_in s.body i) segments column segment l ∙ ap (λ s. cell_in s.body i) (sym is)) (range_with_len 0 count)
+    (λ i. cell_at-map (λ s. cell_in s.body i) segments column segment l ∙ ap (λ s. cell_in s.body i) (sym is)) (range_with_len 0 count)
     ∙ ap (λ n. map (λ i. cell_in segment.body i) (range_with_len 0 n)) (sym same)
 
 pub stamp-none : (late : List (ℕ × ℕ)) (position : ℕ) → ((k : ℕ) (d : ℕ × ℕ) → k < length late → (get_or late k d).0 ≢ position) → stamp_in late position ≡ None
@@ -61,9 +60,9 @@ stamp-found (entry ∷ late) position zero rising before after = go (eqb entry.0
     go false e =
         ap (λ o. cond (eqb entry.0 position) (Some entry.1) o)
         (stamp-none late position (λ k d l same.
-          let here : position ≤ entry.0 = after 0 entry (omega arith) (omega arith) in
-          let up : entry.0 < (get_or late k d).0 = rising 0 (suc k) d (omega arith) (omega arith) in
-          absurd (omega (arith, here, up, same))))
+        let here : position ≤ entry.0 = after 0 entry (omega arith) (omega arith) in
+        let up : entry.0 < (get_or late k d).0 = rising 0 (suc k) d (omega arith) (omega arith) in
+        absurd (omega (arith, here, up, same))))
 stamp-found (entry ∷ late) position (suc place) rising before after =
     let less : entry.0 < position = before 0 entry (omega arith) (omega arith) in
     ap (λ b. cond b (Some entry.1) (stamp_in late position)) (ne_eqb entry.0 position (λ same. absurd (omega (arith, less, same))))
@@ -106,13 +105,13 @@ keys-shown segments late late' key base base' count =
 -- with no begin beside it, another base is the begin of every row
 pub fields-rebased : (segments : List Segment) (key count base begin : ℕ) (late : List (ℕ × ℕ)) (places : List ℕ) → AreFields segments key count base late places → late ≡ [] → AreFields segments key count begin late places
 fields-rebased segments key count base begin late places are none = record {
-    counted = are.counted;
-    kept = are.kept;
-    rising = are.rising;
-    own = λ k d l. absurd (omega (arith, ap length none));
-    key_there = are.key_there;
-    by_key = subst (λ keys. IsOrderOf key_cmp keys places) (keys-shown segments late late key base begin count) are.by_key;
-  }
+  counted = are.counted;
+  kept = are.kept;
+  rising = are.rising;
+  own = λ k d l. absurd (omega (arith, ap length none));
+  key_there = are.key_there;
+  by_key = subst (λ keys. IsOrderOf key_cmp keys places) (keys-shown segments late late key base begin count) are.by_key;
+}
 
 pub rows-rebased : (segments : List Segment) (base begin count : ℕ) (late : List (ℕ × ℕ)) → late ≡ [] → shown_rows segments late begin count ≡ map (begun_at begin) (shown_rows segments late base count)
 rows-rebased segments base begin count late none =

@@ -1,6 +1,6 @@
 -- Begins of their own, one position after another.
-use Rattle.std.proofs.Common.{◌≡◌, ◌≢◌, ℕ, suc, ◌+◌, ◌<◌, ◌≤◌, inl, inr, List, [], ◌∷◌, ◌++◌, length, get_or, refl, sym, ◌∙◌, ap, subst, arith, cond, eqb, eq-eqb, Bool, true, false, Option, Some, None}
-use Rattle.std.specs.List.{All, AllPairs}
+use Rattle.std.proofs.Common.{◌≡◌, ◌≢◌, ℕ, suc, ◌<◌, inl, inr, List, [], ◌∷◌, ◌++◌, length, get_or, refl, sym, ◌∙◌, ap, subst, arith, cond, eqb, eq-eqb, Some, None}
+use Rattle.std.specs.List.{All}
 use Rattle.std.specs.Option.{unwrap_or}
 use Rattle.std.proofs.lemmas.Bool.{cases_lt, ne_eqb}
 use Rattle.std.proofs.lemmas.List.{length_push, get_or_append_left, get_or_push}
@@ -26,31 +26,31 @@ wider begins floor begin late own k d l = let (m, o) = own k d l in (omega (arit
 -- a begin that is not the floor stands in the list
 pub stamps-push : (begins : List ℕ) (floor begin : ℕ) (late : List (ℕ × ℕ)) → AreStamps begins floor late → begin ≢ floor → AreStamps (begins ++ begin ∷ []) floor (late ++ (length begins, begin) ∷ [])
 stamps-push begins floor begin late are other = record {
-    rising = all_pairs_push (λ x y. x.0 < y.0) late (length begins, begin) are.rising (λ k d l. (are.own k d l).0);
-    own = All-push (λ (entry : ℕ × ℕ). (entry.0 < length (begins ++ begin ∷ [])) × (entry.1 ≢ floor)) late (length begins, begin) (wider begins floor begin late are.own) (omega (arith, length_push begins begin), other);
-    shown = λ position l. elim (cases_lt position (length begins)) [
-      | inl before ↦
-          ap (λ o. unwrap_or o floor) (stamp-other late (length begins, begin) position (λ same. absurd (omega (arith, before, same))))
-          ∙ are.shown position before ∙ sym (get_or_append_left begins (begin ∷ []) 0 position before)
-      | inr n ↦
-          let at : length begins ≡ position = omega (arith, n, l, length_push begins begin) in
-          subst (λ p. begin_in (late ++ (length begins, begin) ∷ []) floor p ≡ get_or (begins ++ begin ∷ []) p 0) at
-          (ap (λ o. unwrap_or o floor) (stamp-own late (length begins, begin) (λ k d m same. let h = (are.own k d m).0 in absurd (omega (arith, h, same))))
-          ∙ sym (get_or_push begins begin 0 (length begins) refl))
-    ];
-  }
+  rising = all_pairs_push (λ x y. x.0 < y.0) late (length begins, begin) are.rising (λ k d l. (are.own k d l).0);
+  own = All-push (λ (entry : ℕ × ℕ). (entry.0 < length (begins ++ begin ∷ [])) × (entry.1 ≢ floor)) late (length begins, begin) (wider begins floor begin late are.own) (omega (arith, length_push begins begin), other);
+  shown = λ position l. elim (cases_lt position (length begins)) [
+    | inl before ↦
+        ap (λ o. unwrap_or o floor) (stamp-other late (length begins, begin) position (λ same. absurd (omega (arith, before, same))))
+        ∙ are.shown position before ∙ sym (get_or_append_left begins (begin ∷ []) 0 position before)
+    | inr n ↦
+        let at : length begins ≡ position = omega (arith, n, l, length_push begins begin) in
+        subst (λ p. begin_in (late ++ (length begins, begin) ∷ []) floor p ≡ get_or (begins ++ begin ∷ []) p 0) at
+        (ap (λ o. unwrap_or o floor) (stamp-own late (length begins, begin) (λ k d m same. let h = (are.own k d m).0 in absurd (omega (arith, h, same))))
+        ∙ sym (get_or_push begins begin 0 (length begins) refl))
+  ];
+}
 
 -- the floor itself does not
 pub stamps-skip : (begins : List ℕ) (floor begin : ℕ) (late : List (ℕ × ℕ)) → AreStamps begins floor late → begin ≡ floor → AreStamps (begins ++ begin ∷ []) floor late
 stamps-skip begins floor begin late are same = record {
-    rising = are.rising;
-    own = wider begins floor begin late are.own;
-    shown = λ position l. elim (cases_lt position (length begins)) [
-      | inl before ↦ are.shown position before ∙ sym (get_or_append_left begins (begin ∷ []) 0 position before)
-      | inr n ↦
-          let at : length begins ≡ position = omega (arith, n, l, length_push begins begin) in
-          subst (λ p. begin_in late floor p ≡ get_or (begins ++ begin ∷ []) p 0) at
-          (ap (λ o. unwrap_or o floor) (stamp-none late (length begins) (λ k d m equal. let h = (are.own k d m).0 in absurd (omega (arith, h, equal))))
-          ∙ sym same ∙ sym (get_or_push begins begin 0 (length begins) refl))
-    ];
-  }
+  rising = are.rising;
+  own = wider begins floor begin late are.own;
+  shown = λ position l. elim (cases_lt position (length begins)) [
+    | inl before ↦ are.shown position before ∙ sym (get_or_append_left begins (begin ∷ []) 0 position before)
+    | inr n ↦
+        let at : length begins ≡ position = omega (arith, n, l, length_push begins begin) in
+        subst (λ p. begin_in late floor p ≡ get_or (begins ++ begin ∷ []) p 0) at
+        (ap (λ o. unwrap_or o floor) (stamp-none late (length begins) (λ k d m equal. let h = (are.own k d m).0 in absurd (omega (arith, h, equal))))
+        ∙ sym same ∙ sym (get_or_push begins begin 0 (length begins) refl))
+  ];
+}

@@ -1,5 +1,5 @@
 -- What contracts see of a packed group.
-use Rattle.std.specs.Prelude.{◌≡◌, ◌+◌, ◌<◌, ◌≤◌, ℕ, ◌==◌, List, [], length, map, slice_index, slice_index_or, Option, None, Some, Bool, true, false, if◌then◌else◌, IsPermutation}
+use Rattle.std.specs.Prelude.{◌≡◌, ◌<◌, ◌≤◌, ℕ, ◌==◌, List, [], length, map, slice_index, slice_index_or, Option, None, Some, Bool, true, false, if◌then◌else◌, IsPermutation}
 use Rattle.std.specs.Ordering.{int_cmp}
 use Rattle.std.specs.declared.cmp.Ordering.{Ordering}
 use Rattle.std.specs.declared.cmp.Ordering.TheVariants.{Less, Equal, Greater}

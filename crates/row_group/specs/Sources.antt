@@ -1,5 +1,5 @@
 -- How the fields of a packed group show its rows.
-use Rattle.std.specs.Prelude.{◌≡◌, ◌≢◌, ◌<◌, ℕ, ◌==◌, List, [], ◌∷◌, length, map, All, AllPairs, Option, None, Some, unwrap_or, slice_get, if◌then◌else◌}
+use Rattle.std.specs.Prelude.{◌≡◌, ◌≢◌, ◌<◌, ℕ, ◌==◌, List, [], ◌∷◌, length, map, All, AllPairs, Option, None, Some, unwrap_or, if◌then◌else◌}
 use Rattle.std.specs.List.{range_with_len}
 use Rattle.cs_types.specs.declared.Value.{Value}
 use Rattle.column_segment.specs.declared.segment.Segment.{Segment}

@@ -22,7 +22,12 @@ pub struct Kept {
 
 /// The versions that a group keeps: one that ended at the floor or before is left out, and a begin at most the floor
 /// becomes the floor.
-pub fn kept_of(alloc: Global, schema: &Schema, versions: Items<Version>, floor: u64) -> Result<Kept, Memory>
+pub fn kept_of(
+    alloc: Global,
+    schema: &Schema,
+    versions: Items<Version>,
+    floor: u64,
+) -> Result<Kept, Memory>
     requires schema { IsSchema schema.now }
     requires fit { All (λ version. IsRowOf schema.now version.row) versions }
     ensures { IfOk result (λ kept. IsKept (length schema.now.columns) schema.now.key (repacked versions floor) kept.columns.items kept.keys.items kept.begins.items) }

@@ -19,7 +19,12 @@ use std::alloc::Global;
 /// Packs versions into a group. A version whose end is at most the floor is left out, and a begin at most the floor
 /// becomes the floor. None exactly where no version is kept. The versions fit the schema; they may come in any order,
 /// several of one key among them.
-pub fn pack_rows(alloc: Global, schema: &Schema, versions: Items<Version>, floor: u64) -> Result<Option<Packed>, Memory>
+pub fn pack_rows(
+    alloc: Global,
+    schema: &Schema,
+    versions: Items<Version>,
+    floor: u64,
+) -> Result<Option<Packed>, Memory>
     requires schema { IsSchema schema.now }
     requires fit { All (λ version. IsRowOf schema.now version.row) versions }
     ensures none { IfOk result (λ packed. IsNone packed ↔ (repacked versions floor ≡ [])) }
@@ -35,7 +40,13 @@ pub fn pack_rows(alloc: Global, schema: &Schema, versions: Items<Version>, floor
 }
 
 /// The group of kept versions, at the places of an order.
-fn packed_by(alloc: Global, schema: &Schema, kept: Kept, order: &[usize], floor: u64) -> Result<Packed, Memory>
+fn packed_by(
+    alloc: Global,
+    schema: &Schema,
+    kept: Kept,
+    order: &[usize],
+    floor: u64,
+) -> Result<Packed, Memory>
     requires columns { length kept.columns.items ≡ length schema.now.columns }
     requires cells { KeepColumns schema.now kept.columns.items }
     requires key { schema.now.key < length kept.columns.items }
@@ -66,7 +77,12 @@ fn packed_by(alloc: Global, schema: &Schema, kept: Kept, order: &[usize], floor:
 }
 
 /// The segments of columns whose cells are put in order.
-fn segments_of(alloc: Global, schema: &Schema, columns: Vec<Items<Value>>, order: &[usize]) -> Result<Items<Segment>, Memory>
+fn segments_of(
+    alloc: Global,
+    schema: &Schema,
+    columns: Vec<Items<Value>>,
+    order: &[usize],
+) -> Result<Items<Segment>, Memory>
     requires counted { length columns.items ≡ length schema.now.columns }
     requires kept { KeepColumns schema.now columns.items }
     requires some { 0 < length order.now }

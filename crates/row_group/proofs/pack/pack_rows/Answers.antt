@@ -1,8 +1,6 @@
-use Rattle.std.proofs.Common.{◌≡◌, ◌<◌, ◌≢◌, ℕ, List, length, subst, sym, arith, vec_len}
+use Rattle.std.proofs.Common.{sym, arith, vec_len}
 use Rattle.std.proofs.lemmas.Bool.{eqb-false}
-use Rattle.std.specs.List.{All, AllPairs}
 use Rattle.row_group.specs.Rows.{repacked}
-use Rattle.row_group.specs.Arranged.{IsRowOrder}
 use Rattle.row_group.proofs.PackLemmas.{columns-keep, repacked-fits, keys-kept, places-within, length-places, places-apart, group-made}
 use Rattle.row_group.proofs.pack.pack_rows.Goals as goal
 
@@ -10,7 +8,7 @@ pub packed_by-requires-clause-cells : goal.packed_by-requires-clause-cells
 packed_by-requires-clause-cells c =
     let k = c.in_ok-kept.kept in
     columns-keep c.args.schema.now (repacked c.args.versions c.args.floor) k.columns.items k.keys.items k.begins.items c.in_ok-kept.ensures
-      (repacked-fits c.args.schema.now c.args.versions c.args.floor c.requires.fit)
+    (repacked-fits c.args.schema.now c.args.versions c.args.floor c.requires.fit)
 
 pub packed_by-requires-clause-keys : goal.packed_by-requires-clause-keys
 packed_by-requires-clause-keys c =

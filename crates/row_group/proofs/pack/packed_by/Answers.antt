@@ -1,4 +1,4 @@
-use Rattle.std.proofs.Common.{◌≡◌, ℕ, refl, List, length, map, sym, ◌∙◌, subst}
+use Rattle.std.proofs.Common.{ℕ, refl, List, map, sym, ◌∙◌, subst}
 use Rattle.cs_types.specs.declared.Key.{Key}
 use Rattle.row_group.specs.Orders.{IsOrderOf}
 use Rattle.row_group.specs.Rows.{PackedRow}
@@ -19,8 +19,8 @@ invariant_of-result c =
     let keys = c.deref-2.ensures.value ∙ keys-arranged columns begins order c.args.kept.keys.items c.in_ok-keys.keys.items key c.requires.keys c.requires.places picked_keys in
     let ordered = subst (λ (all : List Key). IsOrderOf key_cmp all c.in_ok-places.places.items) keys c.in_ok-places.ensures in
     fields-made columns begins c.in_ok-begins.begins.items order c.in_ok-segments.segments c.in_ok-late.late key c.args.floor c.from_vec.result
-      c.in_ok-segments.ensures picked_begins stamps c.requires.key
-      (subst (IsOrderOf key_cmp (keys_of key (map (source_row columns begins) order))) (sym c.from_vec.ensures) ordered)
+    c.in_ok-segments.ensures picked_begins stamps c.requires.key
+    (subst (IsOrderOf key_cmp (keys_of key (map (source_row columns begins) order))) (sym c.from_vec.ensures) ordered)
 
 pub returns : goal.returns
 returns c =
@@ -37,7 +37,7 @@ returns c =
     record {
       rows = rows;
       places = subst (λ (all : List PackedRow). IsOrderOf key_cmp (keys_of key all) c.from_vec.result) (sym rows)
-        (subst (IsOrderOf key_cmp (keys_of key (map (source_row columns begins) order))) (sym c.from_vec.ensures) ordered);
+          (subst (IsOrderOf key_cmp (keys_of key (map (source_row columns begins) order))) (sym c.from_vec.ensures) ordered);
       width = c.in_ok-segments.ensures.0;
       key = refl;
       base = refl;

@@ -1,10 +1,9 @@
-use Rattle.std.proofs.Common.{◌≡◌, ◌<◌, ◌++◌, ◌∷◌, [], ℕ, List, length, map, get_or, sym, ◌∙◌, ap, subst, arith, IsTrue}
+use Rattle.std.proofs.Common.{◌≡◌, ◌++◌, ◌∷◌, [], List, length, get_or, sym, ◌∙◌, ap, subst, arith, IsTrue}
 use Rattle.std.specs.List.{All}
 use Rattle.std.specs.Vec.Iter.{into_iter_items}
 use Rattle.std.proofs.lemmas.List.{append-nil, append_assoc, get_or_at, nil_from_length}
 use Rattle.cs_types.specs.declared.Value.{Value}
 use Rattle.cs_types.specs.Kinds.{keeps}
-use Rattle.cs_types.specs.Rows.{cell_at}
 use Rattle.column_segment.specs.declared.segment.Segment.{Segment}
 use Rattle.row_group.specs.Arranged.{IsColumnSegment, AreSegmentsOf}
 use Rattle.row_group.proofs.FieldLemmas.{segments-more, kept-moved}
@@ -27,9 +26,9 @@ loop-cells-preserved c =
     let one = subst (λ (column : List Value). IsColumnSegment column segment) (c.deref.ensures.value ∙ c.in_ok-cells.ensures) (c.in_ok-encode.ensures.segment, c.in_ok-encode.ensures.cells) in
     record {
       made = subst (λ (segments : List Segment). AreSegmentsOf (c.loop-cells.yielded ++ cells ∷ []) c.args.order.now segments) (sym c.in_ok-push.ensures.ok)
-        (segments-more c.loop-cells.yielded cells c.args.order.now c.loop-cells.segments segment c.loop-cells.invariant.made one);
+          (segments-more c.loop-cells.yielded cells c.args.order.now c.loop-cells.segments segment c.loop-cells.invariant.made one);
       rest = append_assoc c.loop-cells.yielded (cells ∷ []) (into_iter_items c.next.new.self)
-        ∙ ap (λ items. c.loop-cells.yielded ++ items) (sym c.in-Some.ensures.steps.0) ∙ c.loop-cells.invariant.rest;
+          ∙ ap (λ items. c.loop-cells.yielded ++ items) (sym c.in-Some.ensures.steps.0) ∙ c.loop-cells.invariant.rest;
     }
 
 pub returns : goal.returns

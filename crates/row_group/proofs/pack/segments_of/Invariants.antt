@@ -1,4 +1,4 @@
-use Rattle.std.proofs.Common.{◌≡◌, ◌++◌, ◌<◌, ℕ, length, map, get_or}
+use Rattle.std.proofs.Common.{◌≡◌, ◌++◌}
 use Rattle.std.specs.Vec.Iter.{into_iter_items}
 use Rattle.row_group.specs.Arranged.{AreSegmentsOf}
 use Rattle.row_group.proofs.pack.segments_of.Given as goal

@@ -1,4 +1,4 @@
-use Rattle.std.proofs.Common.{◌≡◌, take}
+use Rattle.std.proofs.Common.{take}
 use Rattle.row_group.specs.Arranged.{AreStamps}
 use Rattle.row_group.proofs.pack.stamps_of.Given as goal
 

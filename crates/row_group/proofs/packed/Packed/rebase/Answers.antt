@@ -1,4 +1,4 @@
-use Rattle.std.proofs.Common.{◌≡◌, List, [], length, map, subst, sym}
+use Rattle.std.proofs.Common.{◌≡◌, length, map, subst, sym}
 use Rattle.std.specs.List.{All}
 use Rattle.row_group.specs.Rows.{PackedRow}
 use Rattle.row_group.specs.Groups.{Group, begun_at}

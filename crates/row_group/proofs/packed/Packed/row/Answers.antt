@@ -1,4 +1,4 @@
-use Rattle.std.proofs.Common.{◌≡◌, ◌<◌, ◌≤◌, ◌∙◌, ℕ, length, map, take, sym, ap, subst, arith}
+use Rattle.std.proofs.Common.{◌≡◌, ◌<◌, ◌≤◌, ◌∙◌, length, map, sym, ap, subst, arith}
 use Rattle.std.proofs.lemmas.List.{take_all}
 use Rattle.column_segment.specs.declared.segment.Segment.{Segment}
 use Rattle.column_segment.specs.Bodies.{cell_in}
@@ -14,7 +14,7 @@ returns c =
     let all : length c.as_slice-segment-items.result.now ≤ c.loop-segment.segment-index = omega arith in
     subst (λ (group : Group). c.args.position < length group.rows → c.loop-segment.row ≡ (row_at group c.args.position).cells) c.self.view_is
     (λ l.
-      c.loop-segment.invariant ∙ ap (map cells) (take_all c.loop-segment.segment-index c.as_slice-segment-items.result.now all)
-      ∙ ap (map cells) c.as_slice-segment-items.ensures
-      ∙ ap (λ (row : PackedRow). row.cells) (sym (shown_at f.segments f.key f.length f.base f.late f.places c.args.position l)))
+    c.loop-segment.invariant ∙ ap (map cells) (take_all c.loop-segment.segment-index c.as_slice-segment-items.result.now all)
+    ∙ ap (map cells) c.as_slice-segment-items.ensures
+    ∙ ap (λ (row : PackedRow). row.cells) (sym (shown_at f.segments f.key f.length f.base f.late f.places c.args.position l)))
     c.requires

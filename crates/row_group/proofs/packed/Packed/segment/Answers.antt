@@ -1,5 +1,4 @@
-use Rattle.std.proofs.Common.{◌≡◌, ◌<◌, ◌∙◌, ℕ, length, List, sym, ap, subst, arith}
-use Rattle.std.proofs.lemmas.List.{get_or_read}
+use Rattle.std.proofs.Common.{◌≡◌, ◌<◌, ◌∙◌, length, List, sym, subst}
 use Rattle.cs_types.specs.declared.Value.{Value}
 use Rattle.column_segment.specs.declared.segment.Segment.{Segment}
 use Rattle.column_segment.specs.Segments.{IsSegmentOf}
@@ -22,8 +21,8 @@ returns-clause-cells c =
     let s = c.at.result.now in
     subst (λ (group : Group). c.args.column < group.width → IsSegmentOf (column_of group.rows c.args.column) s.length s.body s.least s.greatest s.nulls) c.self.view_is
     (λ l.
-      let same = subst (λ (other : Segment). other.length ≡ f.length) (sym c.at.ensures.item) (c.self.invariant.counted c.args.column s l) in
-      let kept = subst (λ (other : Segment). IsSegmentOf (cells_in other) other.length other.body other.least other.greatest other.nulls) (sym c.at.ensures.item) (c.self.invariant.kept c.args.column s l) in
-      subst (λ (cells : List Value). IsSegmentOf cells s.length s.body s.least s.greatest s.nulls)
-      (sym (column-shown f.segments f.late f.base f.length c.args.column s l same c.at.ensures.item)) kept)
+    let same = subst (λ (other : Segment). other.length ≡ f.length) (sym c.at.ensures.item) (c.self.invariant.counted c.args.column s l) in
+    let kept = subst (λ (other : Segment). IsSegmentOf (cells_in other) other.length other.body other.least other.greatest other.nulls) (sym c.at.ensures.item) (c.self.invariant.kept c.args.column s l) in
+    subst (λ (cells : List Value). IsSegmentOf cells s.length s.body s.least s.greatest s.nulls)
+    (sym (column-shown f.segments f.late f.base f.length c.args.column s l same c.at.ensures.item)) kept)
     c.requires
