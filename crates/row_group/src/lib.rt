@@ -16,3 +16,6 @@ mod ranks;
 
 pub use pack::pack_rows;
 pub use packed::{Packed, Places};
+
+#[cfg(test)]
+mod tests;
