@@ -18,7 +18,7 @@ use Rattle.column_segment.specs.Segments.{IsSegmentOf}
 use Rattle.row_group.specs.Orders.{IsOrderOf}
 use Rattle.row_group.specs.Rows.{PackedRow}
 use Rattle.row_group.specs.Groups.{key_cmp, keys_of, key_of_cell}
-use Rattle.row_group.specs.Sources.{cells_in, shown_row, shown_rows, AreFields}
+use Rattle.row_group.specs.Fields.{cells_in, shown_row, shown_rows, AreFields}
 use Rattle.row_group.specs.Arranged.{IsColumnSegment, AreSegmentsOf, AreStamps, ArePicked, AreKeys, source_row}
 use Rattle.row_group.proofs.ArrangeLemmas.{slice_get-push}
 use Rattle.row_group.proofs.ShownLemmas.{cell_at-get_or, cell_at-map}

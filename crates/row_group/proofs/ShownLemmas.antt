@@ -15,7 +15,7 @@ use Rattle.column_segment.specs.Bodies.{cell_in}
 use Rattle.row_group.specs.Rows.{PackedRow, column_of}
 use Rattle.row_group.specs.Orders.{IsOrderOf}
 use Rattle.row_group.specs.Groups.{Group, begin_beside, begun_at, key_cmp, keys_of, key_of_cell, row_at}
-use Rattle.row_group.specs.Sources.{cells_in, shown_row, shown_rows, stamp_in, stamp_of, begin_in, AreFields}
+use Rattle.row_group.specs.Fields.{cells_in, shown_row, shown_rows, stamp_in, stamp_of, begin_in, AreFields}
 
 -- a cell is the one at its place, or NULL past the end
 pub cell_at-get_or : (cells : List Value) (c : ℕ) → cell_at cells c ≡ get_or cells c Null

@@ -6,7 +6,7 @@ use Rattle.std.proofs.lemmas.Bool.{cases_lt, ne_eqb}
 use Rattle.std.proofs.lemmas.List.{length_push, get_or_append_left, get_or_push}
 use Rattle.std.proofs.lemmas.List.Elements.{All-push}
 use Rattle.std.proofs.lemmas.List.Quantifiers.{all_pairs_push}
-use Rattle.row_group.specs.Sources.{stamp_in, begin_in}
+use Rattle.row_group.specs.Fields.{stamp_in, begin_in}
 use Rattle.row_group.specs.Arranged.{AreStamps}
 use Rattle.row_group.proofs.ShownLemmas.{stamp-none}
 

@@ -2,5 +2,5 @@ pub mod Orders
 pub mod Rows
 pub mod Groups
 pub mod Kept
-pub mod Sources
+pub mod Fields
 pub mod Arranged

@@ -18,7 +18,8 @@ use std::alloc::Global;
 
 /// Packs versions into a group. A version whose end is at most the floor is left out, and a begin at most the floor
 /// becomes the floor. None exactly where no version is kept. The versions fit the schema; they may come in any order,
-/// several of one key among them.
+/// several of one key among them. `Memory` comes only where there is no room for the group or on the way to it. It takes
+/// the time of a few sorts of so many numbers a column.
 pub fn pack_rows(
     alloc: Global,
     schema: &Schema,

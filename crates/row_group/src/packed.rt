@@ -14,7 +14,7 @@ pub struct Places {
 }
 
 /// A packed row group. Contracts see its rows in their order, and beside them the number of columns, the key's column, the
-/// base, and the positions by key.
+/// base, and the positions by key. No row and no cell is kept beside the segments.
 #[derive(Debug, Drop)]
 pub struct Packed {
     /// The segments of the columns, in the columns' order.
@@ -34,7 +34,7 @@ pub struct Packed {
 impl Model for Packed {
     ghost use Rattle.std.specs.Prelude.{length as list_length};
     ghost use Rattle.row_group.specs.Groups.{Group};
-    ghost use Rattle.row_group.specs.Sources.{shown_rows, AreFields};
+    ghost use Rattle.row_group.specs.Fields.{shown_rows, AreFields};
 
     ghost Value = { Group };
 
@@ -64,7 +64,7 @@ impl Packed {
         self.base
     }
 
-    /// The segment of a column.
+    /// The segment of a column: the one that `encode` gives for its cells.
     pub fn segment(&self, column: usize) -> &Segment
         requires { column < self.now.width }
         ensures rows { result.now.length ≡ length self.now.rows }
@@ -90,7 +90,7 @@ impl Packed {
         stamp_at(self.late.as_slice(), position)
     }
 
-    /// The row at a position, all its cells.
+    /// The row at a position, all its cells. `Memory` comes only where they find no room.
     pub fn row(&self, position: usize) -> Result<Row, Memory>
         requires { position < length self.now.rows }
         ensures { IfOk result (λ row. row ≡ (row_at self.now position).cells) }
@@ -163,7 +163,7 @@ impl Packed {
 ghost use Rattle.std.specs.Prelude.{◌≡◌, ◌<◌, AllPairs, slice_get};
 ghost use Rattle.column_segment.specs.Cells.{seen};
 ghost use Rattle.row_group.specs.Groups.{key_of_cell};
-ghost use Rattle.row_group.specs.Sources.{stamp_in, stamp_of};
+ghost use Rattle.row_group.specs.Fields.{stamp_in, stamp_of};
 
 /// The begin that stands at a position, if one does.
 fn stamp_at(late: &[(usize, u64)], position: usize) -> Option<u64>

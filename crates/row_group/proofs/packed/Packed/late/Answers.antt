@@ -1,7 +1,7 @@
 use Rattle.std.proofs.Common.{◌≡◌, ◌<◌, ◌∙◌, length, sym, ap, subst}
 use Rattle.row_group.specs.Rows.{PackedRow}
 use Rattle.row_group.specs.Groups.{Group, begin_beside, row_at}
-use Rattle.row_group.specs.Sources.{stamp_in}
+use Rattle.row_group.specs.Fields.{stamp_in}
 use Rattle.row_group.proofs.ShownLemmas.{late-shown, shown_at}
 use Rattle.row_group.proofs.packed.Packed.late.Goals as goal
 

@@ -4,7 +4,7 @@ use Rattle.column_segment.specs.declared.segment.Segment.{Segment}
 use Rattle.column_segment.specs.Segments.{IsSegmentOf}
 use Rattle.row_group.specs.Rows.{column_of}
 use Rattle.row_group.specs.Groups.{Group}
-use Rattle.row_group.specs.Sources.{cells_in}
+use Rattle.row_group.specs.Fields.{cells_in}
 use Rattle.row_group.proofs.ShownLemmas.{length-shown, column-shown}
 use Rattle.row_group.proofs.packed.Packed.segment.Goals as goal
 
