@@ -1,0 +1,10 @@
+pub mod OrderLemmas
+pub mod RankLemmas
+pub mod DistinctLemmas
+pub mod ShownLemmas
+pub mod GroupLemmas
+pub mod KeptLemmas
+pub mod ArrangeLemmas
+pub mod StampLemmas
+pub mod FieldLemmas
+pub mod PackLemmas

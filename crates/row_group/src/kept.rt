@@ -1,0 +1,114 @@
+ghost use Rattle.std.specs.Prelude.{◌≡◌, ◌≢◌, ◌++◌, ◌∷◌, [], ℕ, All, length, IfOk, OnOk};
+ghost use Rattle.cs_types.specs.Rows.{cell_at};
+ghost use Rattle.cs_types.specs.Schemas.{IsSchema, IsRowOf};
+ghost use Rattle.row_group.specs.Rows.{ended_by, begin_above, repacked};
+ghost use Rattle.row_group.specs.Kept.{AreColumns, IsKept, HaveCellsMore};
+
+use cs_base::{Items, Memory};
+use cs_types::{Key, Schema, Value, Version, key_of};
+use std::alloc::Global;
+use std::mem;
+
+/// Versions taken apart: the cells of each column, and the keys and the begins, all in the versions' order.
+#[derive(Drop)]
+pub struct Kept {
+    /// A list of cells for each column.
+    pub columns: Vec<Items<Value>>,
+    /// The key of each version.
+    pub keys: Vec<Key>,
+    /// The begin of each version.
+    pub begins: Vec<u64>,
+}
+
+/// The versions that a group keeps: one that ended at the floor or before is left out, and a begin at most the floor
+/// becomes the floor.
+pub fn kept_of(
+    alloc: Global,
+    schema: &Schema,
+    versions: Items<Version>,
+    floor: u64,
+) -> Result<Kept, Memory>
+    requires schema { IsSchema schema.now }
+    requires fit { All (λ version. IsRowOf schema.now version.row) versions }
+    ensures { IfOk result (λ kept. IsKept (length schema.now.columns) schema.now.key (repacked versions floor) kept.columns.items kept.keys.items kept.begins.items) }
+{
+    let mut kept = Kept {
+        columns: empty_columns(alloc, schema.columns.len())?,
+        keys: Vec::new(alloc),
+        begins: Vec::new(alloc),
+    };
+    for version in versions.into_vec() {
+        if !has_ended(version.end, floor) {
+            let key = key_of(schema, &version.row);
+            let begin = raised(version.begin, floor);
+            let Version { row, .. } = version;
+            kept.add(key, begin, row.into_vec()?)?;
+        }
+    }
+    Ok(kept)
+}
+
+impl Kept {
+    /// Adds a version.
+    fn add(&mut self, key: Key, begin: u64, cells: Vec<Value>) -> Result<(), Memory>
+        ensures columns { OnOk result (HaveCellsMore self.old.columns.items cells.items self.new.columns.items) }
+        ensures keys { OnOk result (self.new.keys.items ≡ self.old.keys.items ++ key ∷ []) }
+        ensures begins { OnOk result (self.new.begins.items ≡ self.old.begins.items ++ begin ∷ []) }
+    {
+        add_cells(&mut self.columns, cells)?;
+        self.keys.push(key)?;
+        self.begins.push(begin)?;
+        Ok(())
+    }
+}
+
+/// So many columns without a cell.
+fn empty_columns(alloc: Global, width: usize) -> Result<Vec<Items<Value>>, Memory>
+    ensures { IfOk result (λ columns. AreColumns width [] columns.items) }
+{
+    let mut columns = Vec::with_capacity(alloc, width)?;
+    for _column in 0..width {
+        columns.push(Items::new(alloc))?;
+    }
+    Ok(columns)
+}
+
+/// Puts a cell at the end of each column, NULL where there is none for it.
+fn add_cells(columns: &mut Vec<Items<Value>>, cells: Vec<Value>) -> Result<(), Memory>
+    ensures { OnOk result (HaveCellsMore columns.old.items cells.items columns.new.items) }
+{
+    let mut left = cells;
+    for place in 0..columns.len() {
+        let cell = take_cell(&mut left, place);
+        columns[place].push(cell)?;
+    }
+    Ok(())
+}
+
+/// Takes the cell at a place out of a list, NULL past its end.
+pub fn take_cell(cells: &mut Vec<Value>, place: usize) -> Value
+    ensures cell { result ≡ cell_at cells.old.items place }
+    ensures others { (i : ℕ) → i ≢ place → cell_at cells.new.items i ≡ cell_at cells.old.items i }
+{
+    match cells.get_mut(place) {
+        Some(cell) => mem::replace(cell, Value::Null),
+        None => Value::Null,
+    }
+}
+
+/// Whether a version with this end ended at the floor or before.
+fn has_ended(end: Option<u64>, floor: u64) -> bool
+    ensures { result ≡ ended_by floor end }
+{
+    match end {
+        None => false,
+        Some(end) => end <= floor,
+    }
+}
+
+/// A begin, or the floor where it is at most that.
+fn raised(begin: u64, floor: u64) -> u64
+    ensures { result ≡ begin_above floor begin }
+{
+    if begin <= floor { floor } else { begin }
+}

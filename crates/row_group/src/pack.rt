@@ -1,0 +1,113 @@
+ghost use Rattle.std.specs.Prelude.{◌≡◌, ◌≢◌, ◌<◌, ◌↔◌, ℕ, [], All, AllPairs, length, map, slice_get, slice_index_or, IfOk, IfSome, IsNone, IsTrue, Some};
+ghost use Rattle.cs_types.specs.declared.Column.{Column};
+ghost use Rattle.cs_types.specs.Kinds.{keeps};
+ghost use Rattle.cs_types.specs.Schemas.{IsSchema, IsRowOf};
+ghost use Rattle.row_group.specs.Rows.{repacked};
+ghost use Rattle.row_group.specs.Groups.{IsGroupOf};
+ghost use Rattle.row_group.specs.Kept.{IsKept};
+ghost use Rattle.row_group.specs.Arranged.{IsRowOrder, AreSegmentsOf, AreStamps, KeepColumns, AreKeys, IsArranged};
+
+use crate::arrange::{arranged, picked, row_order};
+use crate::kept::{Kept, kept_of};
+use crate::order::order_of;
+use crate::packed::Packed;
+use column_segment::{Segment, encode};
+use cs_base::{Items, Memory};
+use cs_types::{Schema, Value, Version};
+use std::alloc::Global;
+
+/// Packs versions into a group. A version whose end is at most the floor is left out, and a begin at most the floor
+/// becomes the floor. None exactly where no version is kept. The versions fit the schema; they may come in any order,
+/// several of one key among them. `Memory` comes only where there is no room for the group or on the way to it. It takes
+/// the time of a few sorts of so many numbers a column.
+pub fn pack_rows(
+    alloc: Global,
+    schema: &Schema,
+    versions: Items<Version>,
+    floor: u64,
+) -> Result<Option<Packed>, Memory>
+    requires schema { IsSchema schema.now }
+    requires fit { All (λ version. IsRowOf schema.now version.row) versions }
+    ensures none { IfOk result (λ packed. IsNone packed ↔ (repacked versions floor ≡ [])) }
+    ensures group { IfOk result (λ packed. IfSome packed (λ group. IsGroupOf schema.now versions floor group)) }
+{
+    let kept = kept_of(alloc, schema, versions, floor)?;
+    if kept.begins.is_empty() {
+        return Ok(None);
+    }
+    let order = row_order(alloc, &kept.columns, &kept.begins)?;
+    let packed = packed_by(alloc, schema, kept, &order, floor)?;
+    Ok(Some(packed))
+}
+
+/// The group of kept versions, at the places of an order.
+fn packed_by(
+    alloc: Global,
+    schema: &Schema,
+    kept: Kept,
+    order: &[usize],
+    floor: u64,
+) -> Result<Packed, Memory>
+    requires columns { length kept.columns.items ≡ length schema.now.columns }
+    requires cells { KeepColumns schema.now kept.columns.items }
+    requires key { schema.now.key < length kept.columns.items }
+    requires keys { AreKeys kept.columns.items schema.now.key (length kept.begins.items) kept.keys.items }
+    requires places { All (λ place. place < length kept.begins.items) order.now }
+    requires some { 0 < length order.now }
+    requires apart { AllPairs (λ a b. a ≢ b) order.now }
+    ensures { IfOk result (λ group. IsArranged kept.columns.items kept.begins.items order.now schema.now.key floor group) }
+{
+    let Kept {
+        columns,
+        keys,
+        begins,
+    } = kept;
+    let keys = picked(alloc, &keys, order)?;
+    let places = order_of(alloc, &keys)?;
+    let begins = picked(alloc, &begins, order)?;
+    let late = stamps_of(alloc, &begins, floor)?;
+    let segments = segments_of(alloc, schema, columns, order)?;
+    Ok(Packed {
+        segments,
+        key: schema.key,
+        length: order.len(),
+        base: floor,
+        late,
+        places: Items::from_vec(places),
+    })
+}
+
+/// The segments of columns whose cells are put in order.
+fn segments_of(
+    alloc: Global,
+    schema: &Schema,
+    columns: Vec<Items<Value>>,
+    order: &[usize],
+) -> Result<Items<Segment>, Memory>
+    requires counted { length columns.items ≡ length schema.now.columns }
+    requires kept { KeepColumns schema.now columns.items }
+    requires some { 0 < length order.now }
+    requires apart { AllPairs (λ a b. a ≢ b) order.now }
+    ensures { IfOk result (λ segments. AreSegmentsOf columns.items order.now segments) }
+{
+    let mut segments = Items::new(alloc);
+    for cells in columns {
+        let kind = schema.columns.at(segments.len()).kind;
+        let cells = arranged(alloc, cells, order)?;
+        segments.push(encode(alloc, kind, &cells)?)?;
+    }
+    Ok(segments)
+}
+
+/// The begins that are not the floor, with their positions.
+fn stamps_of(alloc: Global, begins: &[u64], floor: u64) -> Result<Items<(usize, u64)>, Memory>
+    ensures { IfOk result (λ late. AreStamps begins.now floor late) }
+{
+    let mut late = Items::new(alloc);
+    for position in 0..begins.len() {
+        if begins[position] != floor {
+            late.push((position, begins[position]))?;
+        }
+    }
+    Ok(late)
+}
