@@ -32,10 +32,11 @@ pub fn kept_of(
     requires fit { All (λ version. IsRowOf schema.now version.row) versions }
     ensures { IfOk result (λ kept. IsKept (length schema.now.columns) schema.now.key (repacked versions floor) kept.columns.items kept.keys.items kept.begins.items) }
 {
+    let count = versions.len();
     let mut kept = Kept {
-        columns: empty_columns(alloc, schema.columns.len())?,
-        keys: Vec::new(alloc),
-        begins: Vec::new(alloc),
+        columns: empty_columns(alloc, schema.columns.len(), count)?,
+        keys: Vec::with_capacity(alloc, count)?,
+        begins: Vec::with_capacity(alloc, count)?,
     };
     for version in versions.into_vec() {
         if !has_ended(version.end, floor) {
@@ -62,13 +63,15 @@ impl Kept {
     }
 }
 
-/// So many columns without a cell.
-fn empty_columns(alloc: Global, width: usize) -> Result<Vec<Items<Value>>, Memory>
+/// So many columns without a cell, each with room for so many.
+fn empty_columns(alloc: Global, width: usize, count: usize) -> Result<Vec<Items<Value>>, Memory>
     ensures { IfOk result (λ columns. AreColumns width [] columns.items) }
 {
     let mut columns = Vec::with_capacity(alloc, width)?;
     for _column in 0..width {
-        columns.push(Items::new(alloc))?;
+        let mut cells = Items::new(alloc);
+        cells.reserve(count)?;
+        columns.push(cells)?;
     }
     Ok(columns)
 }
