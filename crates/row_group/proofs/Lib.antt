@@ -1,5 +1,7 @@
 pub mod OrderLemmas
 pub mod RankLemmas
+pub mod WordLemmas
+pub mod DistanceLemmas
 pub mod DistinctLemmas
 pub mod ShownLemmas
 pub mod GroupLemmas

@@ -2,5 +2,6 @@ pub mod Orders
 pub mod Rows
 pub mod Groups
 pub mod Kept
+pub mod Distances
 pub mod Fields
 pub mod Arranged

@@ -8,6 +8,7 @@
 #![tactic(auto)]
 
 mod arrange;
+mod distance;
 mod kept;
 mod order;
 mod pack;
