@@ -7,9 +7,8 @@ ghost use Rattle.row_group.specs.Groups.{IsGroupOf};
 ghost use Rattle.row_group.specs.Kept.{IsKept};
 ghost use Rattle.row_group.specs.Arranged.{IsRowOrder, AreSegmentsOf, AreStamps, KeepColumns, AreKeys, IsArranged};
 
-use crate::arrange::{arranged, picked, row_order};
+use crate::arrange::{arranged, key_order, picked, row_order};
 use crate::kept::{Kept, kept_of};
-use crate::order::order_of;
 use crate::packed::Packed;
 use column_segment::{Segment, encode};
 use cs_base::{Items, Memory};
@@ -63,7 +62,7 @@ fn packed_by(
         begins,
     } = kept;
     let keys = picked(alloc, &keys, order)?;
-    let places = order_of(alloc, &keys)?;
+    let places = key_order(alloc, &keys)?;
     let begins = picked(alloc, &begins, order)?;
     let late = stamps_of(alloc, &begins, floor)?;
     let segments = segments_of(alloc, schema, columns, order)?;
