@@ -4,15 +4,13 @@ use Rattle.std.specs.declared.cmp.Ordering.TheVariants.{Greater}
 use Rattle.std.specs.BTreeMap.{is_at}
 use Rattle.std.specs.Map.{lookup}
 use Rattle.cs_types.specs.declared.Key.{Key}
-use Rattle.cs_types.specs.declared.Schema.{Schema}
 use Rattle.cs_model.specs.declared.entry.Bound.{Bound}
 use Rattle.cs_model.specs.declared.entry.Bound.TheVariants.{Insert, Select, Refused}
 use Rattle.cs_model.specs.declared.entry.Refusal.{Refusal}
-use Rattle.cs_model.specs.declared.entry.Refusal.TheVariants.{Reading, Duplicate, Memory}
+use Rattle.cs_model.specs.declared.entry.Refusal.TheVariants.{Reading, Valued, Duplicate, Memory}
 use Rattle.cs_model.specs.Keys.{key_cmp, same_key}
 use Rattle.cs_model.specs.Changes.{Edit, Table}
 use Rattle.cs_model.specs.State.{State}
-use Rattle.cs_model.specs.Answers.{writes}
 
 -- the keys that a statement writes
 abbrev pub keys_of : List Edit → List Key
@@ -26,17 +24,18 @@ has_row table key = is_some (lookup (is_at (key_cmp key)) table)
 abbrev pub stands_twice : List Key → Key → Bool
 stands_twice keys key = nat_lt 1 (count_by (λ other. same_key key other) keys)
 
--- whether an INSERT would make a key stand twice: it is in what the statement reads, or twice in its list
-abbrev pub is_present : Schema → Bound → Table → Key → Bool
-is_present schema (Insert rows) table key = has_row table key || stands_twice (keys_of (writes schema (Insert rows))) key
-is_present schema Select table key = false
-is_present schema (Refused refusal) table key = false
+-- whether an INSERT of these edits would make a key stand twice: it is in what the statement reads, or twice in its list
+abbrev pub is_present : Bound → List Edit → Table → Key → Bool
+is_present (Insert plan) edits table key = has_row table key || stands_twice (keys_of edits) key
+is_present (Select query) edits table key = false
+is_present (Refused refusal) edits table key = false
 
 -- the obstacle of one key to a write of a session, or that it has none
 abbrev pub IsObstacle : State → ℕ → (Key → Bool) → Key → Option Refusal → Type 0
 IsObstacle m session present key None = present key ≡ false
 IsObstacle m session present key (Some (Duplicate k)) = (k ≡ key) × (present key ≡ true)
 IsObstacle m session present key (Some (Reading number at)) = ⊥
+IsObstacle m session present key (Some (Valued number row column)) = ⊥
 IsObstacle m session present key (Some Memory) = ⊥
 
 -- the refusal is the obstacle of the least of these keys that has one

@@ -1,5 +1,5 @@
 -- What an event does to the state: a relation by cases of the event.
-use Rattle.std.specs.Prelude.{◌≡◌, ◌⊎◌, ℕ, ◌+◌, List, [], ◌∷◌, ◌++◌, length, map, fold, Bool, true, false, ◌==◌, if◌then◌else◌, is_some, Option, None, Some}
+use Rattle.std.specs.Prelude.{◌≡◌, ◌⊎◌, ℕ, ◌+◌, List, [], ◌∷◌, ◌++◌, length, map, fold, Bool, true, false, ◌==◌, if◌then◌else◌, is_some, Option, None, Some, Result, Ok, Err}
 use Rattle.std.specs.BTreeMap.{insert_entry}
 use Rattle.cs_types.specs.declared.Loose.{Loose}
 use Rattle.cs_types.specs.declared.Schema.{Schema}
@@ -61,17 +61,21 @@ IsWritten Judged edits (reply.Affected count) = Judged None × (count ≡ length
 IsWritten Judged edits (reply.Refused refusal) = Judged (Some refusal)
 IsWritten Judged edits (reply.Rows list segments) = ⊥
 
--- the reply to a write, over what its transaction sees
+-- the reply to a write, over what its transaction sees: its first value refusal, and else by its edits
+abbrev pub IsWriteReplyOf : State → ℕ → Table → Bound → Result (List Edit) Refusal → Reply → Type 0
+IsWriteReplyOf m session table b (Err refusal) r = r ≡ reply.Refused refusal
+IsWriteReplyOf m session table b (Ok edits) r = IsWritten (IsJudged (IsObstacle m session (is_present b edits table)) (keys_of edits)) edits r
+
 abbrev pub IsWriteReply : Schema → State → ℕ → Table → Bound → Reply → Type 0
-IsWriteReply schema m session table b r = IsWritten (IsJudged (IsObstacle m session (is_present schema b table)) (keys_of (writes schema b))) (writes schema b) r
+IsWriteReply schema m session table b r = IsWriteReplyOf m session table b (writes schema b) r
 
 -- the reply that a statement is defined to have, with the session's transaction; one of the table has none without it
 abbrev pub IsReplyIn : Schema → State → ℕ → Option Txn → Bound → Reply → Type 0
 IsReplyIn schema m session txn (bound.Refused refusal) r = r ≡ reply.Refused refusal
-IsReplyIn schema m session None bound.Select r = ⊥
-IsReplyIn schema m session (Some txn) bound.Select r = IsAnswer (m.statistics session) (answer schema (seen m.changes txn)) r
-IsReplyIn schema m session None (bound.Insert rows) r = ⊥
-IsReplyIn schema m session (Some txn) (bound.Insert rows) r = IsWriteReply schema m session (seen m.changes txn) (bound.Insert rows) r
+IsReplyIn schema m session None (bound.Select query) r = ⊥
+IsReplyIn schema m session (Some txn) (bound.Select query) r = IsAnswer (m.statistics session) (answer schema query (seen m.changes txn)) r
+IsReplyIn schema m session None (bound.Insert plan) r = ⊥
+IsReplyIn schema m session (Some txn) (bound.Insert plan) r = IsWriteReply schema m session (seen m.changes txn) (bound.Insert plan) r
 
 abbrev pub IsReply : Schema → State → ℕ → Bound → Reply → Type 0
 IsReply schema m session b r = IsReplyIn schema m session (m.txns session) b r
@@ -106,8 +110,13 @@ accepted_in m session (Some txn) edits =
     let after = record txn { own = staged txn.own edits } in
     if txn.depth == 0 then commits m session after else txn_set m session (Some after)
 
+-- the edits of a write that was not refused
+abbrev pub edits_in : Result (List Edit) Refusal → List Edit
+edits_in (Ok edits) = edits
+edits_in (Err refusal) = []
+
 abbrev pub accepted : Schema → State → ℕ → Bound → State
-accepted schema m session b = accepted_in m session (m.txns session) (writes schema b)
+accepted schema m session b = accepted_in m session (m.txns session) (edits_in (writes schema b))
 
 -- whether a refusal ends the transaction: every one ends an implicit one
 abbrev pub ends_txn : Txn → Refusal → Bool

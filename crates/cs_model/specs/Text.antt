@@ -11,7 +11,7 @@ use Rattle.cs_types.specs.declared.Value.TheVariants.{Number}
 use Rattle.cs_types.specs.Kinds.{keeps}
 use Rattle.cs_types.specs.Text.{loose_text, value_text, IsPrintable}
 use Rattle.cs_model.specs.declared.entry.Refusal.{Refusal}
-use Rattle.cs_model.specs.declared.entry.Refusal.TheVariants.{Reading, Duplicate, Memory}
+use Rattle.cs_model.specs.declared.entry.Refusal.TheVariants.{Reading, Valued, Duplicate, Memory}
 use Rattle.cs_model.specs.declared.entry.Reply.{Reply}
 use Rattle.cs_model.specs.declared.entry.Reply.TheVariants.{Affected, Rows, Refused}
 use Rattle.cs_model.specs.declared.entry.Entry.{Entry}
@@ -41,8 +41,13 @@ key_kind schema = kind_or (slice_get schema.columns schema.key)
 abbrev pub key_text : Schema → Key → List ℕ
 key_text schema key = value_text (key_kind schema) (Number key.0)
 
+-- the refusal of a value, by its row and column
+abbrev pub valued_text : ℕ → ℕ → ℕ → List ℕ
+valued_text number row column = codes "error " ++ decimal number ++ codes " row " ++ decimal row ++ codes " column " ++ decimal column
+
 abbrev pub refusal_text : Schema → Refusal → List ℕ
 refusal_text schema (Reading number at) = codes "error " ++ decimal number ++ codes " at " ++ decimal at
+refusal_text schema (Valued number row column) = valued_text number row column
 refusal_text schema (Duplicate key) = codes "error 2627 key " ++ key_text schema key
 refusal_text schema Memory = codes "error 701"
 
@@ -99,6 +104,7 @@ text schema log = text_after schema [] log
 
 abbrev pub IsPrintableRefusal : Schema → Refusal → Type 0
 IsPrintableRefusal schema (Reading number at) = Unit {0}
+IsPrintableRefusal schema (Valued number row column) = Unit {0}
 IsPrintableRefusal schema (Duplicate key) = IsTrue (keeps (key_kind schema) (Number key.0))
 IsPrintableRefusal schema Memory = Unit {0}
 

@@ -2,7 +2,8 @@
 ghost use Rattle.std.specs.Prelude.{◌≡◌};
 
 use cs_base::Items;
-use cs_types::{Key, Loose, Row};
+use cs_plans::{InsertPlan, Query};
+use cs_types::{Key, Loose};
 
 /// A row of an answer: a value for each item of the query.
 pub type AnswerRow = Items<Loose>;
@@ -10,10 +11,10 @@ pub type AnswerRow = Items<Loose>;
 /// A statement as it is bound to the table, or why it is refused.
 #[derive(Debug, Drop)]
 pub enum Bound {
-    /// INSERT of these rows, at least one. Each fits the table's columns.
-    Insert(Items<Row>),
-    /// SELECT of all columns and rows.
-    Select,
+    /// INSERT of the rows of VALUES.
+    Insert(InsertPlan),
+    /// SELECT from the table.
+    Select(Query),
     /// Reading or binding refused the text, or there was no memory for it.
     Refused(Refusal),
 }
@@ -23,6 +24,9 @@ pub enum Bound {
 pub enum Refusal {
     /// The text has an error with this number at this place; places count bytes from 1.
     Reading { number: u32, at: u32 },
+    /// A value that a row's column does not keep, or that can't be computed, has an error with this number: 515, 2628, 220,
+    /// 8115 or 8134. Rows are counted from 1 in their order in the statement, columns from 1 by their place in the table.
+    Valued { number: u32, row: u64, column: u32 },
     /// An INSERT of a key that is there already, or twice in the statement (error 2627).
     Duplicate { key: Key },
     /// Memory was not there (error 701). No row has changed.

@@ -2,7 +2,7 @@
 ghost use Rattle.std.specs.Prelude.{◌≡◌, ◌++◌, All, OnOk, OnErr, IsTrue, codes, decimal};
 ghost use Rattle.std.specs.List.{flat_map};
 ghost use Rattle.cs_types.specs.Text.{IsPrintable};
-ghost use Rattle.cs_model.specs.Text.{next_cell, cells_text, row_line, key_kind, key_text, refusal_text, segments_line, reply_text, session_text, entry_text, IsPrintableRow, IsPrintableRefusal, IsPrintableReply, IsPrintableEntry};
+ghost use Rattle.cs_model.specs.Text.{next_cell, cells_text, row_line, key_kind, key_text, valued_text, refusal_text, segments_line, reply_text, session_text, entry_text, IsPrintableRow, IsPrintableRefusal, IsPrintableReply, IsPrintableEntry};
 ghost use Rattle.cs_types.specs.Kinds.{keeps};
 ghost use Rattle.cs_types.specs.declared.Value.TheVariants as value;
 
@@ -66,6 +66,18 @@ fn append_key(schema: &Schema, key: Key, line: &mut Line) -> Result<(), Memory>
     print_value(key_kind(schema), &Value::Number(key.0), line)
 }
 
+/// Adds the refusal of a value, by its row and column.
+fn append_valued(number: u32, row: u64, column: u32, line: &mut Line) -> Result<(), Memory>
+    ensures { OnOk result (line.new ≡ line.old ++ valued_text number row column) }
+{
+    line.append(b"error ")?;
+    line.append_number(number as u64)?;
+    line.append(b" row ")?;
+    line.append_number(row)?;
+    line.append(b" column ")?;
+    line.append_number(column as u64)
+}
+
 fn append_refusal(schema: &Schema, refusal: Refusal, line: &mut Line) -> Result<(), Memory>
     requires { IsPrintableRefusal schema.now refusal }
     ensures { OnOk result (line.new ≡ line.old ++ refusal_text schema.now refusal) }
@@ -77,6 +89,11 @@ fn append_refusal(schema: &Schema, refusal: Refusal, line: &mut Line) -> Result<
             line.append(b" at ")?;
             line.append_number(at as u64)
         }
+        Refusal::Valued {
+            number,
+            row,
+            column,
+        } => append_valued(number, row, column, line),
         Refusal::Duplicate { key } => {
             line.append(b"error 2627 key ")?;
             append_key(schema, key, line)
