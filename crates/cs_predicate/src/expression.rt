@@ -1,0 +1,57 @@
+//! Expressions.
+
+ghost use Rattle.std.specs.Prelude.{◌≡◌, IfOk};
+ghost use Rattle.cs_predicate.specs.Cells as cells;
+ghost use Rattle.cs_predicate.specs.Expressions as spec;
+ghost use Rattle.cs_predicate.specs.Expressions.{Gives};
+
+use crate::arithmetic::{product_of, signed, sum_of};
+use crate::refusal::ExprRefusal;
+use cs_base::Memory;
+use cs_plans::Expr;
+use cs_types::{Loose, Row, Schema, loose_of};
+
+/// What a row's cell in a column stands for.
+fn loose_at(schema: &Schema, row: &Row, column: usize) -> Result<Loose, Memory>
+    ensures { IfOk result (λ loose. loose ≡ cells.loose_at schema.now row.now column) }
+{
+    match schema.columns.get(column) {
+        Some(found) => loose_of(found.kind, row.cell(column)),
+        None => Ok(Loose::Null),
+    }
+}
+
+/// The value of an expression over a row of a schema.
+///
+/// A literal is as it stands, and a cell as its column means it. Arithmetic is on whole numbers, in a chain from the left,
+/// each side computed, the left one first; it is NULL where a side is. `/` cuts toward zero, and `%` has the sign of the
+/// left side. `ZeroDivisor` where the right side of one of these is 0 and the left one is not NULL; `Overflow` where a
+/// result of arithmetic, also one on the way, is outside bigint; `Memory` where a text finds no room.
+pub fn compute(expr: &Expr, row: &Row, schema: &Schema) -> Result<Loose, ExprRefusal>
+    ensures { Gives result (spec.compute expr.now row.now schema.now) }
+{
+    match expr {
+        Expr::Constant(constant) => Ok(constant.copy()?),
+        Expr::Column(column) => Ok(loose_at(schema, row, *column)?),
+        Expr::Signed { minus, part } => {
+            let value = compute(part.get(), row, schema)?;
+            signed(*minus, &value)
+        }
+        Expr::Sum { first, rest } => {
+            let mut left = compute(first.get(), row, schema)?;
+            for part in rest.as_slice() {
+                let right = compute(&part.1, row, schema)?;
+                left = sum_of(part.0, &left, &right)?;
+            }
+            Ok(left)
+        }
+        Expr::Product { first, rest } => {
+            let mut left = compute(first.get(), row, schema)?;
+            for part in rest.as_slice() {
+                let right = compute(&part.1, row, schema)?;
+                left = product_of(part.0, &left, &right)?;
+            }
+            Ok(left)
+        }
+    }
+}

@@ -1,0 +1,13 @@
+//! Expressions and predicates over a row.
+//!
+//! Its one contract: `compute` gives exactly the value that the definition in specs/ gives an expression over a row, or
+//! its refusal, and `truth` exactly the truth value of a predicate. Both answer for every bound form, row and schema. It
+//! stands on `cs_plans`, which has the bound forms, and on `cs_types`, which has values, rows and schemas.
+#![tactic(auto)]
+
+mod arithmetic;
+mod expression;
+mod refusal;
+
+pub use expression::compute;
+pub use refusal::ExprRefusal;
