@@ -11,8 +11,8 @@ use cs_base::Memory;
 use cs_plans::Expr;
 use cs_types::{Loose, Row, Schema, loose_of};
 
-/// What a row's cell in a column stands for.
-fn loose_at(schema: &Schema, row: &Row, column: usize) -> Result<Loose, Memory>
+/// What a row's cell in a column stands for; NULL past the columns.
+pub fn loose_at(schema: &Schema, row: &Row, column: usize) -> Result<Loose, Memory>
     ensures { IfOk result (λ loose. loose ≡ cells.loose_at schema.now row.now column) }
 {
     match schema.columns.get(column) {

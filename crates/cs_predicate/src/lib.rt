@@ -9,5 +9,5 @@ mod arithmetic;
 mod expression;
 mod refusal;
 
-pub use expression::compute;
+pub use expression::{compute, loose_at};
 pub use refusal::ExprRefusal;
