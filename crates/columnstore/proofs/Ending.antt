@@ -5,7 +5,7 @@ use Rattle.std.proofs.lemmas.List.{take-append-drop, append-nil}
 use Rattle.cs_outside.specs.Outside.{Takes, Adds}
 use Rattle.columnstore.specs.declared.status.Status.{Status}
 use Rattle.columnstore.specs.declared.status.Status.TheVariants as status
-use Rattle.tsql_binder.specs.Meaning.{schema_t}
+use Rattle.cs_types.specs.declared.Schema.{Schema}
 use Rattle.columnstore.specs.Outcome.{Asks, answered, Ends, IsStopped}
 use Rattle.columnstore.specs.Written.{IsWritten}
 
@@ -44,9 +44,13 @@ module _ (words : List (List ℕ)) (came : List ℕ) (left : Option (List ℕ)) 
     subst (λ r. Ends words came left (take w.1.0 whole) r) (sym w.0) (s, whole, a, (drop w.1.0 whole, sym (take-append-drop w.1.0 whole))),
   )
 
+-- no step was made under this schema
+abbrev no_schema : Schema
+no_schema = record { name = []; columns = []; key = 0 }
+
 -- nothing was written
 pub stopped : (came : List ℕ) (left : Option (List ℕ)) → IsStopped came left []
-stopped came left = record { schema = schema_t; log = []; steps = inl refl; front = ([], refl) }
+stopped came left = record { schema = no_schema; log = []; steps = inl refl; front = ([], refl) }
 
 pub none_added : (held : Option (List ℕ)) → Adds held held []
 none_added None = refl

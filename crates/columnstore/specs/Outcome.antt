@@ -1,12 +1,11 @@
 -- What the program does: for which words and input it ends with which status, and what it has written then.
-use Rattle.std.specs.Prelude.{◌≡◌, ◌⊎◌, ℕ, ◌<◌, ◌≤◌, List, [], ◌∷◌, ◌++◌, length, codes, decimal, Bool, true, false, bytes_eq, Ok, Err, Option, ◌==◌, if◌then◌else◌}
+use Rattle.std.specs.Prelude.{◌≡◌, ◌⊎◌, ℕ, ◌<◌, ◌≤◌, List, [], ◌∷◌, ◌++◌, length, codes, decimal, Bool, true, false, bytes_eq, Option, ◌==◌, if◌then◌else◌}
 use Rattle.cs_outside.specs.Outside.{IsAtEnd}
 use Rattle.cs_types.specs.declared.Schema.{Schema}
 use Rattle.cs_model.specs.declared.entry.Entry.{Entry}
 use Rattle.cs_model.specs.Text.{text}
 use Rattle.script_reader.specs.declared.script.Script.{Script}
-use Rattle.script_reader.specs.declared.script.ScriptRefusal.TheVariants.{Bad}
-use Rattle.script_reader.specs.Scripts.{script_of}
+use Rattle.script_reader.specs.Scripts.{IsScript, IsBadLine}
 use Rattle.statement_core.specs.Logs.{IsLogOf, IsFrontLogOf}
 use Rattle.columnstore.specs.declared.status.Status.{Status}
 use Rattle.columnstore.specs.declared.status.Status.TheVariants as status
@@ -29,7 +28,7 @@ limit = 16777216
 pub record Performed (bytes whole : List ℕ) : Type 0 where
   pub script : Script
   pub log : List Entry
-  pub reads : script_of bytes ≡ Ok script
+  pub reads : IsScript bytes script
   pub run : IsLogOf script log
   pub is : whole ≡ text script.schema log
 
@@ -45,7 +44,7 @@ pub record HasBadLine (bytes whole : List ℕ) : Type 0 where
   pub line : ℕ
   pub reason : ℕ
   pub number : ℕ
-  pub reads : script_of bytes ≡ Err (Bad line reason number)
+  pub reads : IsBadLine bytes line reason number
   pub is : whole ≡ bad_line_text line reason number
 
 -- the whole text that is to be written for an input that was read, with the status that goes with it
@@ -71,7 +70,7 @@ IsFront added whole = (rest : List ℕ) × (whole ≡ added ++ rest)
 -- no step was made, or, where the input was read to its end, a front of the script's steps
 abbrev pub AreSteps : List ℕ → Option (List ℕ) → Schema → List Entry → Type 0
 AreSteps came left schema log =
-    (log ≡ []) ⊎ ((script : Script) × (length came ≤ limit) × IsAtEnd left × (script_of came ≡ Ok script) × (schema ≡ script.schema) × IsFrontLogOf script log)
+    (log ≡ []) ⊎ ((script : Script) × (length came ≤ limit) × IsAtEnd left × IsScript came script × (schema ≡ script.schema) × IsFrontLogOf script log)
 
 -- memory gave out: what was added is a front of the text of the steps that were made
 pub record IsStopped (came : List ℕ) (left : Option (List ℕ)) (added : List ℕ) : Type 0 where

@@ -1,5 +1,7 @@
 // What is to be written for an input.
 ghost use Rattle.std.specs.Prelude.{◌≡◌, ◌++◌, IfOk, OnOk};
+ghost use Rattle.script_reader.specs.declared.script.Script.{Script};
+ghost use Rattle.script_reader.specs.Scripts.{IsScript};
 ghost use Rattle.columnstore.specs.Outcome.{IsAnswered, setup_error_text, bad_line_text};
 
 use crate::status::Status;
@@ -37,7 +39,9 @@ fn bad_line(alloc: Global, line: u64, reason: u32, number: u32) -> Result<Line, 
 
 /// The whole text that is to be written for an input, and the status that goes with it.
 pub fn answer(alloc: Global, bytes: &[u8]) -> Result<(Status, Line), Memory>
-    ensures { IfOk result (λ a. IsAnswered bytes.now a.0 a.1) }
+    ensures answered { IfOk result (λ a. IsAnswered bytes.now a.0 a.1) }
+    // A script is run.
+    ensures runs { (script : Script) → IsScript bytes.now script → IfOk result (λ a. a.0 ≡ Status.Done) }
 {
     match read_script(alloc, bytes) {
         Ok(script) => {

@@ -32,7 +32,7 @@ fn run(
 }
 
 /// Whole inputs, and what they give.
-const SCRIPTS: [(&str, Status, &str); 15] = [
+const SCRIPTS: [(&str, Status, &str); 21] = [
     (FIRST, Status::Done, FIRST_LOG),
     (SETUP, Status::Done, ""),
     ("", Status::Script, "refused line 1 reason 2\n"),
@@ -45,7 +45,7 @@ const SCRIPTS: [(&str, Status, &str); 15] = [
     (
         "setup CREATE TABLE u (k int)\n",
         Status::Script,
-        "refused line 1 reason 1\n",
+        "refused line 1 reason 8 error 50001\n",
     ),
     (
         "setup CREATE TABLE t (k bigint NOT NULL PRIMARY KEY, v int)\ns1 \n",
@@ -68,16 +68,50 @@ const SCRIPTS: [(&str, Status, &str); 15] = [
         Status::Done,
         "1 s1.1 >\n2 s1.1 < ok 0 rows\n3 s1 end\n",
     ),
-    // Texts of no form.
+    // Setup statements that are refused, by the grammar and by what they say.
     (
-        "setup CREATE TABLE t (k bigint NOT NULL PRIMARY KEY, v int)\ns1 INSERT INTO t VALUES (1234567890, 1)\n",
-        Status::Done,
-        "1 s1.1 >\n2 s1.1 < error 50001 at 1\n3 s1 end\n",
+        "setup CREATE TABLE t (k float PRIMARY KEY)\n",
+        Status::Script,
+        "refused line 1 reason 8 error 102\n",
     ),
     (
-        "setup CREATE TABLE t (k bigint NOT NULL PRIMARY KEY, v int)\ns1 INSERT INTO t VALUES (NULL, 1)\n",
+        "setup CREATE TABLE t (k decimal(19,2) PRIMARY KEY)\n",
+        Status::Script,
+        "refused line 1 reason 8 error 50001\n",
+    ),
+    // A byte that no line may have comes before the line's form.
+    (
+        "\u{e9}\n",
+        Status::Script,
+        "refused line 1 reason 6\n",
+    ),
+    (
+        "setup CREATE TABLE t (k bigint NOT NULL PRIMARY KEY, v int)\ns1 SELECT\t* FROM t\nx\u{7f}\n",
+        Status::Script,
+        "refused line 3 reason 6\n",
+    ),
+    // Every type at its limits, and each refusal of a value.
+    (
+        "setup CREATE TABLE t (k bigint NOT NULL PRIMARY KEY, a tinyint, b varchar(2), d date)\ns1 INSERT INTO t VALUES (-9223372036854775808, 255, 'ab   ', '9999-12-31')\ns1 INSERT INTO t VALUES (1, 256, NULL, NULL)\ns1 INSERT INTO t VALUES (1, 0, 'abc', NULL)\ns1 INSERT INTO t VALUES (1, 0, NULL, '2023-02-29')\ns1 INSERT INTO t VALUES (NULL, 0, NULL, NULL)\ns1 INSERT INTO t VALUES (9223372036854775808, 0, NULL, NULL)\ns1 SELECT * FROM t\n",
         Status::Done,
-        "1 s1.1 >\n2 s1.1 < error 50001 at 1\n3 s1 end\n",
+        "1 s1.1 >\n2 s1.1 < ok 1 affected\n3 s1.2 >\n4 s1.2 < error 220 row 1 column 2\n5 s1.3 >\n6 s1.3 < error 2628 row 1 column 3\n7 s1.4 >\n8 s1.4 < error 241 at 35\n9 s1.5 >\n10 s1.5 < error 515 row 1 column 1\n11 s1.6 >\n12 s1.6 < error 8115 row 1 column 1\n13 s1.7 >\n14 s1.7 < ok 1 rows\n  -9223372036854775808, 255, 'ab', 9999-12-31\n15 s1 end\n",
+    ),
+    (
+        "setup CREATE TABLE dbo.orders (id smallint PRIMARY KEY NONCLUSTERED, price decimal(10,2), region varchar(20), placed date NOT NULL)\ns1 INSERT INTO dbo.orders VALUES (1, 19.99, 'it''s', '20240229'), (-32768, -0.005, NULL, '0001-01-01')\ns1 INSERT orders (placed, id) VALUES ('2024-02-30', 2)\ns1 INSERT orders (placed, id) VALUES ('2024-02-29', 2), (NULL, 32768)\ns1 INSERT orders (placed, id) VALUES ('2024-03-01', 2)\ns1 SELECT placed, Price, id, [ID] FROM ORDERS;\ns1 SELECT region FROM orders\n",
+        Status::Done,
+        "1 s1.1 >\n2 s1.1 < ok 2 affected\n3 s1.2 >\n4 s1.2 < error 241 at 36\n5 s1.3 >\n6 s1.3 < error 220 row 2 column 1\n7 s1.4 >\n8 s1.4 < ok 1 affected\n9 s1.5 >\n10 s1.5 < ok 3 rows\n  0001-01-01, -0.01, -32768, -32768\n  2024-02-29, 19.99, 1, 1\n  2024-03-01, NULL, 2, 2\n11 s1.6 >\n12 s1.6 < ok 3 rows\n  NULL\n  'it''s'\n  NULL\n13 s1 end\n",
+    ),
+    // Refusals of reading, and each of binding: the leftmost, and a wrong table before all.
+    (
+        "setup CREATE TABLE t (k bigint NOT NULL PRIMARY KEY, v int)\ns1 INSERT INTO t VAL\ns1 SELECT x FROM u\ns1 SELECT k, x FROM t\ns1 INSERT INTO t VALUES (1)\ns1 INSERT INTO t (k, x) VALUES (1)\ns1 INSERT INTO t (k, v) VALUES (1)\ns1 INSERT INTO t (k) VALUES (1), (1, 2)\ns1 INSERT INTO t (k, K) VALUES (1, 2)\ns1 INSERT INTO t VALUES (1, 'a'), (1)\ns1 INSERT INTO t VALUES (1, 2.5)\n",
+        Status::Done,
+        "1 s1.1 >\n2 s1.1 < error 102 at 15\n3 s1.2 >\n4 s1.2 < error 208 at 15\n5 s1.3 >\n6 s1.3 < error 207 at 11\n7 s1.4 >\n8 s1.4 < error 213 at 22\n9 s1.5 >\n10 s1.5 < error 207 at 19\n11 s1.6 >\n12 s1.6 < error 109 at 29\n13 s1.7 >\n14 s1.7 < error 110 at 31\n15 s1.8 >\n16 s1.8 < error 50001 at 19\n17 s1.9 >\n18 s1.9 < error 206 at 26\n19 s1.10 >\n20 s1.10 < error 50001 at 26\n21 s1 end\n",
+    ),
+    // Forms that come later, before all other refusals of binding.
+    (
+        "setup CREATE TABLE t (k bigint NOT NULL PRIMARY KEY, v int)\ns1 BEGIN TRAN\ns1 SET STATISTICS IO ON\ns1 INSERT INTO u VALUES (1, 1 + 1)\ns1 INSERT INTO t VALUES (1, x)\ns1 INSERT INTO t VALUES (1, (2))\ns1 INSERT INTO t SELECT value, 1 FROM GENERATE_SERIES(1, 2)\ns1 UPDATE t SET v = 1\ns1 DELETE t\ns1 SELECT COUNT(*) FROM t\ns1 SELECT x FROM u WHERE k = 1\ns1 SELECT k FROM t ORDER BY k\ns1 SELECT * FROM sys.column_store_segments\ns1 ALTER INDEX ALL ON t REORGANIZE\n",
+        Status::Done,
+        "1 s1.1 >\n2 s1.1 < error 50001 at 1\n3 s1.2 >\n4 s1.2 < error 50001 at 1\n5 s1.3 >\n6 s1.3 < error 50001 at 1\n7 s1.4 >\n8 s1.4 < error 50001 at 1\n9 s1.5 >\n10 s1.5 < error 50001 at 1\n11 s1.6 >\n12 s1.6 < error 50001 at 1\n13 s1.7 >\n14 s1.7 < error 50001 at 1\n15 s1.8 >\n16 s1.8 < error 50001 at 1\n17 s1.9 >\n18 s1.9 < error 50001 at 1\n19 s1.10 >\n20 s1.10 < error 50001 at 1\n21 s1.11 >\n22 s1.11 < error 50001 at 1\n23 s1.12 >\n24 s1.12 < error 50001 at 1\n25 s1.13 >\n26 s1.13 < error 50001 at 1\n27 s1 end\n",
     ),
     // The numbers with nine digits, and a negative one.
     (
@@ -148,7 +182,7 @@ fn names_the_cause(rt: HostRuntime) -> Result<(), Fail> {
 fn refuses_a_script_that_is_too_long(rt: HostRuntime) -> Result<(), Fail> {
     // (bytes of one line, status, text)
     let cases = [
-        (16_777_216, Status::Script, "refused line 1 reason 2\n"),
+        (16_777_216, Status::Script, "refused line 1 reason 5\n"),
         (16_777_217, Status::Script, "refused too long\n"),
     ];
     for (length, status, text) in cases {

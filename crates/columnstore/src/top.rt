@@ -1,9 +1,9 @@
 // The top call.
-ghost use Rattle.std.specs.Prelude.{◌≡◌, ◌≤◌, List, ℕ, map, length, string_bytes, true, Some, Ok};
+ghost use Rattle.std.specs.Prelude.{◌≡◌, ◌≤◌, List, ℕ, map, length, string_bytes, true, Some};
 ghost use Rattle.cs_base.specs.Counts.{Rose};
 ghost use Rattle.cs_outside.specs.Outside.{Takes, Adds};
 ghost use Rattle.script_reader.specs.declared.script.Script.{Script};
-ghost use Rattle.script_reader.specs.Scripts.{script_of};
+ghost use Rattle.script_reader.specs.Scripts.{IsScript};
 ghost use Rattle.columnstore.specs.Outcome.{are_words, limit, Ends, IsDoneOrStopped};
 ghost use Rattle.columnstore.specs.Written.{IsWritten};
 
@@ -50,7 +50,7 @@ pub fn columnstore<I: Source, O: Sink>(
         × Ends (map string_bytes words.now) came (I.left input.new) added result }
     // The words and a script are answered, unless memory or a stream gives out.
     ensures complete { (bytes : List ℕ) (script : Script) → I.left input.old ≡ Some bytes → are_words (map string_bytes words.now) ≡ true
-        → length bytes ≤ limit → script_of bytes ≡ Ok script → IsDoneOrStopped result }
+        → length bytes ≤ limit → IsScript bytes script → IsDoneOrStopped result }
     ensures read_fault { result ≡ Status.ReadFault → Rose (I.faults input.old) (I.faults input.new) }
     ensures write_fault { result ≡ Status.WriteFault → Rose (O.faults output.old) (O.faults output.new) }
 {

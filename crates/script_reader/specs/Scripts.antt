@@ -1,8 +1,10 @@
 -- What a script says: its table and its steps, or its first bad line.
-use Rattle.std.specs.Prelude.{◌≡◌, ℕ, zero, suc, ◌+◌, List, [], ◌∷◌, codes, filter, bytes_eq, Bool, ◌==◌, if◌then◌else◌, Option, None, Some, Result, Ok, Err}
-use Rattle.std.specs.List.{list_any}
-use Rattle.tsql_binder.specs.Meaning.{schema_t}
-use Rattle.tsql_binder.specs.Meaning.{behind}
+use Rattle.std.specs.Prelude.{◌≡◌, ℕ, zero, suc, ◌+◌, ◌≤◌, nat_lt, List, [], ◌∷◌, length, drop, codes, nat_eq, filter, Bool, ◌||◌, ◌==◌, if◌then◌else◌, All, Option, None, Some, Result, Ok, Err}
+use Rattle.std.specs.List.{list_all, list_any, starts_with}
+use Rattle.cs_types.specs.declared.Schema.{Schema}
+use Rattle.cs_types.specs.Kinds.{is_text_byte}
+use Rattle.cs_types.specs.Schemas.{IsSchema}
+use Rattle.tsql_table.specs.Tables.{IsTable, IsNoTable}
 use Rattle.script_reader.specs.Lines.{lines}
 use Rattle.script_reader.specs.declared.script.Script.{Script}
 use Rattle.script_reader.specs.declared.script.Step.{Step}
@@ -10,25 +12,53 @@ use Rattle.script_reader.specs.declared.script.Step.TheVariants.{Whole}
 use Rattle.script_reader.specs.declared.script.ScriptRefusal.{ScriptRefusal}
 use Rattle.script_reader.specs.declared.script.ScriptRefusal.TheVariants.{Bad, Memory}
 
--- a text that is not empty is a statement of session 1
-abbrev pub whole_of : Option (List ℕ) → Option Step
-whole_of None = None
-whole_of (Some []) = None
-whole_of (Some (b ∷ text)) = Some (Whole 1 (b ∷ text))
+-- ---- a line
 
--- the step of a line `s1 ` and a text
-abbrev pub step_of : List ℕ → Option Step
-step_of line = whole_of (behind (codes "s1 ") line)
+-- a byte that a line may have: a tab, or one from 32 to 126
+abbrev pub is_line_byte : ℕ → Bool
+is_line_byte c = (c == 9) || is_text_byte c
 
-abbrev pub step_before : ℕ → Option Step → Result (List Step) ScriptRefusal → Result (List Step) ScriptRefusal
-step_before n None rest = Err (Bad n 1 0)
-step_before n (Some step) (Ok steps) = Ok (step ∷ steps)
-step_before n (Some step) (Err bad) = Err bad
+-- why a line is bad whatever it says: over 65,536 bytes (reason 5), or another byte (reason 6)
+abbrev pub line_reason : List ℕ → Option ℕ
+line_reason line = if nat_lt 65536 (length line) then Some 5 else (if list_all is_line_byte line then None else Some 6)
 
--- the steps of the lines from the n-th on, or the first of them that has no form (reason 1)
+-- what a line gives, unless it is bad
+abbrev pub unless_bad : {X : Type 0} → Option ℕ → Result X ℕ → Result X ℕ
+unless_bad None r = r
+unless_bad (Some reason) r = Err reason
+
+-- what stands behind a front, where the line begins with it
+abbrev pub behind : List ℕ → List ℕ → Option (List ℕ)
+behind front line = if starts_with nat_eq line front then Some (drop (length front) line) else None
+
+abbrev pub some_text : ℕ → Option (List ℕ) → Result (List ℕ) ℕ
+some_text reason None = Err reason
+some_text reason (Some []) = Err reason
+some_text reason (Some (b ∷ text)) = Ok (b ∷ text)
+
+-- the statement of a line `s1 ` and a text that is not empty, or why it has none: reason 1 for a line of another form
+abbrev pub statement_of : List ℕ → Result (List ℕ) ℕ
+statement_of line = unless_bad (line_reason line) (some_text 1 (behind (codes "s1 ") line))
+
+abbrev pub text_or : ℕ → Option (List ℕ) → Result (List ℕ) ℕ
+text_or reason None = Err reason
+text_or reason (Some text) = Ok text
+
+-- the setup statement of a line `setup ` and a text, or why it has none: reason 2 for a line of another form
+abbrev pub setup_of : List ℕ → Result (List ℕ) ℕ
+setup_of line = unless_bad (line_reason line) (text_or 2 (behind (codes "setup ") line))
+
+-- ---- the steps
+
+abbrev pub step_before : ℕ → Result (List ℕ) ℕ → Result (List Step) ScriptRefusal → Result (List Step) ScriptRefusal
+step_before n (Err reason) rest = Err (Bad n reason 0)
+step_before n (Ok text) (Ok steps) = Ok (Whole 1 text ∷ steps)
+step_before n (Ok text) (Err bad) = Err bad
+
+-- the steps of the lines from the n-th on, so far all of session 1, or the first bad one of them
 abbrev pub steps_from : ℕ → List (List ℕ) → Result (List Step) ScriptRefusal
 steps_from n [] = Ok []
-steps_from n (line ∷ lines) = step_before n (step_of line) (steps_from (n + 1) lines)
+steps_from n (line ∷ lines) = step_before n (statement_of line) (steps_from (n + 1) lines)
 
 -- the session of a step
 abbrev pub session_of : Step → ℕ
@@ -51,34 +81,51 @@ is_named steps session = list_any (λ step. session_of step == session) steps
 unfoldable pub sessions_of : List Step → List ℕ
 sessions_of steps = filter (is_named steps) (numbers 1 64)
 
-abbrev pub script_with : Result (List Step) ScriptRefusal → Result Script ScriptRefusal
-script_with (Ok steps) = Ok (record { schema = schema_t; lines = steps; sessions = sessions_of steps })
-script_with (Err bad) = Err bad
+-- ---- the script
 
-abbrev pub setup_line : List ℕ
-setup_line = codes "setup CREATE TABLE t (k bigint NOT NULL PRIMARY KEY, v int)"
+-- the first line sets up the table, and each other line is a step
+pub record IsScript (bytes : List ℕ) (script : Script) : Type 0 where
+  pub first : List ℕ
+  pub others : List (List ℕ)
+  pub text : List ℕ
+  pub cut : lines bytes ≡ first ∷ others
+  pub setup : setup_of first ≡ Ok text
+  pub table : IsTable text script.schema
+  pub steps : steps_from 2 others ≡ Ok script.lines
+  pub sessions : script.sessions ≡ sessions_of script.lines
 
--- why the first line is no setup line: reason 1 where it begins as one, and else reason 2
-abbrev pub setup_reason : Option (List ℕ) → ℕ
-setup_reason None = 2
-setup_reason (Some text) = 1
+-- the first bad line of these bytes, its reason, and the error number of a refused setup statement, else 0
+pub data IsBadLine (bytes : List ℕ) : ℕ → ℕ → ℕ → Type 0 where
+  no_line : lines bytes ≡ [] → IsBadLine bytes 1 2 0
+  no_setup : {first : List ℕ} {others : List (List ℕ)} {reason : ℕ} → lines bytes ≡ first ∷ others → setup_of first ≡ Err reason → IsBadLine bytes 1 reason 0
+  refused_setup : {first text : List ℕ} {others : List (List ℕ)} {number at : ℕ} → lines bytes ≡ first ∷ others → setup_of first ≡ Ok text → IsNoTable text number at → IsBadLine bytes 1 8 number
+  bad_step : {first text : List ℕ} {others : List (List ℕ)} {schema : Schema} {n reason number : ℕ} → lines bytes ≡ first ∷ others → setup_of first ≡ Ok text → IsTable text schema
+      → steps_from 2 others ≡ Err (Bad n reason number) → IsBadLine bytes n reason number
 
--- the first line is the setup line, and each other line is a step
-abbrev pub script_by : List (List ℕ) → Result Script ScriptRefusal
-script_by [] = Err (Bad 1 2 0)
-script_by (line ∷ lines) =
-    if bytes_eq line setup_line then script_with (steps_from 2 lines) else Err (Bad 1 (setup_reason (behind (codes "setup ") line)) 0)
+-- a refusal is the first bad line, and want of memory may come anywhere
+abbrev pub RefusesScript : List ℕ → ScriptRefusal → Type 0
+RefusesScript bytes (Bad line reason number) = IsBadLine bytes line reason number
+RefusesScript bytes Memory = Unit {0}
 
--- the script of these bytes, or its first bad line with the reason
-abbrev pub script_of : List ℕ → Result Script ScriptRefusal
-script_of bytes = script_by (lines bytes)
+-- what a script that was read can be run by: a schema that may be, texts that can be read, and the sessions of its steps
+pub record IsRunnable (script : Script) : Type 0 where
+  pub schema : IsSchema script.schema
+  pub short : All (λ step. length (text_of step) ≤ 65536) script.lines
+  pub sessions : script.sessions ≡ sessions_of script.lines
+  pub first : All (λ step. session_of step ≡ 1) script.lines
 
--- a refusal stands where the definition gives it, and want of memory anywhere
-abbrev pub Refuses : {X : Type 0} → ScriptRefusal → Result X ScriptRefusal → Type 0
-Refuses (Bad line reason number) r = r ≡ Err (Bad line reason number)
-Refuses Memory r = Unit {0}
+-- ---- how it is found
 
--- what a reader answered is what the definition gives, or want of memory
-abbrev pub Gives : {X : Type 0} → Result X ScriptRefusal → Result X ScriptRefusal → Type 0
-Gives (Ok x) r = r ≡ Ok x
-Gives (Err refusal) r = Refuses refusal r
+-- the error of a setup statement that is refused
+abbrev pub RefusesSetup : List ℕ → ScriptRefusal → Type 0
+RefusesSetup text (Bad line reason number) = (line ≡ 1) × (reason ≡ 8) × ((at : ℕ) × IsNoTable text number at)
+RefusesSetup text Memory = Unit {0}
+
+abbrev pub RefusesSteps : ScriptRefusal → Result (List Step) ScriptRefusal → Type 0
+RefusesSteps (Bad line reason number) r = r ≡ Err (Bad line reason number)
+RefusesSteps Memory r = Unit {0}
+
+-- the steps of the definition, or its bad line, or want of memory
+abbrev pub GivesSteps : Result (List Step) ScriptRefusal → Result (List Step) ScriptRefusal → Type 0
+GivesSteps (Ok x) r = r ≡ Ok x
+GivesSteps (Err refusal) r = RefusesSteps refusal r

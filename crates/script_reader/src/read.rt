@@ -1,19 +1,24 @@
-// Reads a script.
-ghost use Rattle.std.specs.Prelude.{◌≡◌, IfOk, All, codes, Ok};
-ghost use Rattle.script_reader.specs.Lines.{lines};
-ghost use Rattle.tsql_binder.specs.Meaning.{schema_t};
-ghost use Rattle.script_reader.specs.Scripts.{step_of, steps_from, session_of, sessions_of, setup_reason, script_of, Gives};
-ghost use Rattle.tsql_binder.specs.Meaning.{behind};
+//! Reads a script.
 
+ghost use Rattle.std.specs.Prelude.{◌≡◌, ◌≤◌, length, All, IfOk, IfErr, MatchResult};
+ghost use Rattle.cs_types.specs.declared.Schema.{Schema};
+ghost use Rattle.cs_types.specs.Schemas.{IsSchema};
+ghost use Rattle.tsql_table.specs.Tables.{IsTable};
+ghost use Rattle.script_reader.specs.declared.script.Script.{Script};
+ghost use Rattle.script_reader.specs.Lines.{lines};
+ghost use Rattle.script_reader.specs.Scripts.{steps_from, RefusesSetup, session_of, sessions_of, IsScript, RefusesScript, IsRunnable, GivesSteps};
+
+use crate::line::{NO_SETUP, setup_of, statement_of};
 use crate::lines::next_line;
 use crate::script::{Script, ScriptRefusal, Step};
 use cs_base::{Items, Memory};
-use cs_types::{Bytes, Column, ColumnType, Schema};
+use cs_types::{Bytes, Schema};
 use std::alloc::Global;
-use tsql_binder::behind;
+use tsql_reader::ReadRefusal;
+use tsql_table::read_table;
 
-/// The one setup line that is understood so far.
-const SETUP: &[u8; 59] = b"setup CREATE TABLE t (k bigint NOT NULL PRIMARY KEY, v int)";
+/// The reason of a setup statement that is refused.
+const REFUSED_SETUP: u32 = 8;
 
 fn bytes_of(alloc: Global, text: &[u8]) -> Result<Bytes, Memory>
     ensures { IfOk result (λ bytes. bytes ≡ text.now) }
@@ -21,63 +26,19 @@ fn bytes_of(alloc: Global, text: &[u8]) -> Result<Bytes, Memory>
     Ok(Items::from_vec(text.to_vec(alloc)?))
 }
 
-fn column(alloc: Global, name: &[u8], kind: ColumnType, nullable: bool) -> Result<Column, Memory>
-    ensures { IfOk result (λ column. column ≡ record { name = name.now; kind = kind; nullable = nullable }) }
-{
-    let name = bytes_of(alloc, name)?;
-    Ok(Column {
-        name,
-        kind,
-        nullable,
-    })
-}
-
-/// The schema of the table t.
-fn schema(alloc: Global) -> Result<Schema, Memory>
-    ensures { IfOk result (λ schema. schema ≡ schema_t) }
-{
-    let name = bytes_of(alloc, b"t")?;
-    let key = column(alloc, b"k", ColumnType::BigInt, false)?;
-    let value = column(alloc, b"v", ColumnType::Int, true)?;
-    let mut columns = Items::new(alloc);
-    columns.push(key)?;
-    columns.push(value)?;
-    Ok(Schema {
-        name,
-        columns,
-        key: 0,
-    })
-}
-
-/// The step that a line asks for; None where it has no form.
-fn step_of(alloc: Global, line: &[u8]) -> Result<Option<Step>, Memory>
-    ensures { IfOk result (λ step. step ≡ step_of line.now) }
-{
-    match behind(b"s1 ", line) {
-        Some(text) if !text.is_empty() => {
-            let text = bytes_of(alloc, text)?;
-            Ok(Some(Step::Whole { session: 1, text }))
-        }
-        _ => Ok(None),
-    }
-}
-
 /// The steps of the lines from the second on.
 fn steps(alloc: Global, bytes: &[u8]) -> Result<Items<Step>, ScriptRefusal>
-    ensures { Gives result (steps_from 2 (lines bytes.now)) }
+    ensures { GivesSteps result (steps_from 2 (lines bytes.now)) }
 {
     let mut steps = Items::new(alloc);
     let mut rest = bytes;
     let mut line = 2u64;
     while let Some((this, next)) = next_line(rest) {
-        let Some(step) = step_of(alloc, this)? else {
-            return Err(ScriptRefusal::Bad {
-                line,
-                reason: 1,
-                number: 0,
-            });
+        let text = match statement_of(this) {
+            Ok(text) => bytes_of(alloc, text)?,
+            Err(reason) => return Err(bad(line, reason)),
         };
-        steps.push(step)?;
+        steps.push(Step::Whole { session: 1, text })?;
         rest = next;
         line += 1;
     }
@@ -97,38 +58,62 @@ fn sessions(alloc: Global, steps: &[Step]) -> Result<Items<u32>, Memory>
     Ok(sessions)
 }
 
-/// Why a line is no setup line.
-fn setup_reason(line: &[u8]) -> u32
-    ensures { result ≡ setup_reason (behind (codes "setup ") line.now) }
+/// A line that is bad for a reason but a refused setup statement.
+fn bad(line: u64, reason: u32) -> ScriptRefusal
+    ensures { result ≡ ScriptRefusal.Bad line reason 0 }
 {
-    match behind(b"setup ", line) {
-        Some(_) => 1,
-        None => 2,
+    ScriptRefusal::Bad {
+        line,
+        reason,
+        number: 0,
     }
 }
 
-/// The script that these bytes are. Errors: `Bad` with the first bad line and its reason, 1 for a line of no form and 2
-/// where the first line is no setup line or there is none; `Memory`.
-pub fn read_script(alloc: Global, bytes: &[u8]) -> Result<Script, ScriptRefusal>
-    ensures { Gives result (script_of bytes.now) }
+/// The schema of a setup statement.
+fn schema_of(alloc: Global, text: &[u8]) -> Result<Schema, ScriptRefusal>
+    requires { length text.now ≤ 65_536 }
+    ensures found { IfOk result (λ schema. IsTable text.now schema) }
+    ensures only { (other : Schema) → IsTable text.now other → MatchResult result (λ schema. schema ≡ other) (λ e. e ≡ ScriptRefusal.Memory) }
+    ensures refused { IfErr result (λ e. RefusesSetup text.now e) }
+    ensures schema { IfOk result (λ schema. IsSchema schema) }
 {
-    let Some((line, rest)) = next_line(bytes) else {
-        return Err(ScriptRefusal::Bad {
+    match read_table(alloc, text) {
+        Ok(schema) => Ok(schema),
+        Err(ReadRefusal::At { number, .. }) => Err(ScriptRefusal::Bad {
             line: 1,
-            reason: 2,
-            number: 0,
-        });
-    };
-    if line != SETUP.as_slice() {
-        return Err(ScriptRefusal::Bad {
-            line: 1,
-            reason: setup_reason(line),
-            number: 0,
-        });
+            reason: REFUSED_SETUP,
+            number,
+        }),
+        Err(ReadRefusal::Memory) => Err(ScriptRefusal::Memory),
     }
+}
+
+/// The script that these bytes are: the table of the setup statement in the first line, and a step for each line behind it.
+///
+/// Else the first bad line and its reason: 5 for a line of over 65,536 bytes, 6 for one with a byte other than tab and 32 to
+/// 126, 2 for a first line that is no setup line, or where there is no line, 1 for another line of no form, and 8 for a setup
+/// statement that is refused, with its error number. On one line they are judged in this order. `Memory` where there is no
+/// room for the script.
+pub fn read_script(alloc: Global, bytes: &[u8]) -> Result<Script, ScriptRefusal>
+    // What is given is the script of the bytes.
+    ensures found { IfOk result (λ script. IsScript bytes.now script) }
+    // Bytes that are a script give it, and no other.
+    ensures only { (other : Script) → IsScript bytes.now other → MatchResult result (λ script. script ≡ other) (λ e. e ≡ ScriptRefusal.Memory) }
+    // What is refused is refused at the first bad line, for its reason.
+    ensures refused { IfErr result (λ e. RefusesScript bytes.now e) }
+    // The script can be run.
+    ensures runs { IfOk result (λ script. IsRunnable script) }
+{
+    let Some((first, rest)) = next_line(bytes) else {
+        return Err(bad(1, NO_SETUP));
+    };
+    let text = match setup_of(first) {
+        Ok(text) => text,
+        Err(reason) => return Err(bad(1, reason)),
+    };
+    let schema = schema_of(alloc, text)?;
     let lines = steps(alloc, rest)?;
     let sessions = sessions(alloc, lines.as_slice())?;
-    let schema = schema(alloc)?;
     Ok(Script {
         schema,
         lines,

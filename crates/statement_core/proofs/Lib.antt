@@ -1,4 +1,5 @@
 pub mod Cells
+pub mod Held
 pub mod Taken
 pub mod Commits
 pub mod Turns

@@ -1,12 +1,11 @@
 -- A run of a script's lines, one line more, and its end.
-use Rattle.std.proofs.Common.{◌≡◌, ℕ, suc, ◌+◌, ◌<◌, List, [], ◌∷◌, ◌++◌, length, map, take, get_or, refl, sym, ap, subst, ◌∙◌, cond, Bool, true, false, inl, arith, All, Contains, append_assoc, lit<}
-use Rattle.std.specs.Prelude.{◌==◌, Result, Ok, Err, bytes_eq, codes}
+use Rattle.std.proofs.Common.{◌≡◌, ℕ, suc, ◌+◌, ◌<◌, List, [], ◌∷◌, ◌++◌, length, map, take, get_or, refl, sym, ap, subst, ◌∙◌, cond, Bool, true, false, inl, inr, arith, All, Contains, append_assoc, lit<}
+use Rattle.std.specs.Prelude.{◌==◌, Option, None, Some, Err}
 use Rattle.std.proofs.lemmas.Bool.Decides.{nat_tests}
 use Rattle.std.proofs.lemmas.List.{append-nil, take_more}
 use Rattle.std.proofs.lemmas.List.Elements.{filter-append, All-append, All-cons, All-nil}
 use Rattle.cs_types.specs.declared.Schema.{Schema}
-use Rattle.cs_types.specs.declared.Value.{Value}
-use Rattle.cs_types.specs.Rows.{cell_at, IsNumber}
+use Rattle.statement_work.specs.Held.{IsHeld}
 use Rattle.cs_model.specs.declared.entry.Bound.{Bound}
 use Rattle.cs_model.specs.declared.entry.Bound.TheVariants as bound
 use Rattle.cs_model.specs.declared.entry.Reply.{Reply}
@@ -16,16 +15,18 @@ use Rattle.cs_model.specs.Changes.{Table, Change}
 use Rattle.cs_model.specs.State.{start}
 use Rattle.cs_model.specs.Steps.{Leads}
 use Rattle.cs_model.specs.Text.{actor_of, IsPrintableEntry}
-use Rattle.tsql_binder.specs.Meaning.{schema_t, IsRow, IsRows, Means, behind}
+use Rattle.tsql_trees.specs.declared.statement.Statement.{Statement}
+use Rattle.tsql_trees.specs.declared.statement.Statement.TheVariants as statements
+use Rattle.tsql_faults.specs.declared.fault.Fault.{Fault}
+use Rattle.tsql_faults.specs.Faults.{first_fault}
+use Rattle.tsql_binder.specs.Postponed.{is_postponed}
+use Rattle.tsql_binder.specs.Meaning.{later, refused, plan_of, unless, bound_or, Means}
 use Rattle.script_reader.specs.declared.script.Script.{Script}
 use Rattle.script_reader.specs.declared.script.Step.{Step}
 use Rattle.script_reader.specs.declared.script.Step.TheVariants.{Whole}
-use Rattle.script_reader.specs.declared.script.ScriptRefusal.{ScriptRefusal}
-use Rattle.script_reader.specs.declared.script.ScriptRefusal.TheVariants.{Bad}
-use Rattle.script_reader.specs.Lines.{lines}
-use Rattle.script_reader.specs.Scripts.{session_of, text_of, sessions_of, steps_from, script_with, script_by, script_of, setup_line, setup_reason}
+use Rattle.script_reader.specs.Scripts.{session_of, text_of, IsRunnable}
 use Rattle.script_reader.specs.Schedule.{IsPiece, ArePieces, AreTurns, Turns, entries_of, lines_of}
-use Rattle.script_reader.proofs.Steps.{steps_first, sessions_some, sessions_none}
+use Rattle.script_reader.proofs.Steps.{sessions_some, sessions_none}
 use Rattle.statement_core.specs.Answers.{IsReady}
 use Rattle.statement_core.specs.Logs.{IsLogOf}
 use Rattle.statement_core.specs.Running.{resting, Ran, Running}
@@ -33,18 +34,30 @@ use Rattle.statement_core.proofs.Turns.{leads_append, end_leads, turned}
 
 -- ---- what is bound can be run
 
-row_ready : (text : List ℕ) (row : List Value) → IsRow text row → IsNumber (cell_at row 0)
-row_ready text row h = subst (λ r. IsNumber (cell_at r 0)) (sym h.7) tt
+refused_ready : (schema : Schema) (f : Fault) → IsReady schema (refused f)
+refused_ready schema f = tt
 
-rows_ready : (text : List ℕ) (rows : List (List Value)) → IsRows text rows → All (λ row. IsNumber (cell_at row 0)) rows
-rows_ready text [] h = absurd h
-rows_ready text (row ∷ []) h = All-cons (λ r. IsNumber (cell_at r 0)) row [] (row_ready text row h) (All-nil (λ r. IsNumber (cell_at r 0)))
-rows_ready text (row ∷ next ∷ rows) h = All-cons (λ r. IsNumber (cell_at r 0)) row (next ∷ rows) (row_ready h.0 row h.3) (rows_ready h.1 (next ∷ rows) h.4)
+planned_ready : (schema : Schema) (statement : Statement) → IsReady schema (plan_of schema statement)
+planned_ready schema statements.Begin = tt
+planned_ready schema statements.Commit = tt
+planned_ready schema statements.Rollback = tt
+planned_ready schema statements.SetSnapshot = tt
+planned_ready schema (statements.SetStatistics on) = tt
+planned_ready schema (statements.SetLockTimeout number) = tt
+planned_ready schema (statements.AlterIndex index table compress) = tt
+planned_ready schema (statements.Insert table names source) = tt
+planned_ready schema (statements.Update table sets filter) = tt
+planned_ready schema (statements.Delete table filter) = tt
+planned_ready schema (statements.Select items table filter groups order) = tt
 
-pub ready : (schema : Schema) (text : List ℕ) (b : Bound) → schema ≡ schema_t → Means schema text b → IsReady schema b
-ready schema text (bound.Insert rows) table h = subst (λ s. All (λ row. IsNumber (cell_at row s.key)) rows) (sym table) (rows_ready h.0 rows h.2)
-ready schema text bound.Select table h = tt
-ready schema text (bound.Refused refusal) table h = subst (λ r. IsReady schema (bound.Refused r)) (sym h.0) tt
+bound_ready : (schema : Schema) (statement : Statement) (is_later : Bool) (found : Option Fault) → IsReady schema (bound_or (cond is_later (Err later) (unless found (plan_of schema statement))))
+bound_ready schema statement true found = tt
+bound_ready schema statement false None = planned_ready schema statement
+bound_ready schema statement false (Some f) = tt
+
+pub ready : (schema : Schema) (text : List ℕ) (b : Bound) → Means schema text b → IsReady schema b
+ready schema text b (inl h) = subst (IsReady schema) (sym h.2) (bound_ready schema h.0 (is_postponed h.0) (first_fault schema h.0))
+ready schema text b (inr h) = subst (IsReady schema) (sym h.3) tt
 
 -- ---- one line more
 
@@ -69,6 +82,7 @@ running_none schema rows log e f = record {
   legal = subst (λ es. Leads schema start es (resting [] 0 1)) (sym f) refl;
   numbered = All-nil _;
   stands = e;
+  held = rw e (All-nil (IsHeld schema));
   pieces = f;
   printable = rw f (All-nil (IsPrintableEntry schema));
 }
@@ -86,6 +100,7 @@ running_more schema rows after log new lines session text run ran =
           (leads_append schema start (resting run.changes run.clock run.next) (resting next.then next.later next.drawn) log turn run.legal next.leads);
       numbered = next.numbered;
       stands = next.stands;
+      held = ran.held;
       pieces = subst (λ es. ArePieces schema [] (lines ++ Whole session text ∷ []) es) (sym ran.entries)
           (pieces_push schema [] lines log (Whole session text) turn run.pieces (ran.bound, false, [], ran.reply, refl, inl ran.means, refl));
       printable = rw ran.entries (All-append (IsPrintableEntry schema) log turn run.printable
@@ -135,28 +150,6 @@ turns_of schema session (Whole s text ∷ lines) before events ends e last =
 
 -- ---- the end, where all lines are of session 1
 
-pub record IsFirst (script : Script) : Type 0 where
-  pub schema : script.schema ≡ schema_t
-  pub sessions : script.sessions ≡ sessions_of script.lines
-  pub first : All (λ line. session_of line ≡ 1) script.lines
-
-with_first : (r : Result (List Step) ScriptRefusal) (script : Script) → ((steps : List Step) → r ≡ Ok steps → All (λ line. session_of line ≡ 1) steps) → script_with r ≡ Ok script → IsFirst script
-with_first (Ok steps) script all e =
-    let same : record { schema = schema_t; lines = steps; sessions = sessions_of steps } ≡ script = cc in
-    subst IsFirst same (record { schema = refl; sessions = refl; first = all steps refl })
-with_first (Err bad) script all e = absurd (cc)
-
-by_first : (ls : List (List ℕ)) (script : Script) → script_by ls ≡ Ok script → IsFirst script
-by_first [] script e = absurd (cc)
-by_first (line ∷ ls) script e = at (bytes_eq line setup_line) e
-  where
-    at : (t : Bool) → cond t (script_with (steps_from 2 ls)) (Err (Bad 1 (setup_reason (behind (codes "setup ") line)) 0)) ≡ Ok script → IsFirst script
-    at true e = with_first (steps_from 2 ls) script (λ steps. steps_first 2 ls steps) e
-    at false e = absurd (cc)
-
-pub read_first : (bytes : List ℕ) (script : Script) → script_of bytes ≡ Ok script → IsFirst script
-read_first bytes script e = by_first (lines bytes) script e
-
 -- another session has no entry in the pieces of session 1
 none_of : (schema : Schema) (session : ℕ) (lines : List Step) (before events : List Entry) → All (λ line. session_of line ≡ 1) lines → (1 == session) ≡ false → ArePieces schema before lines events → entries_of session events ≡ []
 none_of schema session [] before events all apart e = ap (entries_of session) e
@@ -176,7 +169,7 @@ ends_lead schema changes clock next (s ∷ sessions) =
 ends_of : (session : ℕ) (sessions : List ℕ) → (sessions ≡ []) → entries_of session (map End sessions) ≡ []
 ends_of session sessions e = ap (λ ss. entries_of session (map End ss)) e
 
-module _ (script : Script) (log new : List Entry) (is : IsFirst script) (pieces : ArePieces script.schema [] script.lines log) (e : new ≡ log ++ map End script.sessions) where
+module _ (script : Script) (log new : List Entry) (is : IsRunnable script) (pieces : ArePieces script.schema [] script.lines log) (e : new ≡ log ++ map End script.sessions) where
   split_end : (session : ℕ) → entries_of session new ≡ entries_of session log ++ entries_of session (map End script.sessions)
   split_end session = ap (entries_of session) e ∙ filter-append (λ entry. actor_of entry == session) log (map End script.sessions)
 

@@ -12,13 +12,13 @@ use Rattle.cs_types.specs.declared.Key.{Key}
 use Rattle.cs_types.specs.declared.Schema.{Schema}
 use Rattle.cs_types.specs.declared.Value.{Value}
 use Rattle.cs_types.specs.Rows.{key_in}
-use Rattle.cs_model.specs.declared.entry.Bound.TheVariants as bound
 use Rattle.cs_model.specs.declared.entry.Refusal.TheVariants.{Duplicate}
 use Rattle.cs_model.specs.Changes.{Table}
 use Rattle.cs_model.specs.State.{State}
 use Rattle.cs_model.specs.Keys.{key_cmp, same_key}
-use Rattle.cs_model.specs.Answers.{writes}
-use Rattle.cs_model.specs.Obstacles.{has_row, is_present, keys_of, IsObstacle, IsJudged}
+use Rattle.cs_model.specs.Answers.{edits_of}
+use Rattle.cs_model.specs.Obstacles.{has_row, keys_of, IsObstacle, IsJudged}
+use Rattle.statement_core.specs.Answers.{is_taken}
 use Rattle.statement_core.specs.Least.{IsLeast, HasLeast, lesser_of}
 
 -- the numbers of keys are ordered
@@ -98,22 +98,22 @@ module _ (present : Key → Bool) where
 -- ---- the judgement of an INSERT
 
 -- the keys that an INSERT writes are those of its rows
-pub keys_are : (schema : Schema) (rows : List (List Value)) → keys_of (writes schema (bound.Insert rows)) ≡ map (key_in schema.key) rows
+pub keys_are : (schema : Schema) (rows : List (List Value)) → keys_of (edits_of schema rows) ≡ map (key_in schema.key) rows
 keys_are schema [] = refl
 keys_are schema (row ∷ rows) = ap (λ keys. key_in schema.key row ∷ keys) (keys_are schema rows)
 
-pub count_is : (schema : Schema) (rows : List (List Value)) → length (writes schema (bound.Insert rows)) ≡ length rows
+pub count_is : (schema : Schema) (rows : List (List Value)) → length (edits_of schema rows) ≡ length rows
 count_is schema [] = refl
 count_is schema (row ∷ rows) = ap suc (count_is schema rows)
 
 pub judged : (schema : Schema) (rows : List (List Value)) (table : Table) (keys : List Key) (count : Key → ℕ) (least : Option Key) → keys ≡ map (key_in schema.key) rows
     → ((key : Key) → count key ≡ count_by (same_key key) keys) → HasLeast (λ key. has_row table key || nat_lt 1 (count key)) keys least
-    → HasLeast (is_present schema (bound.Insert rows) table) (keys_of (writes schema (bound.Insert rows))) least
+    → HasLeast (is_taken table (edits_of schema rows)) (keys_of (edits_of schema rows)) least
 judged schema rows table keys count least is counts h =
-    let listed : keys ≡ keys_of (writes schema (bound.Insert rows)) = is ∙ sym (keys_are schema rows) in
-    let same : (λ (key : Key). has_row table key || nat_lt 1 (count key)) ≡ is_present schema (bound.Insert rows) table =
+    let listed : keys ≡ keys_of (edits_of schema rows) = is ∙ sym (keys_are schema rows) in
+    let same : (λ (key : Key). has_row table key || nat_lt 1 (count key)) ≡ is_taken table (edits_of schema rows) =
     λ i key. has_row table key || nat_lt 1 ((counts key ∙ ap (count_by (same_key key)) listed) i) in
-    subst (λ present. HasLeast present (keys_of (writes schema (bound.Insert rows))) least) same
+    subst (λ present. HasLeast present (keys_of (edits_of schema rows)) least) same
     (subst (λ ks. HasLeast (λ key. has_row table key || nat_lt 1 (count key)) ks least) listed h)
 
 pub refusal_is : (m : State) (session : ℕ) (present : Key → Bool) (keys : List Key) (key : Key) → HasLeast present keys (Some key) → IsJudged (IsObstacle m session present) keys (Some (Duplicate key))

@@ -1,6 +1,6 @@
 -- A statement's Start and Finish, while no session has a transaction.
 use Rattle.std.proofs.Common.{◌≡◌, ℕ, ◌+◌, List, [], ◌∷◌, ◌++◌, refl, sym, ap, subst, ◌∙◌, cond, Bool, true, false, inr, arith}
-use Rattle.std.specs.Prelude.{◌==◌, Option, None, Some}
+use Rattle.std.specs.Prelude.{◌==◌, Option, None, Some, Result, Ok, Err}
 use Rattle.std.proofs.lemmas.Bool.Decides.{nat_tests}
 use Rattle.cs_types.specs.declared.Schema.{Schema}
 use Rattle.cs_model.specs.declared.entry.Bound.{Bound}
@@ -13,7 +13,7 @@ use Rattle.cs_model.specs.declared.entry.Entry.TheVariants.{Start, Finish, End}
 use Rattle.cs_model.specs.Answers.{is_of_table, answer, writes}
 use Rattle.cs_model.specs.Changes.{Edit, Table, Change, table, laid}
 use Rattle.cs_model.specs.State.{Txn, State, with}
-use Rattle.cs_model.specs.Steps.{IsFinish, pinned, IsAnswer, IsWriteReply, IsReplyIn, Leads, started, finished, accepted_in, refused_in, commits, gone, committed, staged}
+use Rattle.cs_model.specs.Steps.{IsFinish, pinned, IsAnswer, IsWriteReplyOf, IsWriteReply, edits_in, IsReplyIn, Leads, started, finished, accepted_in, refused_in, commits, gone, committed, staged}
 use Rattle.statement_core.specs.Answers.{Answers}
 use Rattle.statement_core.specs.Running.{resting}
 use Rattle.statement_core.proofs.Commits.{IsNumbered, numbered_after, table_after}
@@ -145,19 +145,23 @@ module _ (schema : Schema) (changes : List Change) (clock next s : ℕ) where
         numbered = n;
         stands = a.1 ∙ e;
       })
-  turned rows after bound.Select (reply.Affected count) n e a = absurd a.0
-  turned rows after bound.Select (reply.Refused refusal) n e a = absurd a.0
-  turned rows after bound.Select (reply.Rows list segments) n e a = record {
+  turned rows after (bound.Select query) (reply.Affected count) n e a = absurd a.0
+  turned rows after (bound.Select query) (reply.Refused refusal) n e a = absurd a.0
+  turned rows after (bound.Select query) (reply.Rows list segments) n e a = record {
     then = changes;
     later = clock;
     drawn = next + 1;
-    leads = turn_leads bound.Select (reply.Rows list segments) (Some opened) (resting changes clock (next + 1)) has_opened
-        (subst (λ t. IsAnswer false (answer schema t) (reply.Rows list segments)) e a.0)
-        (ap (λ t. accepted_in (between bound.Select) s t []) has_opened ∙ gone_rests bound.Select changes clock);
+    leads = turn_leads (bound.Select query) (reply.Rows list segments) (Some opened) (resting changes clock (next + 1)) has_opened
+        (subst (λ t. IsAnswer false (answer schema query t) (reply.Rows list segments)) e a.0)
+        (ap (λ t. accepted_in (between (bound.Select query)) s t []) has_opened ∙ gone_rests (bound.Select query) changes clock);
     numbered = n;
     stands = a.1 ∙ e;
   }
-  turned rows after (bound.Insert plan) (reply.Rows list segments) n e a = absurd (a.0 (resting changes clock next) s)
+  turned rows after (bound.Insert plan) (reply.Rows list segments) n e a = absurd (no_rows (writes schema (bound.Insert plan)) (a.0 (resting changes clock next) s))
+    where
+      no_rows : (w : Result (List Edit) Refusal) → IsWriteReplyOf (resting changes clock next) s rows (bound.Insert plan) w (reply.Rows list segments) → ⊥
+      no_rows (Ok edits) h = h
+      no_rows (Err refusal) h = cc
   turned rows after (bound.Insert plan) (reply.Refused refusal) n e a = record {
     then = changes;
     later = clock;
@@ -169,7 +173,7 @@ module _ (schema : Schema) (changes : List Change) (clock next s : ℕ) where
     stands = a.1 ∙ e;
   }
   turned rows after (bound.Insert plan) (reply.Affected count) n e a =
-      let edits = writes schema (bound.Insert plan) in
+      let edits = edits_in (writes schema (bound.Insert plan)) in
       let k = committed_by (bound.Insert plan) (staged [] edits) n in
       record {
         then = k.then;

@@ -1,32 +1,49 @@
 -- What a statement replies over a table, and the table that it leaves.
-use Rattle.std.specs.Prelude.{◌≡◌, ℕ, [], All, false}
+use Rattle.std.specs.Prelude.{◌≡◌, ℕ, List, [], ◌||◌, All, false}
+use Rattle.std.specs.Map.{values_of}
+use Rattle.cs_types.specs.declared.Key.{Key}
 use Rattle.cs_types.specs.declared.Schema.{Schema}
-use Rattle.cs_types.specs.Rows.{cell_at, IsNumber}
+use Rattle.cs_types.specs.declared.Value.{Value}
 use Rattle.cs_model.specs.declared.entry.Bound.{Bound}
 use Rattle.cs_model.specs.declared.entry.Bound.TheVariants as bound
 use Rattle.cs_model.specs.declared.entry.Reply.{Reply}
 use Rattle.cs_model.specs.declared.entry.Reply.TheVariants as reply
-use Rattle.cs_model.specs.Changes.{Table, laid}
-use Rattle.cs_model.specs.Answers.{answer, writes}
+use Rattle.cs_model.specs.Changes.{Edit, Table, laid}
+use Rattle.cs_model.specs.Answers.{answer, edits_of, writes}
+use Rattle.cs_model.specs.Obstacles.{has_row, stands_twice, keys_of, IsObstacle, IsJudged}
 use Rattle.cs_model.specs.State.{State}
 use Rattle.cs_model.specs.Text.{IsPrintableRefusal}
-use Rattle.cs_model.specs.Steps.{IsAnswer, IsWriteReply, staged}
+use Rattle.cs_model.specs.Steps.{IsAnswer, IsWritten, IsWriteReply, edits_in, staged}
+use Rattle.statement_work.specs.Held.{IsHeld}
 
--- what a bound statement that is run meets: each row that it writes has a key, and its refusal can be printed
+-- each row of the table is one that its columns hold
+abbrev pub IsTableHeld : Schema → Table → Type 0
+IsTableHeld schema table = All (IsHeld schema) (values_of table)
+
+-- what a bound statement that is run meets: its refusal can be printed
 abbrev pub IsReady : Schema → Bound → Type 0
-IsReady schema (bound.Insert rows) = All (λ row. IsNumber (cell_at row schema.key)) rows
-IsReady schema bound.Select = Unit {0}
+IsReady schema (bound.Insert plan) = Unit {0}
+IsReady schema (bound.Select query) = Unit {0}
 IsReady schema (bound.Refused refusal) = IsPrintableRefusal schema refusal
 
--- the table after a reply to an INSERT
-abbrev pub left_by : Schema → Table → Bound → Reply → Table
-left_by schema table b (reply.Affected count) = laid table (staged [] (writes schema b))
-left_by schema table b (reply.Rows rows segments) = table
-left_by schema table b (reply.Refused refusal) = table
+-- the table after a reply to a write of these edits
+abbrev pub left_by : Table → List Edit → Reply → Table
+left_by table edits (reply.Affected count) = laid table (staged [] edits)
+left_by table edits (reply.Rows rows segments) = table
+left_by table edits (reply.Refused refusal) = table
+
+-- the key would stand twice after an INSERT of these edits
+abbrev pub is_taken : Table → List Edit → Key → Bool
+is_taken table edits key = has_row table key || stands_twice (keys_of edits) key
+
+-- the reply to an INSERT of these edits over a table, and the table after it
+abbrev pub AnswersEdits : Table → List Edit → Reply → Table → Type 0
+AnswersEdits table edits r after =
+    ((m : State) (session : ℕ) → IsWritten (IsJudged (IsObstacle m session (is_taken table edits)) (keys_of edits)) edits r) × (after ≡ left_by table edits r)
 
 -- the reply over a table where no session but the one that writes has a transaction, and the table after it
 abbrev pub Answers : Schema → Table → Bound → Reply → Table → Type 0
 Answers schema table (bound.Refused refusal) r after = (r ≡ reply.Refused refusal) × (after ≡ table)
-Answers schema table bound.Select r after = IsAnswer false (answer schema table) r × (after ≡ table)
-Answers schema table (bound.Insert rows) r after =
-    ((m : State) (session : ℕ) → IsWriteReply schema m session table (bound.Insert rows) r) × (after ≡ left_by schema table (bound.Insert rows) r)
+Answers schema table (bound.Select query) r after = IsAnswer false (answer schema query table) r × (after ≡ table)
+Answers schema table (bound.Insert plan) r after =
+    ((m : State) (session : ℕ) → IsWriteReply schema m session table (bound.Insert plan) r) × (after ≡ left_by table (edits_in (writes schema (bound.Insert plan))) r)

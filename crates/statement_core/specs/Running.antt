@@ -12,7 +12,7 @@ use Rattle.cs_model.specs.Text.{IsPrintableReply, IsPrintableEntry}
 use Rattle.tsql_binder.specs.Meaning.{Means}
 use Rattle.script_reader.specs.declared.script.Step.{Step}
 use Rattle.script_reader.specs.Schedule.{ArePieces}
-use Rattle.statement_core.specs.Answers.{Answers}
+use Rattle.statement_core.specs.Answers.{Answers, IsTableHeld}
 
 -- no session has a transaction, a half-done statement or a setting
 abbrev pub resting : List Change → ℕ → ℕ → State
@@ -26,6 +26,7 @@ pub record Ran (schema : Schema) (before : Table) (log : List Entry) (session : 
   pub means : Means schema text bound
   pub answers : Answers schema before bound reply after
   pub printable : IsPrintableReply schema reply
+  pub held : IsTableHeld schema after
 
 -- the lines were run: the log is legal and has a piece for each, and the rows are the table of its changes
 pub record Running (schema : Schema) (rows : Table) (log : List Entry) (lines : List Step) : Type 0 where
@@ -35,5 +36,6 @@ pub record Running (schema : Schema) (rows : Table) (log : List Entry) (lines : 
   pub legal : Legal schema log (resting changes clock next)
   pub numbered : All (λ (change : Change). change.commit ≤ clock) changes
   pub stands : rows ≡ table changes clock
+  pub held : IsTableHeld schema rows
   pub pieces : ArePieces schema [] lines log
   pub printable : All (IsPrintableEntry schema) log

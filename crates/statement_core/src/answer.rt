@@ -1,39 +1,31 @@
 // A SELECT over the rows of the table.
 ghost use Rattle.std.specs.Prelude.{◌≡◌, All, IfOk};
-ghost use Rattle.cs_types.specs.Text.{IsPrintable};
-ghost use Rattle.cs_model.specs.Answers.{cells_from, answer};
+ghost use Rattle.cs_model.specs.Answers.{answer};
 ghost use Rattle.cs_model.specs.Text.{IsPrintableRow};
-ghost use Rattle.tsql_binder.specs.Meaning.{schema_t};
+ghost use Rattle.statement_core.specs.Answers.{IsTableHeld};
 
 use crate::rows::Rows;
 use cs_base::{Items, Memory};
 use cs_model::AnswerRow;
-use cs_types::{Row, Schema, loose_of};
+use cs_plans::Query;
+use cs_types::Schema;
+use statement_work::answer_row;
 use std::alloc::Global;
 
-/// All cells of a row.
-fn answer_row(alloc: Global, schema: &Schema, row: &Row) -> Result<AnswerRow, Memory>
-    requires { schema.now ≡ schema_t }
-    ensures cells { IfOk result (λ cells. cells ≡ cells_from 0 schema.now.columns row.now) }
-    ensures printable { IfOk result (λ cells. IsPrintableRow cells) }
-{
-    let mut cells = Items::new(alloc);
-    for (i, column) in schema.columns.as_slice().iter().enumerate() {
-        let cell = loose_of(column.kind, row.cell(i))?;
-        cells.push(cell)?;
-    }
-    Ok(cells)
-}
-
-/// All rows of the table, in the order of their keys.
-pub fn answer(alloc: Global, schema: &Schema, rows: &Rows) -> Result<Items<AnswerRow>, Memory>
-    requires { schema.now ≡ schema_t }
-    ensures rows { IfOk result (λ found. found ≡ answer schema.now rows.now.entries) }
+/// The answer of a SELECT over all rows of the table, in the order of their keys.
+pub fn answer(
+    alloc: Global,
+    schema: &Schema,
+    query: &Query,
+    rows: &Rows,
+) -> Result<Items<AnswerRow>, Memory>
+    requires { IsTableHeld schema.now rows.now.entries }
+    ensures rows { IfOk result (λ found. found ≡ answer schema.now query.now rows.now.entries) }
     ensures printable { IfOk result (λ found. All IsPrintableRow found) }
 {
     let mut found = Items::new(alloc);
     for row in rows.values() {
-        let cells = answer_row(alloc, schema, row)?;
+        let cells = answer_row(alloc, schema, query, row)?;
         found.push(cells)?;
     }
     Ok(found)

@@ -2,20 +2,23 @@
 ghost use Rattle.std.specs.Prelude.{◌≡◌, ◌+◌, ◌<◌, ◌^◌, [], map, count_by, All, IfOk, OnOk, if◌then◌else◌, ◌||◌, nat_lt, Some};
 ghost use Rattle.std.specs.BTreeMap.{insert_entry};
 ghost use Rattle.cs_types.specs.Rows.{cell_at, key_in, IsNumber};
+ghost use Rattle.cs_types.specs.Schemas.{IsSchema};
 ghost use Rattle.cs_model.specs.Keys.{key_cmp, same_key};
-ghost use Rattle.cs_model.specs.Answers.{writes};
+ghost use Rattle.cs_model.specs.Answers.{edits_of};
 ghost use Rattle.cs_model.specs.Obstacles.{has_row};
 ghost use Rattle.cs_model.specs.Steps.{staged};
 ghost use Rattle.cs_model.specs.Text.{IsPrintableReply};
-ghost use Rattle.tsql_binder.specs.Meaning.{schema_t};
 ghost use Rattle.cs_model.specs.declared.entry.Bound.TheVariants as bound;
-ghost use Rattle.statement_core.specs.Answers.{Answers, IsReady};
+ghost use Rattle.statement_work.specs.Held.{IsHeld};
+ghost use Rattle.statement_core.specs.Answers.{Answers, AnswersEdits, IsTableHeld};
 ghost use Rattle.statement_core.specs.Least.{HasLeast, count_in, lesser_of};
 
 use crate::rows::{Own, Rows, lay};
 use cs_base::Memory;
 use cs_model::{Refusal, Reply};
+use cs_plans::InsertPlan;
 use cs_types::{Key, Row, Schema, key_of};
+use statement_work::{WriteRefusal, written_rows};
 use std::alloc::Global;
 use std::collections::BTreeMap;
 
@@ -111,7 +114,7 @@ fn stage_row(own: &mut Own, key: Key, row: Row) -> Result<(), Memory>
 /// The rows as writes by key; the last for a key stands.
 fn stage(alloc: Global, schema: &Schema, plan: &[Row]) -> Result<Own, Memory>
     requires { All (λ row. IsNumber (cell_at row schema.now.key)) plan.now }
-    ensures { IfOk result (λ own. own.entries ≡ staged [] (writes schema.now (bound.Insert plan.now))) }
+    ensures { IfOk result (λ own. own.entries ≡ staged [] (edits_of schema.now plan.now)) }
 {
     let mut own = BTreeMap::new(alloc);
     for row in plan {
@@ -121,24 +124,57 @@ fn stage(alloc: Global, schema: &Schema, plan: &[Row]) -> Result<Own, Memory>
     Ok(own)
 }
 
-/// The reply of an INSERT, whose rows are in the table then. After `Memory` the table may hold some of them.
-pub fn insert_rows(
+/// The reply of an INSERT of rows, which are in the table then. After `Memory` the table may hold some of them.
+fn insert_written(
     alloc: Global,
     schema: &Schema,
     rows: &mut Rows,
-    plan: &[Row],
+    written: &[Row],
 ) -> Result<Reply, Memory>
-    requires table { schema.now ≡ schema_t }
-    requires ready { IsReady schema.now (bound.Insert plan.now) }
-    ensures answers { IfOk result (λ reply. Answers schema.now rows.old.entries (bound.Insert plan.now) reply rows.new.entries) }
+    requires schema { IsSchema schema.now }
+    requires held { All (IsHeld schema.now) written.now }
+    requires table { IsTableHeld schema.now rows.old.entries }
+    ensures answers { IfOk result (λ reply. AnswersEdits rows.old.entries (edits_of schema.now written.now) reply rows.new.entries) }
     ensures printable { IfOk result (λ reply. IsPrintableReply schema.now reply) }
+    ensures held { OnOk result (IsTableHeld schema.now rows.new.entries) }
 {
-    let keys = keys_of(alloc, schema, plan)?;
+    let keys = keys_of(alloc, schema, written)?;
     let counts = count_keys(alloc, keys.as_slice())?;
     if let Some(key) = first_taken(rows, &counts, keys.as_slice()) {
         return Ok(Reply::Refused(Refusal::Duplicate { key }));
     }
-    let own = stage(alloc, schema, plan)?;
+    let own = stage(alloc, schema, written)?;
     lay(rows, own)?;
-    Ok(Reply::Affected(plan.len() as u64))
+    Ok(Reply::Affected(written.len() as u64))
+}
+
+/// The reply of an INSERT, whose rows are in the table then: its first value refusal, or else the least key that would stand
+/// twice, or how many rows were written. After `Memory` the table may hold some of them.
+pub fn insert_rows(
+    alloc: Global,
+    schema: &Schema,
+    rows: &mut Rows,
+    plan: &InsertPlan,
+) -> Result<Reply, Memory>
+    requires schema { IsSchema schema.now }
+    requires table { IsTableHeld schema.now rows.old.entries }
+    ensures answers { IfOk result (λ reply. Answers schema.now rows.old.entries (bound.Insert plan.now) reply rows.new.entries) }
+    ensures printable { IfOk result (λ reply. IsPrintableReply schema.now reply) }
+    ensures held { OnOk result (IsTableHeld schema.now rows.new.entries) }
+{
+    match written_rows(alloc, schema, plan) {
+        Ok(written) => insert_written(alloc, schema, rows, written.as_slice()),
+        Err(
+            WriteRefusal::Value {
+                number,
+                row,
+                column,
+            },
+        ) => Ok(Reply::Refused(Refusal::Valued {
+            number,
+            row,
+            column,
+        })),
+        Err(WriteRefusal::Memory) => Err(Memory),
+    }
 }

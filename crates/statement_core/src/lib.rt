@@ -2,7 +2,8 @@
 //! and the rows are those of a plain list of changes.
 //!
 //! Its one contract: `run_schedule` gives a log that is legal from the empty state, follows the script line by line, and
-//! has each session's statements once and in order, with its End. It stands on `script_reader`.
+//! has each session's statements once and in order, with its End. It stands on `script_reader` and on
+//! `statement_work`.
 #![tactic(auto)]
 
 mod answer;

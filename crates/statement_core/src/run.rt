@@ -1,9 +1,9 @@
 // Runs the steps of a script.
-ghost use Rattle.std.specs.Prelude.{◌≡◌, ◌++◌, List, ℕ, map, All, IfOk, OnOk, Ok};
+ghost use Rattle.std.specs.Prelude.{◌≡◌, ◌++◌, ◌≤◌, length, map, All, IfOk, OnOk};
 ghost use Rattle.cs_model.specs.Text.{IsPrintableReply, IsPrintableEntry};
-ghost use Rattle.tsql_binder.specs.Meaning.{schema_t};
-ghost use Rattle.script_reader.specs.Scripts.{script_of};
-ghost use Rattle.statement_core.specs.Answers.{Answers, IsReady};
+ghost use Rattle.cs_types.specs.Schemas.{IsSchema};
+ghost use Rattle.script_reader.specs.Scripts.{IsRunnable};
+ghost use Rattle.statement_core.specs.Answers.{Answers, IsReady, IsTableHeld};
 ghost use Rattle.statement_core.specs.Logs.{IsLogOf};
 ghost use Rattle.statement_core.specs.Running.{Ran};
 
@@ -20,15 +20,17 @@ use tsql_binder::bind_text;
 
 /// The reply to a statement, with the table that it leaves. After `Memory` the table may hold some of its rows.
 fn reply_to(alloc: Global, schema: &Schema, rows: &mut Rows, bound: &Bound) -> Result<Reply, Memory>
-    requires table { schema.now ≡ schema_t }
+    requires schema { IsSchema schema.now }
+    requires table { IsTableHeld schema.now rows.old.entries }
     requires ready { IsReady schema.now bound.now }
     ensures answers { IfOk result (λ reply. Answers schema.now rows.old.entries bound.now reply rows.new.entries) }
     ensures printable { IfOk result (λ reply. IsPrintableReply schema.now reply) }
+    ensures held { OnOk result (IsTableHeld schema.now rows.new.entries) }
 {
     match bound {
-        Bound::Insert(plan) => insert_rows(alloc, schema, rows, plan.as_slice()),
-        Bound::Select => {
-            let found = answer(alloc, schema, rows)?;
+        Bound::Insert(plan) => insert_rows(alloc, schema, rows, plan),
+        Bound::Select(query) => {
+            let found = answer(alloc, schema, query, rows)?;
             Ok(Reply::Rows {
                 rows: found,
                 segments: None,
@@ -47,7 +49,9 @@ fn run_statement(
     session: u32,
     text: &[u8],
 ) -> Result<(), Memory>
-    requires { schema.now ≡ schema_t }
+    requires schema { IsSchema schema.now }
+    requires table { IsTableHeld schema.now rows.old.entries }
+    requires short { length text.now ≤ 65_536 }
     ensures { OnOk result (Ran schema.now rows.old.entries log.old session text.now rows.new.entries log.new) }
 {
     let bound = bind_text(alloc, schema, text)?;
@@ -71,9 +75,9 @@ fn end_sessions(log: &mut Items<Entry>, sessions: &[u32]) -> Result<(), Memory>
 }
 
 /// The log of a run of the script: the events of its lines, then the Ends of its sessions. `Memory` comes where there is
-/// no room for a row or an event. Condition: the script is one that `read_script` gives.
+/// no room for a row or an event. Condition: the script can be run, as one that `read_script` gives.
 pub fn run_schedule(alloc: Global, script: &Script) -> Result<Items<Entry>, Memory>
-    requires { (bytes : List ℕ) × (script_of bytes ≡ Ok script.now) }
+    requires { IsRunnable script.now }
     ensures log { IfOk result (λ log. IsLogOf script.now log) }
     ensures printable { IfOk result (λ log. All (IsPrintableEntry script.now.schema) log) }
 {

@@ -1,2 +1,2 @@
+pub mod Postponed
 pub mod Meaning
-pub mod Reading

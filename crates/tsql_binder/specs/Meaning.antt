@@ -1,68 +1,66 @@
--- What the text of a statement means: the grammar of the statements that are understood so far, as a relation between a
--- text and what it spells.
-use Rattle.std.specs.Prelude.{◌≡◌, ◌≢◌, ◌⊎◌, ℕ, ℤ, pos, neg_ℤ, ◌<◌, ◌≤◌, List, [], ◌∷◌, ◌++◌, length, drop, codes, nat_eq, if◌then◌else◌, Option, None, Some, true, false, IsTrue}
-use Rattle.std.specs.Char.{is_ascii_digit}
-use Rattle.std.specs.List.{list_all, starts_with}
-use Rattle.cs_types.specs.Calendar.{digits_value}
-use Rattle.cs_types.specs.declared.Value.{Value}
-use Rattle.cs_types.specs.declared.Value.TheVariants.{Null, Number, Text}
+-- What the text of a statement means over a schema: its tree's bound form, or its first refusal.
+use Rattle.std.specs.Prelude.{◌≡◌, ◌⊎◌, ℕ, List, Bool, true, false, Option, None, Some, Result, Ok, Err, if◌then◌else◌}
 use Rattle.cs_types.specs.declared.Schema.{Schema}
-use Rattle.cs_types.specs.declared.ColumnType.TheVariants.{Int, BigInt}
 use Rattle.cs_model.specs.declared.entry.Bound.{Bound}
 use Rattle.cs_model.specs.declared.entry.Bound.TheVariants.{Insert, Select, Refused}
 use Rattle.cs_model.specs.declared.entry.Refusal.TheVariants.{Reading}
+use Rattle.tsql_trees.specs.declared.statement.Statement.{Statement}
+use Rattle.tsql_trees.specs.declared.statement.Statement.TheVariants as statements
+use Rattle.tsql_reader.specs.Statements.{IsStatement, IsNoStatement}
+use Rattle.tsql_faults.specs.declared.fault.Fault.{Fault}
+use Rattle.tsql_faults.specs.Least.{fault}
+use Rattle.tsql_faults.specs.Faults.{first_fault}
+use Rattle.tsql_plans.specs.Plans.{insert_plan, query}
+use Rattle.tsql_binder.specs.declared.refusal.BindRefusal.{BindRefusal}
+use Rattle.tsql_binder.specs.declared.refusal.BindRefusal.TheVariants.{At, Memory}
+use Rattle.tsql_binder.specs.Postponed.{is_postponed}
 
--- the one table that is understood so far
-abbrev pub schema_t : Schema
-schema_t = record {
-  name = codes "t";
-  columns = record { name = codes "k"; kind = BigInt; nullable = false } ∷ record { name = codes "v"; kind = Int; nullable = true } ∷ [];
-  key = 0;
-}
+-- 50001 at the first byte, for a form that comes later
+abbrev pub later : Fault
+later = fault 50001 1
 
--- what stands behind a front, where the bytes begin with it
-abbrev pub behind : List ℕ → List ℕ → Option (List ℕ)
-behind front bytes = if starts_with nat_eq bytes front then Some (drop (length front) bytes) else None
+abbrev pub refused : Fault → Bound
+refused f = Refused (Reading f.number f.at)
 
--- one to nine digits, and their value
-pub record IsDigits (text : List ℕ) (n : ℕ) : Type 0 where
-  pub digits : IsTrue (list_all is_ascii_digit text)
-  pub some : 0 < length text
-  pub few : length text < 10
-  pub value : n ≡ digits_value text
+-- the bound form of a statement that is built and has no fault
+abbrev pub plan_of : Schema → Statement → Bound
+plan_of schema statements.Begin = refused later
+plan_of schema statements.Commit = refused later
+plan_of schema statements.Rollback = refused later
+plan_of schema statements.SetSnapshot = refused later
+plan_of schema (statements.SetStatistics on) = refused later
+plan_of schema (statements.SetLockTimeout number) = refused later
+plan_of schema (statements.AlterIndex index table compress) = refused later
+plan_of schema (statements.Insert table names source) = Insert (insert_plan schema names source)
+plan_of schema (statements.Update table sets filter) = refused later
+plan_of schema (statements.Delete table filter) = refused later
+plan_of schema (statements.Select items table filter groups order) = Select (query schema items filter groups order)
 
--- such digits, with a minus sign before them or without
-abbrev pub IsNumeral : List ℕ → ℤ → Type 0
-IsNumeral text z =
-    ((n : ℕ) × IsDigits text n × (z ≡ pos n))
-    ⊎ ((digits : List ℕ) × (n : ℕ) × (text ≡ codes "-" ++ digits) × IsDigits digits n × (z ≡ neg_ℤ (pos n)))
+abbrev pub unless : Option Fault → Bound → Result Bound Fault
+unless None bound = Ok bound
+unless (Some f) bound = Err f
 
--- a number, or NULL
-abbrev pub IsCell : List ℕ → Value → Type 0
-IsCell text Null = text ≡ codes "NULL"
-IsCell text (Number z) = IsNumeral text z
-IsCell text (Text t) = ⊥
+-- the bound form of a statement, or its first fault; a form that comes later is refused before all
+abbrev pub bound_of : Schema → Statement → Result Bound Fault
+bound_of schema statement = if is_postponed statement then Err later else unless (first_fault schema statement) (plan_of schema statement)
 
--- `(`, a number, a comma and a space, a number or NULL, and `)`
-abbrev pub IsRow : List ℕ → List Value → Type 0
-IsRow text row = (key : List ℕ) × (cell : List ℕ) × (k : ℤ) × (v : Value)
-    × (text ≡ codes "(" ++ key ++ codes ", " ++ cell ++ codes ")") × IsNumeral key k × IsCell cell v × (row ≡ Number k ∷ v ∷ [])
+abbrev pub bound_or : Result Bound Fault → Bound
+bound_or (Ok bound) = bound
+bound_or (Err f) = refused f
 
--- rows joined by a comma and a space, at least one
-abbrev pub IsRows : List ℕ → List (List Value) → Type 0
-IsRows text [] = ⊥
-IsRows text (row ∷ []) = IsRow text row
-IsRows text (row ∷ next ∷ rows) = (first : List ℕ) × (others : List ℕ) × (text ≡ first ++ codes ", " ++ others) × IsRow first row × IsRows others (next ∷ rows)
-
--- an INSERT of at most 1,000 rows
-abbrev pub IsInsert : List ℕ → List (List Value) → Type 0
-IsInsert text rows = (list : List ℕ) × (text ≡ codes "INSERT INTO t VALUES " ++ list) × IsRows list rows × (length rows ≤ 1000)
-
-abbrev pub select_text : List ℕ
-select_text = codes "SELECT * FROM t"
-
--- what the text of a statement over the table t means; a text of neither form is refused by 50001 at its first byte
+-- what a text means: the bound form of its statement, or that statement's refusal, or the refusal of a text that is none
 abbrev pub Means : Schema → List ℕ → Bound → Type 0
-Means schema text (Insert rows) = IsInsert text rows
-Means schema text Select = text ≡ select_text
-Means schema text (Refused refusal) = (refusal ≡ Reading 50001 1) × (text ≢ select_text) × ((rows : List (List Value)) → IsInsert text rows → ⊥)
+Means schema text bound =
+    ((statement : Statement) × IsStatement text statement × (bound ≡ bound_or (bound_of schema statement)))
+    ⊎ ((number : ℕ) × (at : ℕ) × IsNoStatement text number at × (bound ≡ Refused (Reading number at)))
+
+-- ---- what binding answers
+
+abbrev pub RefusesBound : Result Bound Fault → BindRefusal → Type 0
+RefusesBound wanted (At number at) = wanted ≡ Err (fault number at)
+RefusesBound wanted Memory = Unit {0}
+
+-- what the definition has, or want of memory
+abbrev pub GivesBound : Result Bound Fault → Result Bound BindRefusal → Type 0
+GivesBound wanted (Ok bound) = wanted ≡ Ok bound
+GivesBound wanted (Err e) = RefusesBound wanted e

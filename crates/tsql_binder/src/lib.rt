@@ -1,15 +1,13 @@
-//! What the text of a statement means. So far two forms are understood, over the one table t: `SELECT * FROM t`, and
-//! `INSERT INTO t VALUES` with rows of a number and a number or NULL.
+//! What the text of a statement means over a table's schema.
 //!
-//! Its one contract: `bind_text` gives what the text means by the grammar, and refuses every other text by error 50001 at
-//! its first byte. It stands on `cs_model`.
+//! Its one contract: `bind` gives the bound form of a statement, or the first of all its faults, and `bind_text` what a
+//! text means: that of its statement, or where it is refused as none. Forms that come later are refused by 50001 at 1, from
+//! one table. It stands on `tsql_reader`, `tsql_faults` and `tsql_plans`.
 #![tactic(auto)]
 
-mod front;
-mod laws;
-mod number;
+mod postponed;
+mod refusal;
 mod statement;
 
-pub use front::behind;
-pub use laws::one_meaning;
-pub use statement::bind_text;
+pub use refusal::BindRefusal;
+pub use statement::{bind, bind_text};

@@ -2,7 +2,7 @@ use Rattle.std.proofs.Common.{subst, map, string_bytes, refl, [], codes, rules}
 use Rattle.cs_outside.specs.Outside.{Takes}
 use Rattle.columnstore.specs.declared.status.Status.TheVariants as status
 use Rattle.columnstore.specs.Outcome.{usage, too_long, answered}
-use Rattle.columnstore.proofs.Complete.{complete}
+use Rattle.columnstore.proofs.Complete.{came_short, all_came, finished}
 use Rattle.columnstore.proofs.Ending.{ending, none_taken, none_added, stopped}
 use Rattle.columnstore.proofs.top.columnstore.Goals as goal
 
@@ -28,13 +28,21 @@ returns-in-Ok-answer-clause-ends g c =
     let words = map string_bytes c.args.words.now in
     ending words c.in-Ok.bytes.items (g.I.Source.left c.read_all.new.source) c.in-Ok-answer.status c.finish-in-Ok-answer.result c.in-Ok-answer.text (g.I.Source.left c.args.input.now)
     (g.O.Sink.held c.args.output.now) (g.O.Sink.held c.finish-in-Ok-answer.new.output) (g.O.Sink.faults c.args.output.now) (g.O.Sink.faults c.finish-in-Ok-answer.new.output)
-    c.in-Ok.ensures.ok (answered (search rules) c.in-Ok.ensures.within c.in-Ok.ensures.end (rw c.as_slice.ensures.value at c.in-Ok-answer.ensures)) (rw c.as_slice-in-Ok-answer.ensures at c.finish-in-Ok-answer.ensures)
+    c.in-Ok.ensures.ok (answered (search rules) c.in-Ok.ensures.within c.in-Ok.ensures.end (rw c.as_slice.ensures.value at c.in-Ok-answer.ensures.answered)) (rw c.as_slice-in-Ok-answer.ensures at c.finish-in-Ok-answer.ensures)
+
+pub returns-in-Err-TooLong-clause-complete : goal.returns-in-Err-TooLong-clause-complete
+returns-in-Err-TooLong-clause-complete g c = λ bytes script told good small reads.
+    let came = c.in-Err-TooLong.ensures.came in
+    absurd (came_short bytes came.0 (g.I.Source.left c.read_all.new.source) (subst (λ o. Takes o (g.I.Source.left c.read_all.new.source) came.0) told came.1) small (came.2.0 (cc)))
 
 pub returns-in-Ok-answer-clause-complete : goal.returns-in-Ok-answer-clause-complete
 returns-in-Ok-answer-clause-complete g c = λ bytes script told good small reads.
-    let ended = returns-in-Ok-answer-clause-ends g c in
-    complete (map string_bytes c.args.words.now) bytes ended.0 script small reads (g.I.Source.left c.read_all.new.source) ended.1 c.finish-in-Ok-answer.result
-    (subst (λ o. Takes o (g.I.Source.left c.read_all.new.source) ended.0) told ended.2) good ended.4
+    let came = c.in-Ok.bytes.items in
+    let left = g.I.Source.left c.read_all.new.source in
+    let all = all_came bytes came left (subst (λ o. Takes o left came) told c.in-Ok.ensures.ok) c.in-Ok.ensures.end in
+    finished (g.O.Sink.held c.args.output.now) (g.O.Sink.held c.finish-in-Ok-answer.new.output) (g.O.Sink.faults c.args.output.now) (g.O.Sink.faults c.finish-in-Ok-answer.new.output)
+    c.as_slice-in-Ok-answer.result.now c.in-Ok-answer.status c.finish-in-Ok-answer.result c.finish-in-Ok-answer.ensures
+    (?)
 
 pub returns-in-Err-Memory-clause-ends : goal.returns-in-Err-Memory-clause-ends
 returns-in-Err-Memory-clause-ends g c =

@@ -1,6 +1,6 @@
 use Rattle.std.proofs.Common.{◌≡◌, ◌<◌, length, take, get_or}
 use Rattle.std.proofs.lemmas.List.{take_all}
-use Rattle.statement_core.proofs.Schedules.{running_none, line_more, running_end, end_printable, read_first}
+use Rattle.statement_core.proofs.Schedules.{running_none, line_more, running_end, end_printable}
 use Rattle.statement_core.proofs.run.run_schedule.Goals as goal
 
 pub loop-line-init : goal.loop-line-init
@@ -18,7 +18,7 @@ pub returns-clause-log : goal.returns-clause-log
 returns-clause-log c =
     let lines = c.args.script.now.lines in
     let run = rw (take_all c.loop-line.line-index lines (rw c.as_slice-line-items.ensures at c.loop-line-test.false)) at c.loop-line.invariant in
-    running_end c.args.script.now c.loop-line.rows.entries c.loop-line.log c.end_sessions.new.log (read_first c.requires.0 c.args.script.now c.requires.1) run
+    running_end c.args.script.now c.loop-line.rows.entries c.loop-line.log c.end_sessions.new.log c.requires run
     (rw c.as_slice.ensures at c.in_ok-end_sessions.ensures)
 
 pub returns-clause-printable : goal.returns-clause-printable

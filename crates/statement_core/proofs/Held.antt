@@ -1,0 +1,89 @@
+-- Rows that columns hold: their keys, and the tables that they make.
+use Rattle.std.proofs.Common.{◌≡◌, ℕ, zero, suc, ◌<◌, List, [], ◌∷◌, length, map, refl, sym, ap, subst, ◌∙◌, arith, Bool, true, false, IsTrue, All, Contains}
+use Rattle.std.specs.Prelude.{Option, None, Some, slice_get}
+use Rattle.std.specs.Map.{values_of, remove_entry}
+use Rattle.std.specs.BTreeMap.{insert_entry, is_at}
+use Rattle.std.proofs.lemmas.List.Elements.{All-nil, All-cons}
+use Rattle.std.proofs.lemmas.Map.Views.{All-values-insert_entry, All-map-remove_entry}
+use Rattle.cs_types.specs.declared.Column.{Column}
+use Rattle.cs_types.specs.declared.ColumnType.{ColumnType}
+use Rattle.cs_types.specs.declared.ColumnType.TheVariants.{TinyInt, SmallInt, Int, BigInt, Decimal, Date, VarChar}
+use Rattle.cs_types.specs.declared.Key.{Key}
+use Rattle.cs_types.specs.declared.Schema.{Schema}
+use Rattle.cs_types.specs.declared.Value.{Value}
+use Rattle.cs_types.specs.declared.Value.TheVariants.{Null, Number, Text}
+use Rattle.cs_types.specs.Kinds.{keeps, is_short}
+use Rattle.cs_types.specs.Rows.{cell_at, number_in, key_in, IsNumber}
+use Rattle.cs_types.specs.Schemas.{IsSchema, is_key_kind}
+use Rattle.cs_model.specs.Answers.{edits_of}
+use Rattle.cs_model.specs.Changes.{Edit, Table, edited, laid}
+use Rattle.cs_model.specs.Keys.{key_cmp}
+use Rattle.cs_model.specs.Steps.{staged}
+use Rattle.cs_model.specs.Text.{kind_or, key_kind}
+use Rattle.statement_work.specs.Held.{holds, IsHeld}
+use Rattle.statement_core.specs.Answers.{IsTableHeld}
+
+-- ---- keys
+
+no_text_key : (kind : ColumnType) (t : List ℕ) → IsTrue (is_key_kind kind) → IsTrue (is_short kind t) → ⊥
+no_text_key TinyInt t k h = absurd (cc)
+no_text_key SmallInt t k h = absurd (cc)
+no_text_key Int t k h = absurd (cc)
+no_text_key BigInt t k h = absurd (cc)
+no_text_key (Decimal p s) t k h = absurd (cc)
+no_text_key Date t k h = absurd (cc)
+no_text_key (VarChar n) t k h = absurd (cc)
+
+-- a value that the key's column holds is a number in its type's range
+key_value : (column : Column) (v : Value) → IsTrue (is_key_kind column.kind) → column.nullable ≡ false → IsTrue (holds column v)
+    → IsNumber v × IsTrue (keeps column.kind (Number (number_in v)))
+key_value column Null k never h = absurd (cc)
+key_value column (Number z) k never h = (tt, h)
+key_value column (Text t) k never h = absurd (no_text_key column.kind t k h)
+
+-- the column at a place that is there
+column_at : (columns : List Column) (i : ℕ) → i < length columns → (column : Column) × (slice_get columns i ≡ Some column)
+column_at [] i within = absurd (omega arith)
+column_at (column ∷ columns) zero within = (column, refl)
+column_at (column ∷ columns) (suc i) within = column_at columns i (omega arith)
+
+pub held_key : (schema : Schema) (row : List Value) → IsSchema schema → IsHeld schema row
+    → IsNumber (cell_at row schema.key) × IsTrue (keeps (key_kind schema) (Number (key_in schema.key row).0))
+held_key schema row is held =
+    let c = column_at schema.columns schema.key is.key_there in
+    let both = key_value c.0 (cell_at row schema.key) (is.key_kind c.0 c.1) (is.key_never_null c.0 c.1) (held schema.key c.0 c.1) in
+    (both.0, subst (λ o. IsTrue (keeps (kind_or o) (Number (key_in schema.key row).0))) (sym c.1) both.1)
+
+pub keys_numbers : (schema : Schema) (rows : List (List Value)) → IsSchema schema → All (IsHeld schema) rows → All (λ row. IsNumber (cell_at row schema.key)) rows
+keys_numbers schema rows is held = λ k d lt. (held_key schema _ is (held k d lt)).0
+
+pub keys_printable : (schema : Schema) (rows : List (List Value)) → IsSchema schema → All (IsHeld schema) rows → All (λ (key : Key). IsTrue (keeps (key_kind schema) (Number key.0))) (map (key_in schema.key) rows)
+keys_printable schema [] is held = All-nil (λ (key : Key). IsTrue (keeps (key_kind schema) (Number key.0)))
+keys_printable schema (row ∷ rows) is held =
+    All-cons (λ (key : Key). IsTrue (keeps (key_kind schema) (Number key.0))) (key_in schema.key row) (map (key_in schema.key) rows)
+    (held_key schema row is (held 0 row (omega arith))).1 (keys_printable schema rows is (λ k d lt. held (suc k) d (omega arith)))
+
+-- ---- tables
+
+abbrev MayHold : Schema → Option (List Value) → Type 0
+MayHold schema None = Unit {0}
+MayHold schema (Some row) = IsHeld schema row
+
+edited_held : (schema : Schema) (table : Table) (key : Key) (row : Option (List Value)) → IsTableHeld schema table → MayHold schema row → IsTableHeld schema (edited table (key, row))
+edited_held schema table key None held h = All-map-remove_entry (is_at (key_cmp key)) (λ (e : Key × List Value). e.1) (IsHeld schema) table held
+edited_held schema table key (Some row) held h = All-values-insert_entry key_cmp key row (IsHeld schema) table held h
+
+laid_held : (schema : Schema) (edits : List Edit) (table : Table) → IsTableHeld schema table → All (MayHold schema) (values_of edits) → IsTableHeld schema (laid table edits)
+laid_held schema [] table held all = held
+laid_held schema (edit ∷ edits) table held all =
+    laid_held schema edits (edited table edit) (edited_held schema table edit.0 edit.1 held (all 0 edit.1 (omega arith))) (λ k d lt. all (suc k) d (omega arith))
+
+staged_held : (schema : Schema) (rows : List (List Value)) (own : List Edit) → All (IsHeld schema) rows → All (MayHold schema) (values_of own) → All (MayHold schema) (values_of (staged own (edits_of schema rows)))
+staged_held schema [] own held all = all
+staged_held schema (row ∷ rows) own held all =
+    staged_held schema rows (insert_entry key_cmp own (key_in schema.key row) (Some row)) (λ k d lt. held (suc k) d (omega arith))
+    (All-values-insert_entry key_cmp (key_in schema.key row) (Some row) (MayHold schema) own all (held 0 row (omega arith)))
+
+-- rows that columns hold, laid over such a table, make such a table
+pub written_held : (schema : Schema) (rows : List (List Value)) (table : Table) → IsTableHeld schema table → All (IsHeld schema) rows → IsTableHeld schema (laid table (staged [] (edits_of schema rows)))
+written_held schema rows table held all = laid_held schema (staged [] (edits_of schema rows)) table held (staged_held schema rows [] all (All-nil (MayHold schema)))

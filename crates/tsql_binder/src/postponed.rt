@@ -1,0 +1,103 @@
+//! The forms of statements that come later.
+
+ghost use Rattle.std.specs.Prelude.{◌≡◌};
+ghost use Rattle.std.specs.List.{list_all, list_any};
+ghost use Rattle.tsql_binder.specs.Postponed as spec;
+
+use tsql_names::is_same_name;
+use tsql_trees::{
+    ExprTree, ItemTree, ItemsTree, PrimaryTree, RowTree, SourceTree, Statement, TableTree,
+};
+
+/// The names of the reports, behind `sys.`.
+const REPORTS: [&[u8]; 2] = [
+    b"dm_db_column_store_row_group_physical_stats",
+    b"column_store_segments",
+];
+
+/// Whether an expression is a literal alone.
+fn is_literal(expr: &ExprTree) -> bool
+    ensures { result ≡ spec.is_literal expr.now }
+{
+    let factor = &expr.first.first;
+    expr.rest.is_empty()
+        && expr.first.rest.is_empty()
+        && factor.sign.is_none()
+        && match &factor.primary {
+            PrimaryTree::Number(_) | PrimaryTree::Text(_) | PrimaryTree::Null { .. } => true,
+            PrimaryTree::Name(_) | PrimaryTree::Nested { .. } => false,
+        }
+}
+
+fn is_literal_row(row: &RowTree) -> bool
+    ensures { result ≡ spec.is_literal_row row.now }
+{
+    row.exprs.as_slice().iter().all(|expr| is_literal(expr))
+}
+
+fn is_later_source(source: &SourceTree) -> bool
+    ensures { result ≡ spec.is_later_source source.now }
+{
+    match source {
+        SourceTree::Values(rows) => !rows.as_slice().iter().all(|row| is_literal_row(row)),
+        SourceTree::Series(_) => true,
+    }
+}
+
+fn is_report_name(name: &[u8]) -> bool
+    ensures { result ≡ spec.is_report_name name.now }
+{
+    is_same_name(name, REPORTS[0]) || is_same_name(name, REPORTS[1])
+}
+
+/// Whether a table is one of the two reports.
+fn is_report(table: &TableTree) -> bool
+    ensures { result ≡ spec.is_report table.now }
+{
+    match &table.second {
+        Some(second) =>
+            is_same_name(table.first.bytes.as_slice(), b"sys")
+                && is_report_name(second.bytes.as_slice()),
+        None => false,
+    }
+}
+
+fn is_aggregate(item: &ItemTree) -> bool
+    ensures { result ≡ spec.is_aggregate item.now }
+{
+    match item {
+        ItemTree::Name(_) => false,
+        ItemTree::CountAll { .. } | ItemTree::Aggregate { .. } => true,
+    }
+}
+
+fn has_aggregate(items: &ItemsTree) -> bool
+    ensures { result ≡ spec.has_aggregate items.now }
+{
+    match items {
+        ItemsTree::All { .. } => false,
+        ItemsTree::List(list) => list.as_slice().iter().any(|item| is_aggregate(item)),
+    }
+}
+
+/// Whether a statement is of a form that comes later.
+pub fn is_postponed(statement: &Statement) -> bool
+    ensures { result ≡ spec.is_postponed statement.now }
+{
+    match statement {
+        Statement::Insert { source, .. } => is_later_source(source),
+        Statement::Select {
+            items,
+            table,
+            filter,
+            groups,
+            order,
+        } =>
+            is_report(table)
+                || has_aggregate(items)
+                || filter.is_some()
+                || groups.is_some()
+                || order.is_some(),
+        _ => true,
+    }
+}
