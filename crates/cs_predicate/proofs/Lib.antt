@@ -1,0 +1,4 @@
+pub mod LikeLaw
+pub mod LikeLemmas
+pub mod Quotients
+pub mod Scales

@@ -1,2 +1,4 @@
 pub mod Cells
 pub mod Expressions
+pub mod Likes
+pub mod Truths

@@ -1,15 +1,16 @@
 //! Expressions.
 
-ghost use Rattle.std.specs.Prelude.{◌≡◌, IfOk};
+ghost use Rattle.std.specs.Prelude.{◌≡◌, IfOk, map};
 ghost use Rattle.cs_predicate.specs.Cells as cells;
 ghost use Rattle.cs_predicate.specs.Expressions as spec;
-ghost use Rattle.cs_predicate.specs.Expressions.{Gives};
+ghost use Rattle.cs_predicate.specs.Expressions.{chain, Gives};
 
 use crate::arithmetic::{product_of, signed, sum_of};
 use crate::refusal::ExprRefusal;
 use cs_base::Memory;
 use cs_plans::Expr;
 use cs_types::{Loose, Row, Schema, loose_of};
+use tsql_trees::Times;
 
 /// What a row's cell in a column stands for; NULL past the columns.
 pub fn loose_at(schema: &Schema, row: &Row, column: usize) -> Result<Loose, Memory>
@@ -21,12 +22,49 @@ pub fn loose_at(schema: &Schema, row: &Row, column: usize) -> Result<Loose, Memo
     }
 }
 
+/// The value of a chain of sums, of which a part on the left is computed.
+#[cycle(compute)]
+fn sum_on(
+    value: Loose,
+    rest: &[(bool, Expr)],
+    row: &Row,
+    schema: &Schema,
+) -> Result<Loose, ExprRefusal>
+    ensures { Gives result (chain spec.sum value (map (λ part. (part.0, spec.compute part.1 row.now schema.now)) rest.now)) }
+{
+    let mut left = value;
+    for part in rest {
+        let right = compute(&part.1, row, schema)?;
+        left = sum_of(part.0, &left, &right)?;
+    }
+    Ok(left)
+}
+
+/// The value of a chain of products, of which a part on the left is computed.
+#[cycle(compute)]
+fn product_on(
+    value: Loose,
+    rest: &[(Times, Expr)],
+    row: &Row,
+    schema: &Schema,
+) -> Result<Loose, ExprRefusal>
+    ensures { Gives result (chain spec.product value (map (λ part. (part.0, spec.compute part.1 row.now schema.now)) rest.now)) }
+{
+    let mut left = value;
+    for part in rest {
+        let right = compute(&part.1, row, schema)?;
+        left = product_of(part.0, &left, &right)?;
+    }
+    Ok(left)
+}
+
 /// The value of an expression over a row of a schema.
 ///
 /// A literal is as it stands, and a cell as its column means it. Arithmetic is on whole numbers, in a chain from the left,
 /// each side computed, the left one first; it is NULL where a side is. `/` cuts toward zero, and `%` has the sign of the
 /// left side. `ZeroDivisor` where the right side of one of these is 0 and the left one is not NULL; `Overflow` where a
 /// result of arithmetic, also one on the way, is outside bigint; `Memory` where a text finds no room.
+#[cycle(compute)]
 pub fn compute(expr: &Expr, row: &Row, schema: &Schema) -> Result<Loose, ExprRefusal>
     ensures { Gives result (spec.compute expr.now row.now schema.now) }
 {
@@ -38,20 +76,12 @@ pub fn compute(expr: &Expr, row: &Row, schema: &Schema) -> Result<Loose, ExprRef
             signed(*minus, &value)
         }
         Expr::Sum { first, rest } => {
-            let mut left = compute(first.get(), row, schema)?;
-            for part in rest.as_slice() {
-                let right = compute(&part.1, row, schema)?;
-                left = sum_of(part.0, &left, &right)?;
-            }
-            Ok(left)
+            let value = compute(first.get(), row, schema)?;
+            sum_on(value, rest.as_slice(), row, schema)
         }
         Expr::Product { first, rest } => {
-            let mut left = compute(first.get(), row, schema)?;
-            for part in rest.as_slice() {
-                let right = compute(&part.1, row, schema)?;
-                left = product_of(part.0, &left, &right)?;
-            }
-            Ok(left)
+            let value = compute(first.get(), row, schema)?;
+            product_on(value, rest.as_slice(), row, schema)
         }
     }
 }

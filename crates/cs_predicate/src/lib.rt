@@ -7,7 +7,16 @@
 
 mod arithmetic;
 mod expression;
+mod laws;
+mod logic;
+mod pattern;
+mod predicate;
 mod refusal;
+mod side;
 
 pub use expression::{compute, loose_at};
+pub use laws::{like_is_tested, quotient_is_cut};
+pub use logic::Truth;
+pub use pattern::is_like;
+pub use predicate::truth;
 pub use refusal::ExprRefusal;
