@@ -8,5 +8,5 @@
 mod literal;
 mod name;
 
-pub use literal::{date_literal, number_literal, trimmed};
+pub use literal::{date_literal, number_literal, signed_digits, trimmed};
 pub use name::{column_named, is_same_name, series_schema, table_name};
