@@ -1,8 +1,10 @@
 -- Names and literals of statements over a schema.
-use Rattle.std.specs.Prelude.{ℕ, List, [], ◌∷◌, ◌==◌, Bool, Option, None, Some, ℤ, pos, neg_ℤ, if◌then◌else◌}
+use Rattle.std.specs.Prelude.{ℕ, List, [], ◌∷◌, ◌==◌, Bool, false, Option, None, Some, codes, ℤ, pos, neg_ℤ, if◌then◌else◌}
 use Rattle.std.specs.List.{position_from}
 use Rattle.std.specs.Str.{str_eq_ignore_ascii_case}
 use Rattle.cs_types.specs.declared.Schema.{Schema}
+use Rattle.cs_types.specs.declared.Column.{Column}
+use Rattle.cs_types.specs.declared.ColumnType.TheVariants as kinds
 use Rattle.cs_types.specs.declared.Loose.{Loose}
 use Rattle.cs_types.specs.declared.Loose.TheVariants as loose
 use Rattle.cs_types.specs.Calendar.{date_of}
@@ -17,6 +19,13 @@ same_name a b = str_eq_ignore_ascii_case a b
 -- the number of the first column of a name, counted from 0
 abbrev pub column_named : Schema → List ℕ → Option ℕ
 column_named schema name = position_from (λ c. same_name c.name name) 0 schema.columns
+
+-- what the expressions over a series read: the one column `value`, of its numbers
+abbrev pub series_column : Column
+series_column = record { name = codes "value"; kind = kinds.BigInt; nullable = false }
+
+abbrev pub series_schema : Schema
+series_schema = record { name = codes "GENERATE_SERIES"; columns = series_column ∷ []; key = 0 }
 
 -- the name of a table is the last part of it
 abbrev pub last_name : NameTree → Option NameTree → NameTree

@@ -1,12 +1,12 @@
 //! Names and literals of statements over a schema: the column that a name means, a table's name, and the values of text
 //! and number literals.
 //!
-//! Its one contract: each call gives exactly what the definitions in specs/ say. It takes no memory. It stands on
-//! `cs_types` and on `tsql_trees`.
+//! Its one contract: each call gives exactly what the definitions in specs/ say. Only `series_schema` takes memory. It
+//! stands on `cs_types` and on `tsql_trees`.
 #![tactic(auto)]
 
 mod literal;
 mod name;
 
-pub use literal::{date_literal, number_literal, trimmed};
-pub use name::{column_named, is_same_name, table_name};
+pub use literal::{date_literal, number_literal, signed_digits, trimmed};
+pub use name::{column_named, is_same_name, series_schema, table_name};

@@ -28,7 +28,8 @@ pub fn date_literal(text: &[u8]) -> Option<i64>
     read_date(trimmed(text))
 }
 
-fn signed_digits(minus: bool, digits: u64) -> i128
+/// A number with its sign, below zero where `minus` is true.
+pub fn signed_digits(minus: bool, digits: u64) -> i128
     ensures { result ≡ signed_digits minus digits }
 {
     let number = i128::from(digits);

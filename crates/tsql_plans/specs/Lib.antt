@@ -1,0 +1,4 @@
+pub mod Literals
+pub mod Exprs
+pub mod Preds
+pub mod Plans
