@@ -1,41 +1,21 @@
 -- The faults of a statement, and the one that it is refused for.
-use Rattle.std.specs.Prelude.{ℕ, List, [], ◌++◌, Option, None, Some, if◌then◌else◌}
-use Rattle.std.specs.List.{flat_map}
+use Rattle.std.specs.Prelude.{ℕ, ◌==◌, List, [], ◌++◌, not, Option, None, Some, if◌then◌else◌}
 use Rattle.cs_types.specs.declared.Schema.{Schema}
-use Rattle.tsql_trees.specs.declared.leaf.NameTree.{NameTree}
+use Rattle.tsql_trees.specs.declared.leaf.NumberTree.{NumberTree}
 use Rattle.tsql_trees.specs.declared.leaf.TableTree.{TableTree}
 use Rattle.tsql_trees.specs.declared.statement.Statement.{Statement}
 use Rattle.tsql_trees.specs.declared.statement.Statement.TheVariants as statements
-use Rattle.tsql_trees.specs.declared.statement.SourceTree.{SourceTree}
-use Rattle.tsql_trees.specs.declared.statement.SourceTree.TheVariants as sources
-use Rattle.tsql_trees.specs.declared.statement.ItemsTree.{ItemsTree}
-use Rattle.tsql_trees.specs.declared.statement.ItemsTree.TheVariants as shown
-use Rattle.tsql_trees.specs.declared.statement.ItemTree.{ItemTree}
-use Rattle.tsql_trees.specs.declared.statement.ItemTree.TheVariants as items
 use Rattle.tsql_names.specs.Names.{same_name, table_name}
 use Rattle.tsql_faults.specs.declared.fault.Fault.{Fault}
-use Rattle.tsql_faults.specs.Least.{fault, least}
-use Rattle.tsql_faults.specs.Families.{kind_named, unknown}
-use Rattle.tsql_faults.specs.Inserts.{named_faults, row_faults}
+use Rattle.tsql_faults.specs.Least.{fault, fault_if, least}
+use Rattle.tsql_faults.specs.Inserts.{insert_faults}
+use Rattle.tsql_faults.specs.Updates.{sets_faults}
+use Rattle.tsql_faults.specs.Predicates.{filter_faults}
+use Rattle.tsql_faults.specs.Queries.{query_faults}
 
--- ---- INSERT
-
-abbrev pub source_faults : Schema → Option (List NameTree) → SourceTree → List Fault
-source_faults schema names (sources.Values rows) = flat_map (row_faults schema names) rows
-source_faults schema names (sources.Series series) = []
-
--- ---- SELECT
-
-abbrev pub item_faults : Schema → ItemTree → List Fault
-item_faults schema (items.Name name) = unknown (kind_named schema name.bytes) name.place
-item_faults schema (items.CountAll at) = []
-item_faults schema (items.Aggregate at aggregate name) = []
-
-abbrev pub items_faults : Schema → ItemsTree → List Fault
-items_faults schema (shown.All at) = []
-items_faults schema (shown.List list) = flat_map (item_faults schema) list
-
--- ---- all
+-- 50001: a LOCK_TIMEOUT other than 0
+abbrev pub timeout_faults : NumberTree → List Fault
+timeout_faults number = fault_if (not (number.digits == 0)) 50001 number.place
 
 -- the faults of a statement other than that of its table
 abbrev pub faults : Schema → Statement → List Fault
@@ -44,12 +24,12 @@ faults schema statements.Commit = []
 faults schema statements.Rollback = []
 faults schema statements.SetSnapshot = []
 faults schema (statements.SetStatistics on) = []
-faults schema (statements.SetLockTimeout number) = []
+faults schema (statements.SetLockTimeout number) = timeout_faults number
 faults schema (statements.AlterIndex index table compress) = []
-faults schema (statements.Insert table names source) = named_faults schema names ++ source_faults schema names source
-faults schema (statements.Update table sets filter) = []
-faults schema (statements.Delete table filter) = []
-faults schema (statements.Select items table filter groups order) = items_faults schema items
+faults schema (statements.Insert table names source) = insert_faults schema names source
+faults schema (statements.Update table sets filter) = sets_faults schema [] sets ++ filter_faults schema filter
+faults schema (statements.Delete table filter) = filter_faults schema filter
+faults schema (statements.Select items table filter groups order) = query_faults schema items groups order ++ filter_faults schema filter
 
 -- the first byte of a table that has another name
 abbrev pub not_this : Schema → TableTree → Option ℕ

@@ -9,6 +9,12 @@ pub const FEWER_VALUES: u32 = 109;
 /// More values in a row than columns that are named.
 pub const MORE_VALUES: u32 = 110;
 
+/// Fewer expressions over a series than columns that are named.
+pub const FEWER_EXPRS: u32 = 120;
+
+/// More expressions over a series than columns that are named.
+pub const MORE_EXPRS: u32 = 121;
+
 /// What does not go together.
 pub const MIXED: u32 = 206;
 
@@ -23,6 +29,15 @@ pub const WRONG_COUNT: u32 = 213;
 
 /// A text beside a date that is no date.
 pub const NO_DATE: u32 = 241;
+
+/// A sum or an average of what is no number.
+pub const NO_NUMBER: u32 = 8117;
+
+/// An item's column that is not grouped.
+pub const ITEM_NOT_GROUPED: u32 = 8120;
+
+/// A column of ORDER BY that is not grouped.
+pub const ORDER_NOT_GROUPED: u32 = 8127;
 
 /// What is not supported.
 pub const UNSUPPORTED: u32 = 50_001;

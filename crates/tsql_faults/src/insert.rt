@@ -1,56 +1,31 @@
 //! INSERT.
 
 ghost use Rattle.std.specs.Prelude.{◌≡◌, [], length};
-ghost use Rattle.std.specs.List.{flat_map, list_any};
-ghost use Rattle.tsql_names.specs.Names.{same_name};
+ghost use Rattle.std.specs.List.{flat_map};
 ghost use Rattle.tsql_faults.specs.Least.{least};
-ghost use Rattle.tsql_faults.specs.Inserts.{is_repeated, column_faults, columns_faults, named_faults, target, values_faults, count_faults, row_faults};
+ghost use Rattle.tsql_faults.specs.Inserts.{columns_faults, named_faults, target, values_faults, count_faults, row_faults, source_faults, insert_faults};
 
 use crate::expr::expr_fault;
-use crate::fault::{FEWER_VALUES, Fault, MORE_VALUES, UNSUPPORTED, WRONG_COUNT, earlier, fault_if};
-use crate::setting::{Scope, kind_at, kind_named, unknown};
+use crate::fault::{FEWER_VALUES, Fault, MORE_VALUES, WRONG_COUNT, earlier, fault_if};
+use crate::series::series_fault;
+use crate::setting::{Scope, column_fault, kind_at, kind_of, named_in};
 use cs_types::{ColumnType, Schema};
-use tsql_names::is_same_name;
-use tsql_trees::{ExprTree, NameTree, NamesTree, RowTree};
-
-fn is_among(names: &[NameTree], name: &[u8]) -> bool
-    ensures { result ≡ list_any (λ n. same_name n.bytes name.now) names.now }
-{
-    names
-        .iter()
-        .any(|other| is_same_name(other.bytes.as_slice(), name))
-}
-
-fn is_repeated(before: &[NameTree], kind: Option<ColumnType>, name: &NameTree) -> bool
-    ensures { result ≡ is_repeated before.now kind name.now }
-{
-    kind.is_some() && is_among(before, name.bytes.as_slice())
-}
-
-#[tactic(auto, using(crate::proofs::Leasts::least_append))]
-fn column_fault(schema: &Schema, before: &[NameTree], name: &NameTree) -> Option<Fault>
-    ensures { result ≡ least (column_faults schema.now before.now name.now) }
-{
-    let kind = kind_named(schema, name.bytes.as_slice());
-    let repeated = is_repeated(before, kind, name);
-    earlier(
-        unknown(kind, name.place),
-        fault_if(repeated, UNSUPPORTED, name.place),
-    )
-}
+use tsql_trees::{ExprTree, NameTree, NamesTree, RowTree, SourceTree};
 
 fn columns_fault(schema: &Schema, names: &[NameTree]) -> Option<Fault>
     ensures { result ≡ least (columns_faults schema.now [] names.now) }
 {
     let mut found = None;
     for i in 0..names.len() {
-        found = earlier(found, column_fault(schema, &names[..i], &names[i]));
+        let name = &names[i];
+        let before = named_in(&names[..i], name.bytes.as_slice());
+        found = earlier(found, column_fault(schema, before, name));
     }
     found
 }
 
 /// The first fault of the columns that are named.
-pub fn named_fault(schema: &Schema, names: &Option<NamesTree>) -> Option<Fault>
+fn named_fault(schema: &Schema, names: &Option<NamesTree>) -> Option<Fault>
     ensures { result ≡ least (named_faults schema.now names.now) }
 {
     match names {
@@ -65,7 +40,7 @@ fn target(schema: &Schema, names: &Option<NamesTree>, value: usize) -> Option<Co
 {
     match names {
         Some(names) => match names.as_slice().get(value) {
-            Some(name) => kind_named(schema, name.bytes.as_slice()),
+            Some(name) => kind_of(schema, name),
             None => None,
         },
         None => kind_at(schema, value),
@@ -129,7 +104,7 @@ fn row_fault(schema: &Schema, names: &Option<NamesTree>, row: &RowTree) -> Optio
 }
 
 /// The first fault of the rows of VALUES.
-pub fn rows_fault(schema: &Schema, names: &Option<NamesTree>, rows: &[RowTree]) -> Option<Fault>
+fn rows_fault(schema: &Schema, names: &Option<NamesTree>, rows: &[RowTree]) -> Option<Fault>
     ensures { result ≡ least (flat_map (row_faults schema.now names.now) rows.now) }
 {
     let mut found = None;
@@ -137,4 +112,28 @@ pub fn rows_fault(schema: &Schema, names: &Option<NamesTree>, rows: &[RowTree]) 
         found = earlier(found, row_fault(schema, names, row));
     }
     found
+}
+
+fn source_fault(schema: &Schema, names: &Option<NamesTree>, source: &SourceTree) -> Option<Fault>
+    ensures { result ≡ least (source_faults schema.now names.now source.now) }
+{
+    match source {
+        SourceTree::Values(rows) => rows_fault(schema, names, rows.as_slice()),
+        SourceTree::Series(series) => series_fault(schema, names, series),
+    }
+}
+
+/// The first fault of an INSERT.
+#[tactic(auto, using(crate::proofs::Leasts::least_append))]
+pub fn insert_fault(
+    schema: &Schema,
+    names: &Option<NamesTree>,
+    source: &SourceTree,
+) -> Option<Fault>
+    ensures { result ≡ least (insert_faults schema.now names.now source.now) }
+{
+    earlier(
+        named_fault(schema, names),
+        source_fault(schema, names, source),
+    )
 }

@@ -6,54 +6,36 @@
 #![tactic(auto)]
 
 ghost use Rattle.std.specs.Prelude.{◌≡◌};
-ghost use Rattle.std.specs.List.{flat_map};
 ghost use Rattle.tsql_faults.specs.Least.{least};
 ghost use Rattle.tsql_faults.specs.Faults as spec;
-ghost use Rattle.tsql_faults.specs.Faults.{source_faults, item_faults, items_faults, faults, not_this, wrong_table};
+ghost use Rattle.tsql_faults.specs.Faults.{timeout_faults, faults, not_this, wrong_table};
 
+mod atom;
 mod expr;
 mod family;
 mod fault;
 mod insert;
+mod pred;
+mod query;
+mod series;
 mod setting;
+mod update;
 
 use cs_types::Schema;
 pub use fault::Fault;
-use fault::{WRONG_TABLE, earlier};
-use insert::{named_fault, rows_fault};
-use setting::{kind_named, unknown};
+use fault::{UNSUPPORTED, WRONG_TABLE, earlier, fault_if};
+use insert::insert_fault;
+use pred::filter_fault;
+use query::query_fault;
 use tsql_names::{is_same_name, table_name};
-use tsql_trees::{ItemTree, ItemsTree, NamesTree, SourceTree, Statement, TableTree};
+use tsql_trees::{NumberTree, Statement, TableTree};
+use update::sets_fault;
 
-fn source_fault(schema: &Schema, names: &Option<NamesTree>, source: &SourceTree) -> Option<Fault>
-    ensures { result ≡ least (source_faults schema.now names.now source.now) }
+/// A LOCK_TIMEOUT other than 0.
+fn timeout_fault(number: NumberTree) -> Option<Fault>
+    ensures { result ≡ least (timeout_faults number) }
 {
-    match source {
-        SourceTree::Values(rows) => rows_fault(schema, names, rows.as_slice()),
-        SourceTree::Series(_) => None,
-    }
-}
-
-fn item_fault(schema: &Schema, item: &ItemTree) -> Option<Fault>
-    ensures { result ≡ least (item_faults schema.now item.now) }
-{
-    match item {
-        ItemTree::Name(name) => unknown(kind_named(schema, name.bytes.as_slice()), name.place),
-        _ => None,
-    }
-}
-
-fn items_fault(schema: &Schema, items: &ItemsTree) -> Option<Fault>
-    ensures { result ≡ least (items_faults schema.now items.now) }
-{
-    let ItemsTree::List(items) = items else {
-        return None;
-    };
-    let mut found = None;
-    for item in items.as_slice() {
-        found = earlier(found, item_fault(schema, item));
-    }
-    found
+    fault_if(number.digits != 0, UNSUPPORTED, number.place)
 }
 
 /// The first fault of a statement other than that of its table.
@@ -62,11 +44,23 @@ fn least_fault(schema: &Schema, statement: &Statement) -> Option<Fault>
     ensures { result ≡ least (faults schema.now statement.now) }
 {
     match statement {
-        Statement::Insert { names, source, .. } => earlier(
-            named_fault(schema, names),
-            source_fault(schema, names, source),
+        Statement::SetLockTimeout { number } => timeout_fault(*number),
+        Statement::Insert { names, source, .. } => insert_fault(schema, names, source),
+        Statement::Update { sets, filter, .. } => earlier(
+            sets_fault(schema, sets.as_slice()),
+            filter_fault(schema, filter),
         ),
-        Statement::Select { items, .. } => items_fault(schema, items),
+        Statement::Delete { filter, .. } => filter_fault(schema, filter),
+        Statement::Select {
+            items,
+            filter,
+            groups,
+            order,
+            ..
+        } => earlier(
+            query_fault(schema, items, groups, order),
+            filter_fault(schema, filter),
+        ),
         _ => None,
     }
 }

@@ -2,11 +2,12 @@
 
 ghost use Rattle.std.specs.Prelude.{◌≡◌};
 ghost use Rattle.tsql_faults.specs.Least.{least};
-ghost use Rattle.tsql_faults.specs.Families.{kind_at, kind_named, kind_in, unknown};
+ghost use Rattle.tsql_faults.specs.Families.{kind_at, kind_named, kind_in, unknown, unknown_column, named_in, column_faults};
 
-use crate::fault::{Fault, UNKNOWN_NAME, fault_if};
+use crate::fault::{Fault, UNKNOWN_NAME, UNSUPPORTED, earlier, fault_if};
 use cs_types::{ColumnType, Schema};
 use tsql_names::{column_named, is_same_name};
+use tsql_trees::NameTree;
 
 /// Where an expression stands, which says what names mean in it.
 #[derive(Clone, Copy, Debug)]
@@ -40,8 +41,7 @@ pub fn kind_at(schema: &Schema, column: usize) -> Option<ColumnType>
     }
 }
 
-/// The type of the column of a name.
-pub fn kind_named(schema: &Schema, name: &[u8]) -> Option<ColumnType>
+fn kind_named(schema: &Schema, name: &[u8]) -> Option<ColumnType>
     ensures { result ≡ kind_named schema.now name.now }
 {
     match column_named(schema, name) {
@@ -72,4 +72,39 @@ pub fn unknown(kind: Option<ColumnType>, at: u32) -> Option<Fault>
     ensures { result ≡ least (unknown kind at) }
 {
     fault_if(kind.is_none(), UNKNOWN_NAME, at)
+}
+
+/// The type of the column that a name means.
+pub fn kind_of(schema: &Schema, name: &NameTree) -> Option<ColumnType>
+    ensures { result ≡ kind_named schema.now name.now.bytes }
+{
+    kind_named(schema, name.bytes.as_slice())
+}
+
+/// A name that is no column.
+pub fn unknown_column(schema: &Schema, name: &NameTree) -> Option<Fault>
+    ensures { result ≡ least (unknown_column schema.now name.now) }
+{
+    unknown(kind_of(schema, name), name.place)
+}
+
+/// Whether one of these names is the same as another name.
+pub fn named_in(names: &[NameTree], name: &[u8]) -> bool
+    ensures { result ≡ named_in names.now name.now }
+{
+    names
+        .iter()
+        .any(|other| is_same_name(other.bytes.as_slice(), name))
+}
+
+/// A name that a column is given a value by, which was named before or not.
+#[tactic(auto, using(crate::proofs::Leasts::least_append))]
+pub fn column_fault(schema: &Schema, before: bool, name: &NameTree) -> Option<Fault>
+    ensures { result ≡ least (column_faults schema.now before name.now) }
+{
+    let repeated = kind_of(schema, name).is_some() && before;
+    earlier(
+        unknown_column(schema, name),
+        fault_if(repeated, UNSUPPORTED, name.place),
+    )
 }
