@@ -1,7 +1,5 @@
 -- When a text is like a pattern.
-use Rattle.std.specs.Prelude.{◌≡◌, ◌≢◌, ◌⊎◌, ℕ, suc, Bool, true, false, ◌&&◌, ◌||◌, List, [], ◌∷◌, ◌++◌, length, ◌==◌, if◌then◌else◌, ⊤}
-use Rattle.cs_predicate.specs.declared.pattern.Verdict.{Verdict}
-use Rattle.cs_predicate.specs.declared.pattern.Verdict.TheVariants as verdict
+use Rattle.std.specs.Prelude.{◌≡◌, ◌≢◌, ◌⊎◌, ℕ, Bool, true, false, ◌&&◌, ◌||◌, List, [], ◌∷◌, ◌++◌, length, ◌==◌, if◌then◌else◌}
 
 -- the bytes that a byte of a pattern stands for: `%` for any run, `_` for one byte, any other byte for itself
 abbrev pub StandsFor : ℕ → List ℕ → Type 0
@@ -31,21 +29,3 @@ abbrev pub is_like : List ℕ → List ℕ → Bool
 is_like [] [] = true
 is_like [] (b ∷ text) = false
 is_like (p ∷ pattern) text = if p == 37 then has_end (is_like pattern) text else has_first p (is_like pattern) text
-
--- what a comparison up to the next `%` says: for `Open` that an end of the text that is left is like the pattern behind
-abbrev pub says : Verdict → Bool
-says verdict.Like = true
-says verdict.Unlike = false
-says (verdict.Open pattern text) = has_end (is_like pattern.now) text.now
-
--- but for `Unlike` it says of the text's ends too whether one of them is like the pattern
-abbrev pub SaysOfEnds : Verdict → Bool → Type 0
-SaysOfEnds verdict.Like answer = answer ≡ true
-SaysOfEnds verdict.Unlike answer = ⊤
-SaysOfEnds (verdict.Open pattern text) answer = answer ≡ has_end (is_like pattern.now) text.now
-
--- how much of the pattern is left to compare
-abbrev pub to_compare : Verdict → ℕ
-to_compare verdict.Like = 0
-to_compare verdict.Unlike = 0
-to_compare (verdict.Open pattern text) = suc (length pattern.now)

@@ -16,8 +16,6 @@ use Rattle.cs_plans.specs.declared.pred.Pred.TheOpen.{Pred-F}
 use Rattle.cs_plans.specs.declared.pred.Pred.TheFolds.{fold-Pred}
 use Rattle.cs_predicate.specs.declared.logic.Truth.{Truth}
 use Rattle.cs_predicate.specs.declared.logic.Truth.TheVariants.{True, False, Unknown}
-use Rattle.cs_predicate.specs.declared.side.Side.{Side}
-use Rattle.cs_predicate.specs.declared.side.Side.TheVariants as side
 use Rattle.cs_predicate.specs.Cells.{loose_at}
 use Rattle.cs_predicate.specs.Likes.{is_like}
 
@@ -124,10 +122,3 @@ truth_step schema row (Pred-F.IsNull i negated) = not_if negated (truth_if (is_n
 -- the truth of a predicate over a row
 abbrev pub truth : Pred → List Value → Schema → Truth
 truth pred row schema = fold-Pred Truth (truth_step schema row) pred
-
--- the value that a side of a comparison lends
-abbrev pub lent : Side → Loose
-lent side.Null = Null
-lent (side.Number m s) = Number m s
-lent (side.Text text) = Text text.now
-lent (side.Day day) = Day day

@@ -2,10 +2,11 @@
 
 ghost use Rattle.std.specs.Prelude.{◌≡◌, ◌≤◌, length};
 ghost use Rattle.cs_predicate.specs.Likes as spec;
-ghost use Rattle.cs_predicate.specs.Likes.{has_end, says, SaysOfEnds, to_compare};
+ghost use Rattle.cs_predicate.specs.Likes.{has_end};
+ghost use Rattle.cs_predicate.specs.Verdicts.{says, SaysOfEnds, to_compare};
 
 /// What is known of a text and a pattern once they are compared up to the pattern's next `%`.
-#[derive(Clone, Copy, Debug)]
+#[derive(Clone, Copy)]
 enum Verdict<'a> {
     /// The text is like the pattern.
     Like,

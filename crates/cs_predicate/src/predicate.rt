@@ -2,7 +2,7 @@
 
 ghost use Rattle.std.specs.Prelude.{◌≡◌, map};
 ghost use Rattle.cs_predicate.specs.Truths as spec;
-ghost use Rattle.cs_predicate.specs.Truths.{lent};
+ghost use Rattle.cs_predicate.specs.Sides.{lent};
 
 use crate::logic::Truth;
 use crate::pattern::is_like;

@@ -7,14 +7,15 @@ ghost use Rattle.std.specs.Ordering.{int_cmp};
 ghost use Rattle.cs_types.specs.Text.{loose_of};
 ghost use Rattle.cs_predicate.specs.Cells as cells;
 ghost use Rattle.cs_predicate.specs.Truths as spec;
-ghost use Rattle.cs_predicate.specs.Truths.{lent, number_cmp, order_of};
+ghost use Rattle.cs_predicate.specs.Sides.{lent};
+ghost use Rattle.cs_predicate.specs.Truths.{number_cmp, order_of};
 
 use cs_plans::Operand;
 use cs_types::{ColumnType, Loose, Row, Schema, Value};
 use std::cmp::Ordering;
 
 /// A value that is compared, lent by a row or a literal.
-#[derive(Clone, Copy, Debug)]
+#[derive(Clone, Copy)]
 pub enum Side<'a> {
     Null,
     /// The number `m` over ten to the `s`.
