@@ -1,13 +1,13 @@
 -- The forms of statements that come later: each is refused by 50001 at 1, before anything else that binding refuses. As a
 -- form is built its line here goes.
-use Rattle.std.specs.Prelude.{ℕ, List, [], ◌∷◌, codes, Bool, true, false, not, ◌&&◌, ◌||◌, is_none, is_some, Option, None, Some}
+use Rattle.std.specs.Prelude.{ℕ, ◌==◌, List, [], ◌∷◌, length, codes, Bool, true, false, not, ◌&&◌, ◌||◌, is_none, is_some, Option, None, Some}
 use Rattle.std.specs.List.{list_all, list_any}
 use Rattle.tsql_trees.specs.declared.leaf.NameTree.{NameTree}
 use Rattle.tsql_trees.specs.declared.leaf.TableTree.{TableTree}
 use Rattle.tsql_trees.specs.declared.expr.ExprTree.{ExprTree, ExprTree-F, fold-ExprTree}
-use Rattle.tsql_trees.specs.declared.expr.TermTree.{TermTree-F}
-use Rattle.tsql_trees.specs.declared.expr.FactorTree.{FactorTree-F}
-use Rattle.tsql_trees.specs.declared.expr.PrimaryTree.{PrimaryTree-F}
+use Rattle.tsql_trees.specs.declared.expr.TermTree.{TermTree, TermTree-F, fold-TermTree}
+use Rattle.tsql_trees.specs.declared.expr.FactorTree.{FactorTree, FactorTree-F, fold-FactorTree}
+use Rattle.tsql_trees.specs.declared.expr.PrimaryTree.{PrimaryTree, PrimaryTree-F, fold-PrimaryTree}
 use Rattle.tsql_trees.specs.declared.statement.Statement.{Statement}
 use Rattle.tsql_trees.specs.declared.statement.Statement.TheVariants as statements
 use Rattle.tsql_trees.specs.declared.statement.RowTree.{RowTree}
@@ -21,10 +21,6 @@ use Rattle.tsql_names.specs.Names.{same_name}
 
 -- ---- expressions that are no literals
 
-abbrev pub is_empty : {A : Type 0} → List A → Bool
-is_empty [] = true
-is_empty (x ∷ xs) = false
-
 abbrev pub literal_primary : PrimaryTree-F Bool Bool Bool Bool → Bool
 literal_primary (PrimaryTree-F.Number number) = true
 literal_primary (PrimaryTree-F.Text text) = true
@@ -36,14 +32,23 @@ abbrev pub literal_factor : FactorTree-F Bool Bool Bool Bool → Bool
 literal_factor factor = is_none factor.sign && factor.primary
 
 abbrev pub literal_term : TermTree-F Bool Bool Bool Bool → Bool
-literal_term term = is_empty term.rest && term.first
+literal_term term = (length term.rest == 0) && term.first
 
 abbrev pub literal_expr : ExprTree-F Bool Bool Bool Bool → Bool
-literal_expr expr = is_empty expr.rest && expr.first
+literal_expr expr = (length expr.rest == 0) && expr.first
 
--- a number, a text or NULL: no operator, parenthesis or name
+-- a number, a text or NULL: no operator, parenthesis or name; and the same of the parts of an expression
 abbrev pub is_literal : ExprTree → Bool
 is_literal expr = fold-ExprTree Bool Bool Bool Bool literal_primary literal_expr literal_factor literal_term expr
+
+abbrev pub is_literal_term : TermTree → Bool
+is_literal_term term = fold-TermTree Bool Bool Bool Bool literal_primary literal_expr literal_factor literal_term term
+
+abbrev pub is_literal_factor : FactorTree → Bool
+is_literal_factor factor = fold-FactorTree Bool Bool Bool Bool literal_primary literal_expr literal_factor literal_term factor
+
+abbrev pub is_literal_primary : PrimaryTree → Bool
+is_literal_primary primary = fold-PrimaryTree Bool Bool Bool Bool literal_primary literal_expr literal_factor literal_term primary
 
 abbrev pub is_literal_row : RowTree → Bool
 is_literal_row row = list_all is_literal row.exprs

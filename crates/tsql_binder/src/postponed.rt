@@ -6,7 +6,8 @@ ghost use Rattle.tsql_binder.specs.Postponed as spec;
 
 use tsql_names::is_same_name;
 use tsql_trees::{
-    ExprTree, ItemTree, ItemsTree, PrimaryTree, RowTree, SourceTree, Statement, TableTree,
+    ExprTree, FactorTree, ItemTree, ItemsTree, PrimaryTree, RowTree, SourceTree, Statement,
+    TableTree, TermTree,
 };
 
 /// The names of the reports, behind `sys.`.
@@ -15,18 +16,32 @@ const REPORTS: [&[u8]; 2] = [
     b"column_store_segments",
 ];
 
+fn is_literal_primary(primary: &PrimaryTree) -> bool
+    ensures { result ≡ spec.is_literal_primary primary.now }
+{
+    match primary {
+        PrimaryTree::Number(_) | PrimaryTree::Text(_) | PrimaryTree::Null { .. } => true,
+        PrimaryTree::Name(_) | PrimaryTree::Nested { .. } => false,
+    }
+}
+
+fn is_literal_factor(factor: &FactorTree) -> bool
+    ensures { result ≡ spec.is_literal_factor factor.now }
+{
+    factor.sign.is_none() && is_literal_primary(&factor.primary)
+}
+
+fn is_literal_term(term: &TermTree) -> bool
+    ensures { result ≡ spec.is_literal_term term.now }
+{
+    term.rest.len() == 0 && is_literal_factor(&term.first)
+}
+
 /// Whether an expression is a literal alone.
 fn is_literal(expr: &ExprTree) -> bool
     ensures { result ≡ spec.is_literal expr.now }
 {
-    let factor = &expr.first.first;
-    expr.rest.is_empty()
-        && expr.first.rest.is_empty()
-        && factor.sign.is_none()
-        && match &factor.primary {
-            PrimaryTree::Number(_) | PrimaryTree::Text(_) | PrimaryTree::Null { .. } => true,
-            PrimaryTree::Name(_) | PrimaryTree::Nested { .. } => false,
-        }
+    expr.rest.len() == 0 && is_literal_term(&expr.first)
 }
 
 fn is_literal_row(row: &RowTree) -> bool
@@ -35,11 +50,17 @@ fn is_literal_row(row: &RowTree) -> bool
     row.exprs.as_slice().iter().all(|expr| is_literal(expr))
 }
 
+fn are_literal_rows(rows: &[RowTree]) -> bool
+    ensures { result ≡ list_all spec.is_literal_row rows.now }
+{
+    rows.iter().all(|row| is_literal_row(row))
+}
+
 fn is_later_source(source: &SourceTree) -> bool
     ensures { result ≡ spec.is_later_source source.now }
 {
     match source {
-        SourceTree::Values(rows) => !rows.as_slice().iter().all(|row| is_literal_row(row)),
+        SourceTree::Values(rows) => !are_literal_rows(rows.as_slice()),
         SourceTree::Series(_) => true,
     }
 }
@@ -71,12 +92,18 @@ fn is_aggregate(item: &ItemTree) -> bool
     }
 }
 
+fn any_aggregate(items: &[ItemTree]) -> bool
+    ensures { result ≡ list_any spec.is_aggregate items.now }
+{
+    items.iter().any(|item| is_aggregate(item))
+}
+
 fn has_aggregate(items: &ItemsTree) -> bool
     ensures { result ≡ spec.has_aggregate items.now }
 {
     match items {
         ItemsTree::All { .. } => false,
-        ItemsTree::List(list) => list.as_slice().iter().any(|item| is_aggregate(item)),
+        ItemsTree::List(list) => any_aggregate(list.as_slice()),
     }
 }
 

@@ -1,9 +1,11 @@
 //! Statements into bound forms.
 
-ghost use Rattle.std.specs.Prelude.{◌≡◌, ◌≤◌, length, IfOk};
+ghost use Rattle.std.specs.Prelude.{◌≡◌, ◌≤◌, ℕ, List, length, Result, IfOk};
 ghost use Rattle.cs_model.specs.declared.entry.Bound.{Bound};
+ghost use Rattle.tsql_reader.specs.Statements.{IsNoStatement, RefusesStatement, AnswersOnly};
+ghost use Rattle.tsql_faults.specs.declared.fault.Fault.{Fault};
 ghost use Rattle.tsql_binder.specs.Meaning as spec;
-ghost use Rattle.tsql_binder.specs.Meaning.{plan_of, bound_of, Means, GivesBound};
+ghost use Rattle.tsql_binder.specs.Meaning.{plan_of, bound_of, bound_or, Means, GivesBound};
 
 use crate::postponed::is_postponed;
 use crate::refusal::BindRefusal;
@@ -28,14 +30,21 @@ fn plan_of(alloc: Global, schema: &Schema, statement: &Statement) -> Result<Boun
 {
     match statement {
         Statement::Insert { names, source, .. } =>
-            Ok(Bound::Insert(insert_plan(alloc, schema, names, source)?)),
+            Ok(Bound::Insert(insert_plan(alloc, schema, names.as_ref(), source)?)),
         Statement::Select {
             items,
             filter,
             groups,
             order,
             ..
-        } => Ok(Bound::Select(query(alloc, schema, items, filter, groups, order)?)),
+        } => Ok(Bound::Select(query(
+            alloc,
+            schema,
+            items,
+            filter.as_ref(),
+            groups.as_ref(),
+            order.as_ref(),
+        )?)),
         _ => Ok(refused(50_001, 1)),
     }
 }
@@ -64,6 +73,28 @@ pub fn bind(alloc: Global, schema: &Schema, statement: &Statement) -> Result<Bou
     }
 }
 
+/// What a statement means: its bound form, or its refusal.
+fn meaning(bound: Result<Bound, BindRefusal>) -> Result<Bound, Memory>
+    ensures { (wanted : Result Bound Fault) → GivesBound wanted bound → IfOk result (λ b. b ≡ bound_or wanted) }
+{
+    match bound {
+        Ok(bound) => Ok(bound),
+        Err(BindRefusal::At { number, at }) => Ok(refused(number, at)),
+        Err(BindRefusal::Memory) => Err(Memory),
+    }
+}
+
+/// What a text that is no statement means: its refusal.
+fn unread(refusal: ReadRefusal) -> Result<Bound, Memory>
+    ensures only { (number at : ℕ) → AnswersOnly number at refusal → IfOk result (λ b. b ≡ Bound.Refused (Refusal.Reading number at)) }
+    ensures refused { (text : List ℕ) → RefusesStatement text refusal → IfOk result (λ b. (number : ℕ) × (at : ℕ) × IsNoStatement text number at × (b ≡ Bound.Refused (Refusal.Reading number at))) }
+{
+    match refusal {
+        ReadRefusal::At { number, at } => Ok(refused(number, at)),
+        ReadRefusal::Memory => Err(Memory),
+    }
+}
+
 /// What a text of at most 131,072 bytes means over a schema: the bound form of its statement, or the refusal by its tokens,
 /// by the grammar, by a limit or by binding, in this order. `Memory` where there is no room for it.
 pub fn bind_text(alloc: Global, schema: &Schema, text: &[u8]) -> Result<Bound, Memory>
@@ -73,14 +104,8 @@ pub fn bind_text(alloc: Global, schema: &Schema, text: &[u8]) -> Result<Bound, M
     // It means nothing else.
     ensures only { (other : Bound) → Means schema.now text.now other → IfOk result (λ bound. bound ≡ other) }
 {
-    let statement = match read_statement(alloc, text) {
-        Ok(statement) => statement,
-        Err(ReadRefusal::At { number, at }) => return Ok(refused(number, at)),
-        Err(ReadRefusal::Memory) => return Err(Memory),
-    };
-    match bind(alloc, schema, &statement) {
-        Ok(bound) => Ok(bound),
-        Err(BindRefusal::At { number, at }) => Ok(refused(number, at)),
-        Err(BindRefusal::Memory) => Err(Memory),
+    match read_statement(alloc, text) {
+        Ok(statement) => meaning(bind(alloc, schema, &statement)),
+        Err(refusal) => unread(refusal),
     }
 }
