@@ -34,7 +34,7 @@ abbrev pub insert_columns : Schema → Option (List NameTree) → List ℕ
 insert_columns schema None = all_columns schema
 insert_columns schema (Some names) = columns_of schema names
 
--- the values of a row, each for its column
+-- the values of a row, each for its column; their numbers are equal in a statement without faults
 abbrev pub row_of : Schema → Schema → List ℕ → List ExprTree → List Expr
 row_of names schema columns exprs = map (λ p. value_for names schema p.0 p.1) (zip columns exprs)
 

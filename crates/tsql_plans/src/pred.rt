@@ -253,7 +253,7 @@ fn pred_of(alloc: Global, schema: &Schema, tree: &PredTree) -> Result<Pred, Memo
     any_of(alloc, first, rest)
 }
 
-/// The predicate of a WHERE, if there is one.
+/// The predicate of a WHERE, if there is one. `Memory` where there is no room.
 pub fn filter_of(
     alloc: Global,
     schema: &Schema,

@@ -135,7 +135,8 @@ fn order_of(
     }
 }
 
-/// What a SELECT asks for.
+/// What a SELECT asks for: its items, its filter, the columns of GROUP BY and of ORDER BY, and whether rows are put together
+/// into groups. `Memory` where there is no room.
 pub fn query(
     alloc: Global,
     schema: &Schema,

@@ -29,7 +29,7 @@ fn insert_columns(
     }
 }
 
-/// The values of a row, each for its column.
+/// The values of a row, each for its column. A value without a column, and a column without a value, are left out.
 fn row_of(
     alloc: Global,
     names: &Schema,
@@ -97,7 +97,9 @@ fn series_of(
     })
 }
 
-/// What an INSERT inserts.
+/// What an INSERT inserts: the values of its rows, each for the column that is named for it, or for the columns in order
+/// where none are named. Over a series the name `value` is column 0 of `series_schema`, a bigint. `Memory` where there is
+/// no room.
 pub fn insert_plan(
     alloc: Global,
     schema: &Schema,
@@ -132,7 +134,8 @@ fn sets_of(alloc: Global, schema: &Schema, sets: &[SetTree]) -> Result<Items<(us
     Ok(made)
 }
 
-/// What an UPDATE changes.
+/// What an UPDATE changes: for each SET its column and the new value, over the row as it was. `Memory` where there is no
+/// room.
 pub fn update_plan(
     alloc: Global,
     schema: &Schema,
