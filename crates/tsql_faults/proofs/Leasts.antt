@@ -45,6 +45,15 @@ pub least_append : (xs ys : List Fault) → least (xs ++ ys) ≡ earlier (least 
 least_append [] ys = refl
 least_append (x ∷ xs) ys = ap (earlier (Some x)) (least_append xs ys) ∙ sym (earlier_assoc (Some x) (least xs) (least ys))
 
+-- none comes first exactly where there is none
+pub least_none : (xs : List Fault) → least xs ≡ None → xs ≡ []
+least_none [] e = refl
+least_none (x ∷ xs) e = absurd (go (least xs) e)
+  where
+    go : (o : Option Fault) → earlier (Some x) o ≡ None → ⊥
+    go None f = cc
+    go (Some y) f = cc
+
 -- the faults of one part are looked at
 pub taken : (x rest : List Fault) (found next total : Option Fault) → next ≡ earlier found (least x)
     → earlier found (least (x ++ rest)) ≡ total → earlier next (least rest) ≡ total

@@ -1,5 +1,5 @@
 -- What names mean where they stand, and which families of values go together.
-use Rattle.std.specs.Prelude.{ℕ, List, [], ◌++◌, codes, slice_get, Bool, true, false, ◌&&◌, is_none, is_some, Option, None, Some, option_map, if◌then◌else◌}
+use Rattle.std.specs.Prelude.{ℕ, List, [], codes, slice_get, Bool, true, false, is_none, Option, None, Some, option_map, if◌then◌else◌}
 use Rattle.std.specs.List.{list_any}
 use Rattle.std.specs.Option.{option_and_then}
 use Rattle.cs_types.specs.declared.ColumnType.{ColumnType}
@@ -42,12 +42,6 @@ unknown_column schema name = unknown (kind_named schema name.bytes) name.place
 -- one of these names is the same
 abbrev pub named_in : List NameTree → List ℕ → Bool
 named_in names name = list_any (λ n. same_name n.bytes name) names
-
--- a name that a column is given a value by: 207 where it is no column, and 50001 where it is one that was named before
-abbrev pub column_faults : Schema → Bool → NameTree → List Fault
-column_faults schema before name =
-    unknown_column schema name
-    ++ fault_if (is_some (kind_named schema name.bytes) && before) 50001 name.place
 
 -- ---- families
 

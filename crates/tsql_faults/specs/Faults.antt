@@ -27,7 +27,7 @@ faults schema (statements.SetStatistics on) = []
 faults schema (statements.SetLockTimeout number) = timeout_faults number
 faults schema (statements.AlterIndex index table compress) = []
 faults schema (statements.Insert table names source) = insert_faults schema names source
-faults schema (statements.Update table sets filter) = sets_faults schema [] sets ++ filter_faults schema filter
+faults schema (statements.Update table sets filter) = sets_faults schema sets ++ filter_faults schema filter
 faults schema (statements.Delete table filter) = filter_faults schema filter
 faults schema (statements.Select items table filter groups order) = query_faults schema items groups order ++ filter_faults schema filter
 

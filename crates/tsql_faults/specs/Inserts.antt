@@ -16,19 +16,19 @@ use Rattle.tsql_faults.specs.declared.fault.Fault.{Fault}
 use Rattle.tsql_faults.specs.declared.setting.Scope.{Scope}
 use Rattle.tsql_faults.specs.declared.setting.Scope.TheVariants as scopes
 use Rattle.tsql_faults.specs.Least.{fault_if}
-use Rattle.tsql_faults.specs.Families.{kind_at, kind_named, named_in, column_faults}
+use Rattle.tsql_faults.specs.Families.{kind_at, kind_named, unknown_column}
+use Rattle.tsql_faults.specs.Columns.{twice_faults}
 use Rattle.tsql_faults.specs.Values.{place_of, expr_faults}
 
 -- ---- the columns that are named
 
--- the columns behind those that were named before
-abbrev pub columns_faults : Schema → List NameTree → List NameTree → List Fault
-columns_faults schema before [] = []
-columns_faults schema before (name ∷ rest) = column_faults schema (named_in before name.bytes) name ++ columns_faults schema (before ++ name ∷ []) rest
+-- 207: a name that is no column; 50001: a column named twice
+abbrev pub columns_faults : Schema → List NameTree → List Fault
+columns_faults schema names = flat_map (unknown_column schema) names ++ twice_faults schema names
 
 abbrev pub named_faults : Schema → Option (List NameTree) → List Fault
 named_faults schema None = []
-named_faults schema (Some names) = columns_faults schema [] names
+named_faults schema (Some names) = columns_faults schema names
 
 -- ---- the values
 

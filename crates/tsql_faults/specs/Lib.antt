@@ -1,5 +1,6 @@
 pub mod Least
 pub mod Families
+pub mod Columns
 pub mod Values
 pub mod Inserts
 pub mod Updates

@@ -1,18 +1,15 @@
 -- The faults of SET in an UPDATE.
-use Rattle.std.specs.Prelude.{ℕ, ◌==◌, List, [], ◌∷◌, ◌++◌, Bool, false, Option, None, Some}
-use Rattle.std.specs.List.{list_any}
+use Rattle.std.specs.Prelude.{ℕ, ◌==◌, List, ◌++◌, map, Bool, false, Option, None, Some}
+use Rattle.std.specs.List.{flat_map}
 use Rattle.cs_types.specs.declared.Schema.{Schema}
 use Rattle.tsql_trees.specs.declared.statement.SetTree.{SetTree}
-use Rattle.tsql_names.specs.Names.{same_name, column_named}
+use Rattle.tsql_names.specs.Names.{column_named}
 use Rattle.tsql_faults.specs.declared.fault.Fault.{Fault}
 use Rattle.tsql_faults.specs.declared.setting.Scope.TheVariants as scopes
 use Rattle.tsql_faults.specs.Least.{fault_if}
-use Rattle.tsql_faults.specs.Families.{kind_named, column_faults}
+use Rattle.tsql_faults.specs.Families.{kind_named, unknown_column}
+use Rattle.tsql_faults.specs.Columns.{twice_faults}
 use Rattle.tsql_faults.specs.Values.{expr_faults}
-
--- one of these columns has the name
-abbrev pub set_in : List SetTree → List ℕ → Bool
-set_in sets name = list_any (λ s. same_name s.name.bytes name) sets
 
 abbrev pub is_number : ℕ → Option ℕ → Bool
 is_number key None = false
@@ -26,14 +23,10 @@ is_key schema name = is_number schema.key (column_named schema name)
 abbrev pub value_faults : Schema → SetTree → List Fault
 value_faults schema s = expr_faults schema scopes.Table (kind_named schema s.name.bytes) s.expr
 
--- 50001 also: SET of the key
-abbrev pub set_faults : Schema → Bool → SetTree → List Fault
-set_faults schema before s =
-    column_faults schema before s.name
-    ++ fault_if (is_key schema s.name.bytes) 50001 s.name.place
-    ++ value_faults schema s
+-- 207: a name that is no column; 50001: SET of the key
+abbrev pub set_faults : Schema → SetTree → List Fault
+set_faults schema s = unknown_column schema s.name ++ fault_if (is_key schema s.name.bytes) 50001 s.name.place ++ value_faults schema s
 
--- the columns behind those that were set before
-abbrev pub sets_faults : Schema → List SetTree → List SetTree → List Fault
-sets_faults schema before [] = []
-sets_faults schema before (s ∷ rest) = set_faults schema (set_in before s.name.bytes) s ++ sets_faults schema (before ++ s ∷ []) rest
+-- and a column that is set twice
+abbrev pub sets_faults : Schema → List SetTree → List Fault
+sets_faults schema sets = flat_map (set_faults schema) sets ++ twice_faults schema (map (λ s. s.name) sets)

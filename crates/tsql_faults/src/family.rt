@@ -10,7 +10,7 @@ use tsql_names::date_literal;
 use tsql_trees::TextTree;
 
 /// What can be compared with one another and assigned to one another.
-#[derive(Clone, Copy, Debug)]
+#[derive(Clone, Copy)]
 pub enum Family {
     /// NULL, and what is not known: it goes with all.
     Any,

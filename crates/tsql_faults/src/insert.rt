@@ -1,30 +1,25 @@
 //! INSERT.
 
-ghost use Rattle.std.specs.Prelude.{◌≡◌, [], length};
+ghost use Rattle.std.specs.Prelude.{◌≡◌};
 ghost use Rattle.std.specs.List.{flat_map};
 ghost use Rattle.tsql_faults.specs.Least.{least};
 ghost use Rattle.tsql_faults.specs.Inserts.{columns_faults, named_faults, target, values_faults, count_faults, row_faults, source_faults, insert_faults};
 
+use crate::column::{no_column_fault, twice_fault};
 use crate::expr::expr_fault;
 use crate::fault::{FEWER_VALUES, Fault, MORE_VALUES, WRONG_COUNT, earlier, fault_if};
 use crate::series::series_fault;
-use crate::setting::{Scope, column_fault, kind_at, kind_of, named_in};
+use crate::setting::{Scope, kind_at, kind_of};
 use cs_types::{ColumnType, Schema};
 use tsql_trees::{ExprTree, NameTree, NamesTree, RowTree, SourceTree};
 
+/// The first fault of the columns that are named.
 fn columns_fault(schema: &Schema, names: &[NameTree]) -> Option<Fault>
-    ensures { result ≡ least (columns_faults schema.now [] names.now) }
+    ensures { result ≡ least (columns_faults schema.now names.now) }
 {
-    let mut found = None;
-    for i in 0..names.len() {
-        let name = &names[i];
-        let before = named_in(&names[..i], name.bytes.as_slice());
-        found = earlier(found, column_fault(schema, before, name));
-    }
-    found
+    earlier(no_column_fault(schema, names), twice_fault(schema, names))
 }
 
-/// The first fault of the columns that are named.
 fn named_fault(schema: &Schema, names: &Option<NamesTree>) -> Option<Fault>
     ensures { result ≡ least (named_faults schema.now names.now) }
 {

@@ -11,6 +11,7 @@ ghost use Rattle.tsql_faults.specs.Faults as spec;
 ghost use Rattle.tsql_faults.specs.Faults.{timeout_faults, faults, not_this, wrong_table};
 
 mod atom;
+mod column;
 mod expr;
 mod family;
 mod fault;

@@ -6,6 +6,7 @@ ghost use Rattle.tsql_faults.specs.Least.{least};
 ghost use Rattle.tsql_faults.specs.Families.{unknown_column};
 ghost use Rattle.tsql_faults.specs.Queries.{group_names, is_aggregate, has_aggregate, is_grouping, name_faults, aggregate_faults, item_faults, lacks_column, items_faults, order_item_faults, order_faults, query_faults};
 
+use crate::column::no_column_fault;
 use crate::expr::is_decimal;
 use crate::family::{Family, differ, family_of};
 use crate::fault::{
@@ -161,17 +162,6 @@ fn items_fault(
     }
 }
 
-/// The first fault of GROUP BY.
-fn groups_fault(schema: &Schema, groups: &[NameTree]) -> Option<Fault>
-    ensures { result ≡ least (flat_map (unknown_column schema.now) groups.now) }
-{
-    let mut found = None;
-    for name in groups {
-        found = earlier(found, unknown_column(schema, name));
-    }
-    found
-}
-
 fn order_list_fault(
     schema: &Schema,
     grouping: bool,
@@ -217,7 +207,7 @@ pub fn query_fault(
     let names = group_names(groups);
     let by_items = earlier(
         items_fault(schema, grouping, names, items),
-        groups_fault(schema, names),
+        no_column_fault(schema, names),
     );
     earlier(by_items, order_fault(schema, grouping, names, order))
 }

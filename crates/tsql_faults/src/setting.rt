@@ -2,15 +2,15 @@
 
 ghost use Rattle.std.specs.Prelude.{◌≡◌};
 ghost use Rattle.tsql_faults.specs.Least.{least};
-ghost use Rattle.tsql_faults.specs.Families.{kind_at, kind_named, kind_in, unknown, unknown_column, named_in, column_faults};
+ghost use Rattle.tsql_faults.specs.Families.{kind_at, kind_named, kind_in, unknown, unknown_column, named_in};
 
-use crate::fault::{Fault, UNKNOWN_NAME, UNSUPPORTED, earlier, fault_if};
+use crate::fault::{Fault, UNKNOWN_NAME, fault_if};
 use cs_types::{ColumnType, Schema};
 use tsql_names::{column_named, is_same_name};
 use tsql_trees::NameTree;
 
 /// Where an expression stands, which says what names mean in it.
-#[derive(Clone, Copy, Debug)]
+#[derive(Clone, Copy)]
 pub enum Scope {
     /// A row of VALUES: no name means anything.
     Row,
@@ -21,7 +21,7 @@ pub enum Scope {
 }
 
 /// Where a part of an expression stands.
-#[derive(Clone, Copy, Debug)]
+#[derive(Clone, Copy)]
 pub struct Setting {
     /// What names mean.
     pub scope: Scope,
@@ -95,16 +95,4 @@ pub fn named_in(names: &[NameTree], name: &[u8]) -> bool
     names
         .iter()
         .any(|other| is_same_name(other.bytes.as_slice(), name))
-}
-
-/// A name that a column is given a value by, which was named before or not.
-#[tactic(auto, using(crate::proofs::Leasts::least_append))]
-pub fn column_fault(schema: &Schema, before: bool, name: &NameTree) -> Option<Fault>
-    ensures { result ≡ least (column_faults schema.now before name.now) }
-{
-    let repeated = kind_of(schema, name).is_some() && before;
-    earlier(
-        unknown_column(schema, name),
-        fault_if(repeated, UNSUPPORTED, name.place),
-    )
 }

@@ -1,10 +1,17 @@
-use Rattle.std.proofs.Common.{ap, ◌∙◌, arith, take}
+use Rattle.std.proofs.Common.{ap, sym, ◌∙◌}
+use Rattle.std.specs.List.{flat_map}
+use Rattle.std.proofs.lemmas.List.{map-id}
 use Rattle.tsql_faults.specs.Least.{earlier, least}
-use Rattle.tsql_faults.specs.Families.{named_in, column_faults}
-use Rattle.tsql_faults.proofs.Rows.{one_more_column}
+use Rattle.tsql_faults.specs.Families.{unknown_column}
+use Rattle.tsql_faults.specs.Columns.{twice_faults}
+use Rattle.tsql_faults.proofs.Leasts.{least_append}
 use Rattle.tsql_faults.proofs.insert.columns_fault.Goals as goal
 
-pub loop-i-preserved : goal.loop-i-preserved
-loop-i-preserved c =
-    one_more_column c.args.schema.now c.loop-i.i c.loop-i.found c.earlier-found.result _ c.args.names.now c.index-names-i.result (omega arith) c.index-names-i.is
-    (c.earlier-found.ensures ∙ ap (earlier c.loop-i.found) (c.column_fault.ensures ∙ ap (λ z. least (column_faults c.args.schema.now z c.index-names-i.result)) (c.named_in-before.ensures ∙ ap (named_in (take c.loop-i.i c.args.names.now)) c.as_slice.ensures))) c.loop-i.invariant
+pub returns : goal.returns
+returns c =
+    let schema = c.args.schema.now in
+    let names = c.args.names.now in
+    c.earlier.ensures
+    ∙ ap (λ z. earlier z c.twice_fault.result) c.no_column_fault.ensures
+    ∙ ap (earlier (least (flat_map (unknown_column schema) names))) (c.twice_fault.ensures ∙ ap (λ z. least (twice_faults schema z)) (map-id names))
+    ∙ sym (least_append (flat_map (unknown_column schema) names) (twice_faults schema names))
