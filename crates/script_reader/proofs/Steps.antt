@@ -26,7 +26,7 @@ IsShort step = length (text_of step) ≤ 65536
 not_long : (line : List ℕ) → line_reason line ≡ None → length line ≤ 65536
 not_long line e = at (nat_lt 65536 (length line)) refl e
   where
-    at : (t : Bool) → nat_lt 65536 (length line) ≡ t → cond t (Some 5) (cond (list_all is_line_byte line) None (Some 6)) ≡ None → length line ≤ 65536
+    at : (t : Bool) → nat_lt 65536 (length line) ≡ t → cond {A = Option ℕ} t (Some 5) (cond {A = Option ℕ} (list_all is_line_byte line) None (Some 6)) ≡ None → length line ≤ 65536
     at true long e = absurd (cc)
     at false short e = grind arith
 
