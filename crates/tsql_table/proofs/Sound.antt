@@ -20,7 +20,8 @@ use Rattle.cs_types.specs.Kinds.{IsColumnType}
 use Rattle.cs_types.specs.Schemas.{small_letter, SameName, is_key_kind, IsSchema}
 use Rattle.tsql_table.specs.declared.written.WrittenColumn.{WrittenColumn}
 use Rattle.tsql_table.specs.declared.written.WrittenKey.{WrittenKey}
-use Rattle.tsql_table.specs.Written.{same_name, columns, keys, key_shown, key_index}
+use Rattle.tsql_names.specs.Names.{same_name}
+use Rattle.tsql_table.specs.Written.{columns, keys, key_shown, key_index}
 use Rattle.tsql_table.specs.Faults.{outside, digits_faults, type_faults, contradictions, column_faults, too_many, has_name, repeated_name, repeated, second_key, null_on_key, key_type_faults, named_key_faults, key_faults, no_column, faults_of, faults}
 use Rattle.tsql_table.specs.Tables.{plain_type, decimal_type, column_type, column_of, columns_from, schema_of, key_of}
 

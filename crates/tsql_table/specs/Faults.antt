@@ -9,7 +9,8 @@ use Rattle.tsql_setup.specs.declared.tree.TypeTree.{TypeTree}
 use Rattle.tsql_setup.specs.declared.tree.TypeTree.TheVariants as types
 use Rattle.tsql_table.specs.declared.written.WrittenColumn.{WrittenColumn}
 use Rattle.tsql_table.specs.declared.written.WrittenKey.{WrittenKey}
-use Rattle.tsql_table.specs.Written.{same_name, columns, keys, key_place, key_shown, key_index}
+use Rattle.tsql_names.specs.Names.{same_name}
+use Rattle.tsql_table.specs.Written.{columns, keys, key_place, key_shown, key_index}
 
 -- a number of a type that is no whole number from low to high
 abbrev pub outside : ℕ → ℕ → NumberTree → List ℕ

@@ -1,8 +1,6 @@
 -- The schema that a text means, and where a text that means none is refused.
 use Rattle.std.specs.Prelude.{◌≡◌, ℕ, ◌+◌, ◌==◌, List, [], ◌∷◌, length, slice_get, Bool, not, ◌&&◌, ◌⊎◌, Result, Ok, Err, Option, None, Some, is_none}
 use Rattle.std.specs.Option.{option_and_then}
-use Rattle.tsql_trees.specs.declared.leaf.TableTree.{TableTree}
-use Rattle.tsql_trees.specs.declared.leaf.NameTree.{NameTree}
 use Rattle.tsql_trees.specs.declared.leaf.NumberTree.{NumberTree}
 use Rattle.tsql_setup.specs.declared.tree.CreateTree.{CreateTree}
 use Rattle.tsql_setup.specs.declared.tree.TypeTree.{TypeTree}
@@ -12,6 +10,7 @@ use Rattle.tsql_setup.specs.declared.tree.PlainType.TheVariants as plain
 use Rattle.tsql_setup.specs.Creates.{IsCreate, IsNoCreate}
 use Rattle.tsql_reader.specs.declared.refusal.ReadRefusal.{ReadRefusal}
 use Rattle.tsql_reader.specs.declared.refusal.ReadRefusal.TheVariants as refusal
+use Rattle.tsql_names.specs.Names.{table_name}
 use Rattle.cs_types.specs.declared.ColumnType.{ColumnType}
 use Rattle.cs_types.specs.declared.ColumnType.TheVariants as kinds
 use Rattle.cs_types.specs.declared.Column.{Column}
@@ -47,14 +46,6 @@ column_of is_key c = record { name = c.name.bytes; kind = column_type c.kind; nu
 abbrev pub columns_from : ℕ → ℕ → List WrittenColumn → List Column
 columns_from key i [] = []
 columns_from key i (c ∷ rest) = column_of (i == key) c ∷ columns_from key (i + 1) rest
-
--- the name of a table is the last part of it
-abbrev pub last_name : NameTree → Option NameTree → NameTree
-last_name first None = first
-last_name first (Some second) = second
-
-abbrev pub table_name : TableTree → List ℕ
-table_name table = (last_name table.first table.second).bytes
 
 abbrev pub schema_of : CreateTree → ℕ → Schema
 schema_of tree key = record { name = table_name tree.table; columns = columns_from key 0 (columns tree.parts); key = key }

@@ -1,7 +1,7 @@
 -- What a setup statement writes: its columns and its keys.
-use Rattle.std.specs.Prelude.{ℕ, ◌+◌, List, [], ◌∷◌, ◌++◌, length, slice_get, Bool, Option, None, Some}
+use Rattle.std.specs.Prelude.{ℕ, ◌+◌, List, [], ◌∷◌, ◌++◌, length, slice_get, Option, None, Some}
 use Rattle.std.specs.List.{flat_map, filter_map, position_from}
-use Rattle.std.specs.Str.{str_eq_ignore_ascii_case}
+use Rattle.tsql_names.specs.Names.{same_name}
 use Rattle.tsql_setup.specs.declared.tree.TablePartTree.{TablePartTree}
 use Rattle.tsql_setup.specs.declared.tree.TablePartTree.TheVariants as parts
 use Rattle.tsql_setup.specs.declared.tree.MarkTree.{MarkTree}
@@ -9,10 +9,6 @@ use Rattle.tsql_setup.specs.declared.tree.MarkTree.TheVariants as marks
 use Rattle.tsql_table.specs.declared.written.WrittenColumn.{WrittenColumn}
 use Rattle.tsql_table.specs.declared.written.WrittenKey.{WrittenKey}
 use Rattle.tsql_table.specs.declared.written.WrittenKey.TheVariants as written
-
--- two names are the same but for ASCII case
-abbrev pub same_name : List ℕ → List ℕ → Bool
-same_name a b = str_eq_ignore_ascii_case a b
 
 -- the place of a NULL
 abbrev pub null_place : MarkTree → Option ℕ

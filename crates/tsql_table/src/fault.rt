@@ -6,7 +6,8 @@ ghost use Rattle.std.specs.Option.{option_copied};
 ghost use Rattle.tsql_table.specs.Order.{AreInOrder};
 ghost use Rattle.tsql_table.specs.Faults.{outside, type_faults, contradictions, column_faults, too_many, has_name, repeated, second_key, digits_faults, repeated_name, null_on_key, key_type_faults, key_faults, no_column, faults_of, earlier, leftmost};
 
-use crate::written::{Written, WrittenColumn, WrittenKey, is_same_name};
+use crate::written::{Written, WrittenColumn, WrittenKey};
+use tsql_names::is_same_name;
 use tsql_setup::TypeTree;
 use tsql_trees::NumberTree;
 

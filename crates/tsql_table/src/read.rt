@@ -10,7 +10,7 @@ ghost use Rattle.tsql_table.specs.Faults.{faults};
 ghost use Rattle.tsql_table.specs.Tables.{Means, IsTable, IsNoTable, RefusesTable, JudgesTable, IsWrittenBy};
 
 use crate::fault::leftmost_fault;
-use crate::schema::{schema_columns, table_name};
+use crate::schema::{copied_name, schema_columns};
 use crate::written::Written;
 use cs_base::Memory;
 use cs_types::Schema;
@@ -37,7 +37,7 @@ fn schema_of(
         },
         [] => unreachable!(),
     };
-    let name = table_name(&tree.table)?;
+    let name = copied_name(alloc, &tree.table)?;
     let columns = schema_columns(alloc, key, columns)?;
     Ok(Schema { name, columns, key })
 }

@@ -2,12 +2,14 @@
 
 ghost use Rattle.std.specs.Prelude.{◌≡◌, [], All, IfOk};
 ghost use Rattle.tsql_table.specs.Faults.{digits_faults, type_faults};
-ghost use Rattle.tsql_table.specs.Tables.{plain_type, decimal_type, column_type, column_of, columns_from, table_name};
+ghost use Rattle.tsql_names.specs.Names.{table_name};
+ghost use Rattle.tsql_table.specs.Tables.{plain_type, decimal_type, column_type, column_of, columns_from};
 
 use crate::written::WrittenColumn;
 use cs_base::{Items, Memory};
 use cs_types::{Bytes, Column, ColumnType, copy_bytes};
 use std::alloc::Global;
+use tsql_names::table_name;
 use tsql_setup::{PlainType, TypeTree};
 use tsql_trees::{NumberTree, TableTree};
 
@@ -86,12 +88,9 @@ pub fn schema_columns(
     Ok(made)
 }
 
-/// The name of a table, which is the last part of what names it.
-pub fn table_name(table: &TableTree) -> Result<Bytes, Memory>
+/// The name of a table, in bytes of its own.
+pub fn copied_name(alloc: Global, table: &TableTree) -> Result<Bytes, Memory>
     ensures { IfOk result (λ name. name ≡ table_name table.now) }
 {
-    match &table.second {
-        Some(second) => copy_bytes(&second.bytes),
-        None => copy_bytes(&table.first.bytes),
-    }
+    Ok(Items::from_vec(table_name(table).to_vec(alloc)?))
 }

@@ -1,11 +1,12 @@
 //! What a setup statement writes: its columns and its keys.
 
 ghost use Rattle.std.specs.Prelude.{◌≡◌, ◌++◌, length, IfOk, OnOk, IsTrue};
-ghost use Rattle.tsql_table.specs.Written.{null_place, not_null_place, first_null, first_not_null, marked_keys, marked_key, part_columns, part_keys, columns, keys, same_name, named_column, key_place, key_index, key_shown};
+ghost use Rattle.tsql_table.specs.Written.{null_place, not_null_place, first_null, first_not_null, marked_keys, marked_key, part_columns, part_keys, columns, keys, named_column, key_place, key_index, key_shown};
 
 use cs_base::{Items, Memory};
 use cs_types::copy_bytes;
 use std::alloc::Global;
+use tsql_names::is_same_name;
 use tsql_setup::{MarkTree, TablePartTree, TypeTree};
 use tsql_trees::NameTree;
 
@@ -38,13 +39,6 @@ pub struct Written {
     pub columns: Items<WrittenColumn>,
     /// The keys, of which a statement without faults has one.
     pub keys: Items<WrittenKey>,
-}
-
-/// Whether two names are the same but for ASCII case.
-pub fn is_same_name(a: &[u8], b: &[u8]) -> bool
-    ensures { result ≡ same_name a.now b.now }
-{
-    a.eq_ignore_ascii_case(b)
 }
 
 fn null_place(mark: MarkTree) -> Option<u32>
