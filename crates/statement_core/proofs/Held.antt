@@ -3,7 +3,7 @@ use Rattle.std.proofs.Common.{◌≡◌, ℕ, zero, suc, ◌<◌, List, [], ◌�
 use Rattle.std.specs.Prelude.{Option, None, Some, slice_get}
 use Rattle.std.specs.Map.{values_of, remove_entry}
 use Rattle.std.specs.BTreeMap.{insert_entry, is_at}
-use Rattle.std.proofs.lemmas.List.Elements.{All-nil, All-cons}
+use Rattle.std.proofs.lemmas.List.Elements.{All-nil, All-cons, All-contains}
 use Rattle.std.proofs.lemmas.Map.Views.{All-values-insert_entry, All-map-remove_entry}
 use Rattle.cs_types.specs.declared.Column.{Column}
 use Rattle.cs_types.specs.declared.ColumnType.{ColumnType}
@@ -62,6 +62,12 @@ keys_printable schema [] is held = All-nil (λ (key : Key). IsTrue (keeps (key_k
 keys_printable schema (row ∷ rows) is held =
     All-cons (λ (key : Key). IsTrue (keeps (key_kind schema) (Number key.0))) (key_in schema.key row) (map (key_in schema.key) rows)
     (held_key schema row is (held 0 row (omega arith))).1 (keys_printable schema rows is (λ k d lt. held (suc k) d (omega arith)))
+
+pub listed_printable : (schema : Schema) (rows : List (List Value)) (keys : List Key) (key : Key) → IsSchema schema → All (IsHeld schema) rows → keys ≡ map (key_in schema.key) rows → Contains keys key
+    → IsTrue (keeps (key_kind schema) (Number key.0))
+listed_printable schema rows keys key is held e listed =
+    let all : All (λ (k : Key). IsTrue (keeps (key_kind schema) (Number k.0))) keys = subst (All (λ (k : Key). IsTrue (keeps (key_kind schema) (Number k.0)))) (sym e) (keys_printable schema rows is held) in
+    All-contains (λ (k : Key). IsTrue (keeps (key_kind schema) (Number k.0))) keys key all listed
 
 -- ---- tables
 

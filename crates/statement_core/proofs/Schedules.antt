@@ -215,7 +215,7 @@ module _ (script : Script) (log new : List Entry) (is : IsRunnable script) (piec
   turns_are true h = turns_none h
   turns_are false h = turns_some h
 
-pub running_end : (script : Script) (rows : Table) (log new : List Entry) → IsFirst script → Running script.schema rows log script.lines → new ≡ log ++ map End script.sessions → IsLogOf script new
+pub running_end : (script : Script) (rows : Table) (log new : List Entry) → IsRunnable script → Running script.schema rows log script.lines → new ≡ log ++ map End script.sessions → IsLogOf script new
 running_end script rows log new is run e = record {
   state = resting run.changes run.clock run.next;
   legal = subst (λ es. Leads script.schema start es (resting run.changes run.clock run.next)) (sym e)

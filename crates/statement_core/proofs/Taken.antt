@@ -1,6 +1,6 @@
 -- The least key that is present, one key more, and the obstacle that it is.
 use Rattle.std.proofs.Common.{◌≡◌, ◌≢◌, ℕ, ◌+◌, ◌<◌, ◌⊎◌, List, [], ◌∷◌, ◌++◌, length, take, get_or, map, refl, sym, ap, subst, arith, ◌∙◌, inl, inr, cond, Bool, true, false, ◌||◌, nat_lt, int_lt, ℤ, suc}
-use Rattle.std.specs.Prelude.{Option, None, Some, count_by}
+use Rattle.std.specs.Prelude.{Option, None, Some, count_by, IfOk, Result, Ok, Err}
 use Rattle.std.specs.declared.cmp.Ordering.{Ordering}
 use Rattle.std.specs.declared.cmp.Ordering.TheVariants.{Less, Equal, Greater}
 use Rattle.std.specs.Ordering.{is_gt}
@@ -12,13 +12,18 @@ use Rattle.cs_types.specs.declared.Key.{Key}
 use Rattle.cs_types.specs.declared.Schema.{Schema}
 use Rattle.cs_types.specs.declared.Value.{Value}
 use Rattle.cs_types.specs.Rows.{key_in}
+use Rattle.cs_base.specs.declared.memory.Memory.{Memory}
+use Rattle.cs_plans.specs.declared.plan.InsertPlan.{InsertPlan}
+use Rattle.cs_model.specs.declared.entry.Bound.TheVariants as bound
+use Rattle.cs_model.specs.declared.entry.Reply.{Reply}
 use Rattle.cs_model.specs.declared.entry.Refusal.TheVariants.{Duplicate}
 use Rattle.cs_model.specs.Changes.{Table}
 use Rattle.cs_model.specs.State.{State}
 use Rattle.cs_model.specs.Keys.{key_cmp, same_key}
-use Rattle.cs_model.specs.Answers.{edits_of}
+use Rattle.cs_model.specs.Answers.{inserted, edits_of, edits_by, writes}
+use Rattle.cs_model.specs.Steps.{IsWriteReplyOf, edits_in}
 use Rattle.cs_model.specs.Obstacles.{has_row, keys_of, IsObstacle, IsJudged}
-use Rattle.statement_core.specs.Answers.{is_taken}
+use Rattle.statement_core.specs.Answers.{is_taken, left_by, AnswersEdits, Answers}
 use Rattle.statement_core.specs.Least.{IsLeast, HasLeast, lesser_of}
 
 -- the numbers of keys are ordered
@@ -118,3 +123,19 @@ judged schema rows table keys count least is counts h =
 
 pub refusal_is : (m : State) (session : ℕ) (present : Key → Bool) (keys : List Key) (key : Key) → HasLeast present keys (Some key) → IsJudged (IsObstacle m session present) keys (Some (Duplicate key))
 refusal_is m session present keys key h = record { key = key; listed = h.listed; is = (refl, h.is); least = h.least }
+
+-- ---- an INSERT whose rows have no value refusal
+
+module _ (schema : Schema) (table : Table) (plan : InsertPlan) (rows : List (List Value)) (is : inserted schema plan ≡ Ok rows) (after : Table) where
+  writes_are : writes schema (bound.Insert plan) ≡ Ok (edits_of schema rows)
+  writes_are = ap (edits_by schema) is
+
+  answers_plan : (r : Reply) → AnswersEdits table (edits_of schema rows) r after → Answers schema table (bound.Insert plan) r after
+  answers_plan r a = (
+    λ m session. subst (λ w. IsWriteReplyOf m session table (bound.Insert plan) w r) (sym writes_are) (a.0 m session),
+    a.1 ∙ ap (λ w. left_by table (edits_in w) r) (sym writes_are),
+  )
+
+  pub answered_plan : (r : Result Reply Memory) → IfOk r (λ reply. AnswersEdits table (edits_of schema rows) reply after) → IfOk r (λ reply. Answers schema table (bound.Insert plan) reply after)
+  answered_plan (Ok reply) a = answers_plan reply a
+  answered_plan (Err m) a = tt

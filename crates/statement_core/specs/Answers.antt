@@ -1,5 +1,5 @@
 -- What a statement replies over a table, and the table that it leaves.
-use Rattle.std.specs.Prelude.{◌≡◌, ℕ, List, [], ◌||◌, All, false}
+use Rattle.std.specs.Prelude.{◌≡◌, ℕ, List, [], Bool, ◌||◌, All, false}
 use Rattle.std.specs.Map.{values_of}
 use Rattle.cs_types.specs.declared.Key.{Key}
 use Rattle.cs_types.specs.declared.Schema.{Schema}

@@ -1,4 +1,4 @@
-use Rattle.std.proofs.Common.{◌≡◌, ◌∙◌, map, sym, ap}
+use Rattle.std.proofs.Common.{◌≡◌, ◌∙◌, map, refl, sym, ap}
 use Rattle.std.specs.Prelude.{Some, None, count_by}
 use Rattle.cs_types.specs.declared.Key.{Key}
 use Rattle.cs_types.specs.Rows.{key_in}
@@ -7,9 +7,25 @@ use Rattle.cs_model.specs.Keys.{same_key}
 use Rattle.cs_model.specs.Obstacles.{keys_of}
 use Rattle.statement_core.specs.Answers.{is_taken}
 use Rattle.statement_core.specs.Least.{HasLeast, count_in}
-use Rattle.statement_core.proofs.Held.{keys_numbers, keys_printable, written_held}
+use Rattle.statement_core.proofs.Held.{keys_numbers, listed_printable, written_held}
 use Rattle.statement_core.proofs.Taken.{judged, refusal_is, count_is}
 use Rattle.statement_core.proofs.insert.insert_written.Goals as goal
+
+pub keys_of-requires : goal.keys_of-requires
+keys_of-requires c = keys_numbers c.args.schema.now c.args.written.now c.requires.schema c.requires.held
+
+pub stage-requires : goal.stage-requires
+stage-requires c = keys_numbers c.args.schema.now c.args.written.now c.requires.schema c.requires.held
+
+pub returns-in-Some-clause-printable : goal.returns-in-Some-clause-printable
+returns-in-Some-clause-printable c =
+    let least = rw c.in-Some.is at c.first_taken.ensures in
+    listed_printable c.args.schema.now c.args.written.now c.as_slice-2.result.now c.in-Some.key c.requires.schema c.requires.held (c.as_slice-2.ensures.value ∙ c.in_ok-keys.ensures) least.listed
+
+pub returns-clause-held : goal.returns-clause-held
+returns-clause-held c =
+    let schema = c.args.schema.now in
+    rw (c.in_ok-lay.ensures, c.in_ok-own.ensures) (written_held schema c.args.written.now c.args.rows.now.entries c.requires.table c.requires.held)
 
 pub returns-in-Some-clause-answers : goal.returns-in-Some-clause-answers
 returns-in-Some-clause-answers c =
