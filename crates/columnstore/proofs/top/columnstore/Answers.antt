@@ -2,6 +2,7 @@ use Rattle.std.proofs.Common.{subst, map, string_bytes, refl, [], codes, rules}
 use Rattle.cs_outside.specs.Outside.{Takes}
 use Rattle.columnstore.specs.declared.status.Status.TheVariants as status
 use Rattle.columnstore.specs.Outcome.{usage, too_long, answered}
+use Rattle.script_reader.specs.Scripts.{IsScript}
 use Rattle.columnstore.proofs.Complete.{came_short, all_came, finished}
 use Rattle.columnstore.proofs.Ending.{ending, none_taken, none_added, stopped}
 use Rattle.columnstore.proofs.top.columnstore.Goals as goal
@@ -42,7 +43,7 @@ returns-in-Ok-answer-clause-complete g c = λ bytes script told good small reads
     let all = all_came bytes came left (subst (λ o. Takes o left came) told c.in-Ok.ensures.ok) c.in-Ok.ensures.end in
     finished (g.O.Sink.held c.args.output.now) (g.O.Sink.held c.finish-in-Ok-answer.new.output) (g.O.Sink.faults c.args.output.now) (g.O.Sink.faults c.finish-in-Ok-answer.new.output)
     c.as_slice-in-Ok-answer.result.now c.in-Ok-answer.status c.finish-in-Ok-answer.result c.finish-in-Ok-answer.ensures
-    (?)
+    ((rw c.as_slice.ensures.value at c.in-Ok-answer.ensures.runs) script (subst (λ bs. IsScript bs script) all reads))
 
 pub returns-in-Err-Memory-clause-ends : goal.returns-in-Err-Memory-clause-ends
 returns-in-Err-Memory-clause-ends g c =
