@@ -5,10 +5,11 @@ ghost use Rattle.cs_types.specs.Schemas.{IsSchema, IsRowOf};
 ghost use Rattle.row_group.specs.Rows.{repacked};
 ghost use Rattle.row_group.specs.Groups.{IsGroupOf};
 ghost use Rattle.row_group.specs.Kept.{IsKept};
-ghost use Rattle.row_group.specs.Arranged.{IsRowOrder, AreSegmentsOf, AreStamps, KeepColumns, AreKeys, IsArranged};
+ghost use Rattle.row_group.specs.Arranged.{IsRowOrder, AreSegmentsOf, AreStamps, KeepColumns, AreKeyCodes, AreNumbers, IsArranged};
 
-use crate::arrange::{arranged, key_order, picked, row_order};
+use crate::arrange::{arranged, picked, row_order};
 use crate::kept::{Kept, kept_of};
+use crate::order::number_order;
 use crate::packed::Packed;
 use column_segment::{Segment, encode};
 use cs_base::{Items, Memory};
@@ -30,39 +31,36 @@ pub fn pack_rows(
     ensures none { IfOk result (λ packed. IsNone packed ↔ (repacked versions floor ≡ [])) }
     ensures group { IfOk result (λ packed. IfSome packed (λ group. IsGroupOf schema.now versions floor group)) }
 {
-    let kept = kept_of(alloc, schema, versions, floor)?;
+    let kept = kept_of(alloc, schema.columns.len(), versions, floor)?;
     if kept.begins.is_empty() {
         return Ok(None);
     }
-    let order = row_order(alloc, &kept.columns, &kept.begins)?;
-    let packed = packed_by(alloc, schema, kept, &order, floor)?;
+    let (order, keys) = row_order(alloc, &kept.columns, &kept.begins, schema.key)?;
+    let packed = packed_by(alloc, schema, kept, &order, &keys, floor)?;
     Ok(Some(packed))
 }
 
-/// The group of kept versions, at the places of an order.
+/// The group of kept versions, at the places of an order in which these are codes of their keys.
 fn packed_by(
     alloc: Global,
     schema: &Schema,
     kept: Kept,
     order: &[usize],
+    key_codes: &[u64],
     floor: u64,
 ) -> Result<Packed, Memory>
     requires columns { length kept.columns.items ≡ length schema.now.columns }
     requires cells { KeepColumns schema.now kept.columns.items }
     requires key { schema.now.key < length kept.columns.items }
-    requires keys { AreKeys kept.columns.items schema.now.key (length kept.begins.items) kept.keys.items }
+    requires numbers { AreNumbers (slice_index_or kept.columns.items schema.now.key []) (length kept.begins.items) }
+    requires codes { AreKeyCodes (slice_index_or kept.columns.items schema.now.key []) order.now key_codes.now }
     requires places { All (λ place. place < length kept.begins.items) order.now }
     requires some { 0 < length order.now }
     requires apart { AllPairs (λ a b. a ≢ b) order.now }
     ensures { IfOk result (λ group. IsArranged kept.columns.items kept.begins.items order.now schema.now.key floor group) }
 {
-    let Kept {
-        columns,
-        keys,
-        begins,
-    } = kept;
-    let keys = picked(alloc, &keys, order)?;
-    let places = key_order(alloc, &keys)?;
+    let Kept { columns, begins } = kept;
+    let places = number_order(alloc, key_codes)?;
     let begins = picked(alloc, &begins, order)?;
     let late = stamps_of(alloc, &begins, floor)?;
     let segments = segments_of(alloc, schema, columns, order)?;
