@@ -1,4 +1,5 @@
-ghost use Rattle.std.specs.Prelude.{◌≡◌, ◌≢◌, ◌<◌, ◌↔◌, ℕ, [], All, AllPairs, length, map, slice_get, slice_index_or, IfOk, IfSome, IsNone, IsTrue, Some};
+ghost use Rattle.std.specs.Prelude.{◌≡◌, ◌≢◌, ◌<◌, ◌↔◌, ℕ, [], All, AllPairs, length, map, slice_get, slice_index, slice_index_or, IfOk, IfSome, IsNone, IsTrue, Some};
+ghost use Rattle.std.specs.Bool.{OnTrue};
 ghost use Rattle.cs_types.specs.declared.Column.{Column};
 ghost use Rattle.cs_types.specs.Kinds.{keeps};
 ghost use Rattle.cs_types.specs.Schemas.{IsSchema, IsRowOf};
@@ -7,7 +8,7 @@ ghost use Rattle.row_group.specs.Groups.{IsGroupOf};
 ghost use Rattle.row_group.specs.Kept.{IsKept};
 ghost use Rattle.row_group.specs.Arranged.{IsRowOrder, AreSegmentsOf, AreStamps, KeepColumns, AreKeyCodes, AreNumbers, IsArranged};
 
-use crate::arrange::{arranged, picked, row_order};
+use crate::arrange::{arranged, row_order};
 use crate::kept::{Kept, kept_of};
 use crate::order::number_order;
 use crate::packed::Packed;
@@ -61,8 +62,7 @@ fn packed_by(
 {
     let Kept { columns, begins } = kept;
     let places = number_order(alloc, key_codes)?;
-    let begins = picked(alloc, &begins, order)?;
-    let late = stamps_of(alloc, &begins, floor)?;
+    let late = late_of(alloc, &begins, order, floor)?;
     let segments = segments_of(alloc, schema, columns, order)?;
     Ok(Packed {
         segments,
@@ -96,14 +96,49 @@ fn segments_of(
     Ok(segments)
 }
 
-/// The begins that are not the floor, with their positions.
-fn stamps_of(alloc: Global, begins: &[u64], floor: u64) -> Result<Items<(usize, u64)>, Memory>
-    ensures { IfOk result (λ late. AreStamps begins.now floor late) }
+/// The begins that are not the floor, with their positions in an order. Where all are the floor the order is not read.
+fn late_of(
+    alloc: Global,
+    begins: &[u64],
+    order: &[usize],
+    floor: u64,
+) -> Result<Items<(usize, u64)>, Memory>
+    requires { All (λ place. place < length begins.now) order.now }
+    ensures { IfOk result (λ late. AreStamps (map (slice_index begins.now) order.now) floor late) }
+{
+    if are_all(begins, floor) {
+        return Ok(Items::new(alloc));
+    }
+    stamps_of(alloc, begins, order, floor)
+}
+
+/// Whether all begins are this one.
+fn are_all(begins: &[u64], floor: u64) -> bool
+    ensures { OnTrue result (All (λ begin. begin ≡ floor) begins.now) }
+{
+    for begin in begins {
+        if *begin != floor {
+            return false;
+        }
+    }
+    true
+}
+
+/// The same, one position after another.
+fn stamps_of(
+    alloc: Global,
+    begins: &[u64],
+    order: &[usize],
+    floor: u64,
+) -> Result<Items<(usize, u64)>, Memory>
+    requires { All (λ place. place < length begins.now) order.now }
+    ensures { IfOk result (λ late. AreStamps (map (slice_index begins.now) order.now) floor late) }
 {
     let mut late = Items::new(alloc);
-    for position in 0..begins.len() {
-        if begins[position] != floor {
-            late.push((position, begins[position]))?;
+    for position in 0..order.len() {
+        let begin = begins[order[position]];
+        if begin != floor {
+            late.push((position, begin))?;
         }
     }
     Ok(late)
