@@ -4,7 +4,7 @@ ghost use Rattle.row_group.specs.Rows.{ended_by, begin_above, repacked};
 ghost use Rattle.row_group.specs.Kept.{AreColumns, IsKept, HaveCellsMore};
 
 use cs_base::{Items, Memory};
-use cs_types::{Value, Version};
+use cs_types::{Row, Value, Version};
 use std::alloc::Global;
 use std::mem;
 
@@ -36,7 +36,7 @@ pub fn kept_of(
         if !has_ended(version.end, floor) {
             let begin = raised(version.begin, floor);
             let Version { row, .. } = version;
-            kept.add(begin, row.into_vec()?)?;
+            kept.add(begin, row)?;
         }
     }
     Ok(kept)
@@ -44,11 +44,11 @@ pub fn kept_of(
 
 impl Kept {
     /// Adds a version.
-    fn add(&mut self, begin: u64, cells: Vec<Value>) -> Result<(), Memory>
-        ensures columns { OnOk result (HaveCellsMore self.old.columns.items cells.items self.new.columns.items) }
+    fn add(&mut self, begin: u64, row: Row) -> Result<(), Memory>
+        ensures columns { OnOk result (HaveCellsMore self.old.columns.items row self.new.columns.items) }
         ensures begins { OnOk result (self.new.begins.items ≡ self.old.begins.items ++ begin ∷ []) }
     {
-        add_cells(&mut self.columns, cells)?;
+        add_cells(&mut self.columns, &row)?;
         self.begins.push(begin)?;
         Ok(())
     }
@@ -67,13 +67,12 @@ fn empty_columns(alloc: Global, width: usize, count: usize) -> Result<Vec<Items<
     Ok(columns)
 }
 
-/// Puts a cell at the end of each column, NULL where there is none for it.
-fn add_cells(columns: &mut Vec<Items<Value>>, cells: Vec<Value>) -> Result<(), Memory>
-    ensures { OnOk result (HaveCellsMore columns.old.items cells.items columns.new.items) }
+/// Puts a copy of the row's cell at the end of each column, NULL where it has none.
+fn add_cells(columns: &mut Vec<Items<Value>>, row: &Row) -> Result<(), Memory>
+    ensures { OnOk result (HaveCellsMore columns.old.items row.now columns.new.items) }
 {
-    let mut left = cells;
     for place in 0..columns.len() {
-        let cell = take_cell(&mut left, place);
+        let cell = row.cell(place).copy()?;
         columns[place].push(cell)?;
     }
     Ok(())
