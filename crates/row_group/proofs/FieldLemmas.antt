@@ -1,17 +1,20 @@
 -- The fields of a packed group, from columns put in order.
 use Rattle.std.proofs.Common.{◌≡◌, ℕ, zero, suc, ◌+◌, ◌<◌, inl, inr, List, [], ◌∷◌, ◌++◌, length, map, get_or, refl, sym, ◌∙◌, ap, subst, arith, Some, IsTrue}
 use Rattle.std.specs.List.{All, range_with_len, slice_get}
+use Rattle.std.specs.List.Sorted.{IsPermutation}
+use Rattle.std.specs.Ordering.{nat_cmp, ordering_then}
 use Rattle.std.proofs.lemmas.Bool.{cases_lt}
-use Rattle.std.proofs.lemmas.List.{length_push, length-map, get_or_append_left, get_or_push, get_or-map, same_lists, get_or_past}
+use Rattle.std.proofs.lemmas.List.{length_push, length-map, get_or_append_left, get_or_push, get_or-map, get_or_default, same_lists, get_or_past}
 use Rattle.std.proofs.lemmas.List.Elements.{All-map}
 use Rattle.std.proofs.lemmas.List.FromFn.{fill_by_all}
 use Rattle.std.proofs.lemmas.Option.{slice_get-get_or, slice_get_within, get_or_from_slice_get}
 use Rattle.cs_types.specs.declared.ColumnType.{ColumnType}
 use Rattle.cs_types.specs.declared.Key.{Key}
 use Rattle.cs_types.specs.declared.Value.{Value}
-use Rattle.cs_types.specs.declared.Value.TheVariants.{Null}
+use Rattle.cs_types.specs.declared.Value.TheVariants.{Null, Number, Text}
 use Rattle.cs_types.specs.Kinds.{keeps}
-use Rattle.cs_types.specs.Rows.{cell_at, key_in}
+use Rattle.cs_types.specs.Rows.{cell_at, key_in, IsNumber}
+use Rattle.cs_types.specs.Values.{value_cmp}
 use Rattle.column_segment.specs.declared.segment.Segment.{Segment}
 use Rattle.column_segment.specs.Bodies.{cell_in}
 use Rattle.column_segment.specs.Segments.{IsSegmentOf}
@@ -19,8 +22,9 @@ use Rattle.row_group.specs.Orders.{IsOrderOf}
 use Rattle.row_group.specs.Rows.{PackedRow}
 use Rattle.row_group.specs.Groups.{key_cmp, keys_of, key_of_cell}
 use Rattle.row_group.specs.Fields.{cells_in, shown_row, shown_rows, AreFields}
-use Rattle.row_group.specs.Arranged.{IsColumnSegment, AreSegmentsOf, AreStamps, ArePicked, AreKeys, source_row}
+use Rattle.row_group.specs.Arranged.{IsColumnSegment, AreSegmentsOf, AreStamps, ArePicked, AreKeyCodes, AreNumbers, source_row}
 use Rattle.row_group.proofs.ArrangeLemmas.{slice_get-push}
+use Rattle.row_group.proofs.RankLemmas.{within-order}
 use Rattle.row_group.proofs.ShownLemmas.{cell_at-get_or, cell_at-map}
 
 -- a cell of the row at a place is that of its column
@@ -98,17 +102,42 @@ rows-arranged columns begins moved order segments late floor are picked stamps =
         let begin = stamps.shown k (omega (arith, picked.0)) ∙ picked.1 k 0 l in
         λ i. record { cells = cells k l i; begin = sym begin i }
 
--- the keys of the rows at the places of the order
-pub keys-arranged : (columns : List (List Value)) (begins order : List ℕ) (keys moved : List Key) (key : ℕ) → AreKeys columns key (length begins) keys → All (λ place. place < length begins) order → ArePicked keys order moved → moved ≡ keys_of key (map (source_row columns begins) order)
-keys-arranged columns begins order keys moved key are within picked =
-    let rows = map (source_row columns begins) order in
-    same_lists moved (keys_of key rows) (picked.0 ∙ sym (length-map rows (λ (row : PackedRow). key_in key row.cells) ∙ length-map order (source_row columns begins))) (λ k d l.
-    let n : k < length order = omega (arith, l, picked.0) in
-    let place = get_or order k 0 in
-    picked.1 k d n ∙ are.1 place d (within k 0 n)
-    ∙ ap key_of_cell (sym (cell_of-source columns begins place key))
-    ∙ sym (get_or-map (λ (row : PackedRow). key_in key row.cells) rows k (record { cells = []; begin = 0 }) d (omega (arith, length-map order (source_row columns begins)))
-    ∙ ap (λ (row : PackedRow). key_in key row.cells) (get_or-map (source_row columns begins) order k 0 (record { cells = []; begin = 0 }) n)))
+number-cmp : (x y : Value) → IsNumber x → IsNumber y → value_cmp x y ≡ key_cmp (key_of_cell x) (key_of_cell y)
+number-cmp Null y n o = absurd n
+number-cmp (Number a) Null n o = absurd o
+number-cmp (Number a) (Number b) n o = refl
+number-cmp (Number a) (Text u) n o = absurd o
+number-cmp (Text t) y n o = absurd n
+
+-- the order of the codes is that of the keys of the rows
+pub codes-order : (columns : List (List Value)) (begins order codes places : List ℕ) (key : ℕ) → AreNumbers (get_or columns key []) (length begins) → All (λ place. place < length begins) order → AreKeyCodes (get_or columns key []) order codes → IsOrderOf nat_cmp codes places → IsOrderOf key_cmp (keys_of key (map (source_row columns begins) order)) places
+codes-order columns begins order codes places key numbers within are is = record {
+  all = subst (λ n. IsPermutation (range_with_len 0 n) places) (are.0 ∙ sym long) is.all;
+  ascending = λ d i j e less there.
+      let p = get_or places i e in
+      let q = get_or places j e in
+      let a : p < length order = omega (arith, within-order nat_cmp codes places is i (omega arith), get_or_default places i 0 e (omega arith), are.0) in
+      let b : q < length order = omega (arith, within-order nat_cmp codes places is j there, get_or_default places j 0 e there, are.0) in
+      ap (λ r. ordering_then r (nat_cmp p q))
+      (ap (λ x. key_cmp x (get_or keys q d)) (key-at p d a) ∙ ap (key_cmp (key_of_cell (cell p))) (key-at q d b)
+      ∙ sym (are.1 p q a b ∙ number-cmp (cell p) (cell q) (numbers (get_or order p 0) (within p 0 a)) (numbers (get_or order q 0) (within q 0 b))))
+      ∙ is.ascending 0 i j e less there;
+}
+  where
+    keys : List Key
+    keys = keys_of key (map (source_row columns begins) order)
+
+    cell : ℕ → Value
+    cell p = cell_at (get_or columns key []) (get_or order p 0)
+
+    long : length keys ≡ length order
+    long = length-map (map (source_row columns begins) order) (λ (row : PackedRow). key_in key row.cells) ∙ length-map order (source_row columns begins)
+
+    key-at : (p : ℕ) (d : Key) → p < length order → get_or keys p d ≡ key_of_cell (cell p)
+    key-at p d l =
+        get_or-map (λ (row : PackedRow). key_in key row.cells) (map (source_row columns begins) order) p (record { cells = []; begin = 0 }) d (omega (arith, l, length-map order (source_row columns begins)))
+        ∙ ap (λ (row : PackedRow). key_in key row.cells) (get_or-map (source_row columns begins) order p 0 (record { cells = []; begin = 0 }) l)
+        ∙ ap key_of_cell (cell_of-source columns begins (get_or order p 0) key)
 
 -- the fields agree
 pub fields-made : (columns : List (List Value)) (begins moved order : List ℕ) (segments : List Segment) (late : List (ℕ × ℕ)) (key floor : ℕ) (places : List ℕ) → AreSegmentsOf columns order segments → ArePicked begins order moved → AreStamps moved floor late → key < length columns → IsOrderOf key_cmp (keys_of key (map (source_row columns begins) order)) places → AreFields segments key (length order) floor late places

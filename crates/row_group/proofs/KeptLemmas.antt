@@ -1,14 +1,11 @@
 -- Versions taken apart into columns, one after another.
-use Rattle.std.proofs.Common.{◌≡◌, ℕ, ◌<◌, List, [], ◌∷◌, ◌++◌, length, map, get_or, refl, sym, ◌∙◌, ap, subst, arith, Bool, true, false, not, cond}
-use Rattle.std.specs.List.{All, filter}
-use Rattle.std.proofs.lemmas.List.{map-append, map_push, get_or_at, append-nil, length-append}
+use Rattle.std.proofs.Common.{◌≡◌, ℕ, List, [], ◌∷◌, ◌++◌, map, sym, ◌∙◌, ap, arith, Bool, true, false, not, cond}
+use Rattle.std.specs.List.{filter}
+use Rattle.std.proofs.lemmas.List.{map-append, map_push, append-nil}
 use Rattle.std.proofs.lemmas.List.Elements.{filter-append}
 use Rattle.cs_types.specs.declared.Value.{Value}
-use Rattle.cs_types.specs.declared.Key.{Key}
-use Rattle.cs_types.specs.declared.Schema.{Schema}
 use Rattle.cs_types.specs.declared.row.Version.{Version}
-use Rattle.cs_types.specs.Rows.{cell_at, key_in}
-use Rattle.cs_types.specs.Schemas.{IsRowOf}
+use Rattle.cs_types.specs.Rows.{cell_at}
 use Rattle.row_group.specs.Rows.{ended_by, raised, repacked}
 use Rattle.row_group.specs.Kept.{IsKept, HaveCellsMore}
 
@@ -31,21 +28,13 @@ pub repacked-gone : (xs : List Version) (v : Version) (floor : ℕ) → ended_by
 repacked-gone xs v floor e = repacked-append xs v floor true e ∙ append-nil (repacked xs floor)
 
 -- one version more
-pub kept-more : (width key : ℕ) (versions : List Version) (v : Version) (columns columns' : List (List Value)) (keys keys' : List Key) (begins begins' : List ℕ) → IsKept width key versions columns keys begins → HaveCellsMore columns v.row columns' → keys' ≡ keys ++ key_in key v.row ∷ [] → begins' ≡ begins ++ v.begin ∷ [] → IsKept width key (versions ++ v ∷ []) columns' keys' begins'
-kept-more width key versions v columns columns' keys keys' begins begins' kept more of_keys of_begins = record {
+pub kept-more : (width : ℕ) (versions : List Version) (v : Version) (columns columns' : List (List Value)) (begins begins' : List ℕ) → IsKept width versions columns begins → HaveCellsMore columns v.row columns' → begins' ≡ begins ++ v.begin ∷ [] → IsKept width (versions ++ v ∷ []) columns' begins'
+kept-more width versions v columns columns' begins begins' kept more of_begins = record {
   of_rows = record {
     counted = more.counted ∙ kept.of_rows.counted;
     cells = λ c l.
         more.cells c (omega (arith, kept.of_rows.counted)) ∙ ap (λ cells. cells ++ cell_at v.row c ∷ []) (kept.of_rows.cells c l)
         ∙ sym (ap (map (λ row. cell_at row c)) (map_push (λ (w : Version). w.row) versions v) ∙ map_push (λ row. cell_at row c) (map (λ (w : Version). w.row) versions) v.row);
   };
-  of_keys = of_keys ∙ ap (λ ks. ks ++ key_in key v.row ∷ []) kept.of_keys ∙ sym (map_push (λ (w : Version). key_in key w.row) versions v);
   of_begins = of_begins ∙ ap (λ bs. bs ++ v.begin ∷ []) kept.of_begins ∙ sym (map_push (λ (w : Version). w.begin) versions v);
 }
-
--- the version in the middle of a list fits as all do
-pub fits-middle : (schema : Schema) (front : List Version) (v : Version) (back all : List Version) → front ++ v ∷ back ≡ all → All (λ version. IsRowOf schema version.row) all → IsRowOf schema v.row
-fits-middle schema front v back all is fit =
-    let here = ap (λ vs. get_or vs (length front) v) (sym is) ∙ get_or_at front v back v (length front) refl in
-    let l : length front < length all = omega (arith, ap length is, length-append front (v ∷ back)) in
-    subst (λ (w : Version). IsRowOf schema w.row) here (fit (length front) v l)

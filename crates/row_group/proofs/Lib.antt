@@ -1,6 +1,7 @@
 pub mod OrderLemmas
 pub mod RankLemmas
 pub mod WordLemmas
+pub mod MarkLemmas
 pub mod DistanceLemmas
 pub mod DistinctLemmas
 pub mod ShownLemmas

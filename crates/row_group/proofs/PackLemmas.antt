@@ -9,19 +9,19 @@ use Rattle.std.proofs.lemmas.List.FromFn.{fill_by_all, length-range_with_len, ge
 use Rattle.std.proofs.lemmas.List.Sorted.{IsPermutation-map, All-permutation, length_permutation}
 use Rattle.std.proofs.lemmas.Option.{slice_get_within}
 use Rattle.cs_types.specs.declared.Column.{Column}
-use Rattle.cs_types.specs.declared.Key.{Key}
 use Rattle.cs_types.specs.declared.Schema.{Schema}
 use Rattle.cs_types.specs.declared.Value.{Value}
 use Rattle.cs_types.specs.declared.Value.TheVariants.{Null, Number, Text}
 use Rattle.cs_types.specs.declared.row.Version.{Version}
 use Rattle.cs_types.specs.Kinds.{keeps}
-use Rattle.cs_types.specs.Rows.{cell_at, key_in}
-use Rattle.cs_types.specs.Schemas.{may_hold, IsRowOf}
+use Rattle.cs_types.specs.Rows.{cell_at, IsNumber}
+use Rattle.cs_types.specs.Schemas.{may_hold, IsSchema, IsRowOf}
 use Rattle.cs_types.specs.Values.{value_cmp}
 use Rattle.row_group.specs.Rows.{PackedRow, ended_by, raised, repacked, row_of, column_of, distinct_cells, row_cmp, AreInOrder}
-use Rattle.row_group.specs.Groups.{Group, IsGroupOf, key_of_cell}
+use Rattle.row_group.specs.Groups.{Group, IsGroupOf}
 use Rattle.row_group.specs.Kept.{IsKept}
-use Rattle.row_group.specs.Arranged.{KeepColumns, AreKeys, IsRowOrder, IsArranged, source_row, source_cmp}
+use Rattle.row_group.specs.Arranged.{KeepColumns, AreNumbers, IsRowOrder, IsArranged, source_row, source_cmp}
+use Rattle.cs_types.proofs.RowLemmas.{row_has_key}
 use Rattle.row_group.proofs.ArrangeLemmas.{by_rank-same}
 use Rattle.row_group.proofs.FieldLemmas.{cell_of-source}
 use Rattle.row_group.proofs.ShownLemmas.{cell_at-get_or, map-map}
@@ -38,7 +38,7 @@ repacked-fits schema versions floor fit =
     All-map (λ (version : Version). IsRowOf schema version.row) (raised floor) (filter (λ v. not (ended_by floor v.end)) versions)
     (All-filter (λ v. not (ended_by floor v.end)) (λ (version : Version). IsRowOf schema version.row) versions fit)
 
-module _ (schema : Schema) (versions : List Version) (columns : List (List Value)) (keys : List Key) (begins : List ℕ) (kept : IsKept (length schema.columns) schema.key versions columns keys begins) where
+module _ (schema : Schema) (versions : List Version) (columns : List (List Value)) (begins : List ℕ) (kept : IsKept (length schema.columns) versions columns begins) where
   pub length-begins : length begins ≡ length versions
   length-begins = ap length kept.of_begins ∙ length-map versions (λ (v : Version). v.begin)
 
@@ -53,22 +53,14 @@ module _ (schema : Schema) (versions : List Version) (columns : List (List Value
       (λ k d l. held-kept column (cell_at (get_or versions k d).row c) ((fit k d l).held c column found))))
 
   -- what stands at a place
-  at-kept : (vs : List Version) (k : ℕ) (e : PackedRow) (d : Key) → k < length vs → (v : Version) × (get_or (map (row_of (length schema.columns)) vs) k e ≡ row_of (length schema.columns) v) × (get_or (map (λ (w : Version). w.begin) vs) k 0 ≡ v.begin) × (get_or (map (λ (w : Version). key_in schema.key w.row) vs) k d ≡ key_in schema.key v.row) × ((c : ℕ) → cell_at (map (λ row. cell_at row c) (map (λ (w : Version). w.row) vs)) k ≡ cell_at v.row c)
-  at-kept [] k e d l = absurd (omega (arith, l))
-  at-kept (v ∷ vs) zero e d l = (v, refl, refl, refl, λ c. refl)
-  at-kept (v ∷ vs) (suc k) e d l = at-kept vs k e d (omega arith)
-
-  pub keys-kept : schema.key < length schema.columns → AreKeys columns schema.key (length begins) keys
-  keys-kept there = (
-    ap length kept.of_keys ∙ length-map versions (λ (v : Version). key_in schema.key v.row) ∙ sym length-begins,
-    λ i d l.
-        let (v, _, _, key, cell) = at-kept versions i (record { cells = []; begin = 0 }) d (omega (arith, length-begins)) in
-        ap (λ ks. get_or ks i d) kept.of_keys ∙ key ∙ ap key_of_cell (sym (ap (λ cells. cell_at cells i) (kept.of_rows.cells schema.key there) ∙ cell schema.key)),
-  )
+  at-kept : (vs : List Version) (k : ℕ) (e : PackedRow) → k < length vs → (v : Version) × (get_or (map (row_of (length schema.columns)) vs) k e ≡ row_of (length schema.columns) v) × (get_or (map (λ (w : Version). w.begin) vs) k 0 ≡ v.begin) × ((c : ℕ) → cell_at (map (λ row. cell_at row c) (map (λ (w : Version). w.row) vs)) k ≡ cell_at v.row c)
+  at-kept [] k e l = absurd (omega (arith, l))
+  at-kept (v ∷ vs) zero e l = (v, refl, refl, λ c. refl)
+  at-kept (v ∷ vs) (suc k) e l = at-kept vs k e (omega arith)
 
   row-kept : (k : ℕ) (e : PackedRow) → k < length versions → get_or (map (row_of (length schema.columns)) versions) k e ≡ source_row columns begins k
   row-kept k e l =
-      let (v, row, begin, _, cell) = at-kept versions k e (key_of_cell Null) l in
+      let (v, row, begin, cell) = at-kept versions k e l in
       let cells = fill_by_all (λ c. cell_at v.row c) (map (λ column. cell_at column k) columns) (length schema.columns) Null (length-map columns (λ column. cell_at column k) ∙ kept.of_rows.counted)
       (λ c m. get_or-map (λ column. cell_at column k) columns c [] Null (omega (arith, kept.of_rows.counted)) ∙ ap (λ cells. cell_at cells k) (kept.of_rows.cells c m) ∙ cell c) in
       let at = ap (λ bs. get_or bs k 0) kept.of_begins ∙ begin in
@@ -80,6 +72,22 @@ module _ (schema : Schema) (versions : List Version) (columns : List (List Value
       fill_by_all (source_row columns begins) (map (row_of (length schema.columns)) versions) (length begins) (record { cells = []; begin = 0 })
       (length-map versions (row_of (length schema.columns)) ∙ sym length-begins) (λ k l. row-kept k (record { cells = []; begin = 0 }) (omega (arith, length-begins)))
 
+  length-column : (c : ℕ) → c < length columns → length (get_or columns c []) ≡ length begins
+  length-column c l =
+      ap length (kept.of_rows.cells c (omega (arith, kept.of_rows.counted)))
+      ∙ length-map (map (λ (v : Version). v.row) versions) (λ row. cell_at row c) ∙ length-map versions (λ (v : Version). v.row) ∙ sym length-begins
+
+  -- the cells of the key's column are numbers
+  pub keys-numbers : IsSchema schema → All (λ version. IsRowOf schema version.row) versions → AreNumbers (get_or columns schema.key []) (length begins)
+  keys-numbers is fit i l =
+      let cells = get_or columns schema.key [] in
+      let there : schema.key < length columns = omega (arith, kept.of_rows.counted, is.key_there) in
+      let numbers = subst (λ (column : List Value). All IsNumber column) (sym (kept.of_rows.cells schema.key is.key_there))
+      (All-map IsNumber (λ row. cell_at row schema.key) (map (λ (v : Version). v.row) versions)
+      (All-map (λ row. IsNumber (cell_at row schema.key)) (λ (v : Version). v.row) versions
+      (λ k d m. row_has_key schema (get_or versions k d).row is (fit k d m)))) in
+      subst IsNumber (sym (cell_at-get_or cells i)) (numbers i Null (omega (arith, l, length-column schema.key there)))
+
   module _ (order : List ℕ) (ordered : IsRowOrder columns begins order) where
     pub places-within : All (λ place. place < length begins) order
     places-within = All-permutation (λ place. place < length begins) (range_with_len 0 (length begins)) order ordered.all
@@ -90,11 +98,6 @@ module _ (schema : Schema) (versions : List Version) (columns : List (List Value
 
     pub places-apart : AllPairs (λ a b. a ≢ b) order
     places-apart i j d l m = range-apart (length begins) order ordered.all i j d l m
-
-    length-column : (c : ℕ) → c < length columns → length (get_or columns c []) ≡ length begins
-    length-column c l =
-        ap length (kept.of_rows.cells c (omega (arith, kept.of_rows.counted)))
-        ∙ length-map (map (λ (v : Version). v.row) versions) (λ row. cell_at row c) ∙ length-map versions (λ (v : Version). v.row) ∙ sym length-begins
 
     -- a column of the rows has its cells in another order
     column-moved : (c : ℕ) → c < length columns → IsPermutation (get_or columns c []) (column_of (map (source_row columns begins) order) c)
@@ -151,10 +154,10 @@ module _ (schema : Schema) (versions : List Version) (columns : List (List Value
     rows-ordered = in-order
 
 -- the group is that of the versions
-pub group-made : (schema : Schema) (versions : List Version) (floor : ℕ) (columns : List (List Value)) (keys : List Key) (begins order : List ℕ) (group : Group) → IsKept (length schema.columns) schema.key (repacked versions floor) columns keys begins → IsRowOrder columns begins order → IsArranged columns begins order schema.key floor group → IsGroupOf schema versions floor group
-group-made schema versions floor columns keys begins order group kept ordered arranged = record {
-  rows = subst (IsPermutation (map (row_of (length schema.columns)) (repacked versions floor))) (sym arranged.rows) (rows-moved schema (repacked versions floor) columns keys begins kept order ordered);
-  order = subst (AreInOrder (length schema.columns)) (sym arranged.rows) (rows-ordered schema (repacked versions floor) columns keys begins kept order ordered);
+pub group-made : (schema : Schema) (versions : List Version) (floor : ℕ) (columns : List (List Value)) (begins order : List ℕ) (group : Group) → IsKept (length schema.columns) (repacked versions floor) columns begins → IsRowOrder columns begins order → IsArranged columns begins order schema.key floor group → IsGroupOf schema versions floor group
+group-made schema versions floor columns begins order group kept ordered arranged = record {
+  rows = subst (IsPermutation (map (row_of (length schema.columns)) (repacked versions floor))) (sym arranged.rows) (rows-moved schema (repacked versions floor) columns begins kept order ordered);
+  order = subst (AreInOrder (length schema.columns)) (sym arranged.rows) (rows-ordered schema (repacked versions floor) columns begins kept order ordered);
   places = arranged.places;
   width = arranged.width ∙ kept.of_rows.counted;
   key = arranged.key;

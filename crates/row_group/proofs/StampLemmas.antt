@@ -1,13 +1,13 @@
 -- Begins of their own, one position after another.
-use Rattle.std.proofs.Common.{◌≡◌, ◌≢◌, ℕ, suc, ◌<◌, inl, inr, List, [], ◌∷◌, ◌++◌, length, get_or, refl, sym, ◌∙◌, ap, subst, arith, cond, eqb, eq-eqb, Some, None}
+use Rattle.std.proofs.Common.{◌≡◌, ◌≢◌, ℕ, suc, ◌<◌, inl, inr, List, [], ◌∷◌, ◌++◌, length, map, get_or, slice_index, refl, sym, ◌∙◌, ap, subst, arith, cond, eqb, eq-eqb, Some, None}
 use Rattle.std.specs.List.{All}
 use Rattle.std.specs.Option.{unwrap_or}
 use Rattle.std.proofs.lemmas.Bool.{cases_lt, ne_eqb}
-use Rattle.std.proofs.lemmas.List.{length_push, get_or_append_left, get_or_push}
+use Rattle.std.proofs.lemmas.List.{length_push, get_or_append_left, get_or_push, get_or_default, get_or-map, length-map}
 use Rattle.std.proofs.lemmas.List.Elements.{All-push}
 use Rattle.std.proofs.lemmas.List.Quantifiers.{all_pairs_push}
 use Rattle.row_group.specs.Fields.{stamp_in, begin_in}
-use Rattle.row_group.specs.Arranged.{AreStamps}
+use Rattle.row_group.specs.Arranged.{AreStamps, ArePicked}
 use Rattle.row_group.proofs.ShownLemmas.{stamp-none}
 
 stamp-other : (late : List (ℕ × ℕ)) (entry : ℕ × ℕ) (position : ℕ) → entry.0 ≢ position → stamp_in (late ++ entry ∷ []) position ≡ stamp_in late position
@@ -53,4 +53,22 @@ stamps-skip begins floor begin late are same = record {
         (ap (λ o. unwrap_or o floor) (stamp-none late (length begins) (λ k d m equal. let h = (are.own k d m).0 in absurd (omega (arith, h, equal))))
         ∙ sym same ∙ sym (get_or_push begins begin 0 (length begins) refl))
   ];
+}
+
+-- begins at the places of an order
+pub picked-map : (begins order : List ℕ) → All (λ place. place < length begins) order → ArePicked begins order (map (slice_index begins) order)
+picked-map begins order within = (
+  length-map order (slice_index begins),
+  λ i d l. get_or-map (slice_index begins) order i 0 d l ∙ get_or_default begins (get_or order i 0) 0 d (within i 0 l),
+)
+
+-- where each begin is the floor, none stands in the list
+pub stamps-none : (begins order : List ℕ) (floor : ℕ) → All (λ begin. begin ≡ floor) begins → All (λ place. place < length begins) order → AreStamps (map (slice_index begins) order) floor []
+stamps-none begins order floor same within = record {
+  rising = λ i j d l m. absurd (omega (arith, m));
+  own = λ i d l. absurd (omega (arith, l));
+  shown = λ position l.
+      let there : position < length order = omega (arith, l, length-map order (slice_index begins)) in
+      let place = get_or order position 0 in
+      sym (get_or-map (slice_index begins) order position 0 0 there ∙ same place 0 (within position 0 there));
 }

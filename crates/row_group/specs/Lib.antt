@@ -2,6 +2,7 @@ pub mod Orders
 pub mod Rows
 pub mod Groups
 pub mod Kept
+pub mod Marks
 pub mod Distances
 pub mod Fields
 pub mod Arranged

@@ -1,49 +1,42 @@
-ghost use Rattle.std.specs.Prelude.{◌≡◌, ◌≢◌, ◌++◌, ◌∷◌, [], ℕ, All, length, IfOk, OnOk};
+ghost use Rattle.std.specs.Prelude.{◌≡◌, ◌≢◌, ◌++◌, ◌∷◌, [], ℕ, IfOk, OnOk};
 ghost use Rattle.cs_types.specs.Rows.{cell_at};
-ghost use Rattle.cs_types.specs.Schemas.{IsSchema, IsRowOf};
 ghost use Rattle.row_group.specs.Rows.{ended_by, begin_above, repacked};
 ghost use Rattle.row_group.specs.Kept.{AreColumns, IsKept, HaveCellsMore};
 
 use cs_base::{Items, Memory};
-use cs_types::{Key, Schema, Value, Version, key_of};
+use cs_types::{Row, Value, Version};
 use std::alloc::Global;
 use std::mem;
 
-/// Versions taken apart: the cells of each column, and the keys and the begins, all in the versions' order.
+/// Versions taken apart: the cells of each column, and the begins, all in the versions' order.
 #[derive(Drop)]
 pub struct Kept {
     /// A list of cells for each column.
     pub columns: Vec<Items<Value>>,
-    /// The key of each version.
-    pub keys: Vec<Key>,
     /// The begin of each version.
     pub begins: Vec<u64>,
 }
 
-/// The versions that a group keeps: one that ended at the floor or before is left out, and a begin at most the floor
+/// The versions that a group keeps, in so many columns: one that ended at the floor or before is left out, and a begin at most the floor
 /// becomes the floor.
 pub fn kept_of(
     alloc: Global,
-    schema: &Schema,
+    width: usize,
     versions: Items<Version>,
     floor: u64,
 ) -> Result<Kept, Memory>
-    requires schema { IsSchema schema.now }
-    requires fit { All (λ version. IsRowOf schema.now version.row) versions }
-    ensures { IfOk result (λ kept. IsKept (length schema.now.columns) schema.now.key (repacked versions floor) kept.columns.items kept.keys.items kept.begins.items) }
+    ensures { IfOk result (λ kept. IsKept width (repacked versions floor) kept.columns.items kept.begins.items) }
 {
     let count = versions.len();
     let mut kept = Kept {
-        columns: empty_columns(alloc, schema.columns.len(), count)?,
-        keys: Vec::with_capacity(alloc, count)?,
+        columns: empty_columns(alloc, width, count)?,
         begins: Vec::with_capacity(alloc, count)?,
     };
     for version in versions.into_vec() {
         if !has_ended(version.end, floor) {
-            let key = key_of(schema, &version.row);
             let begin = raised(version.begin, floor);
             let Version { row, .. } = version;
-            kept.add(key, begin, row.into_vec()?)?;
+            kept.add(begin, row)?;
         }
     }
     Ok(kept)
@@ -51,13 +44,11 @@ pub fn kept_of(
 
 impl Kept {
     /// Adds a version.
-    fn add(&mut self, key: Key, begin: u64, cells: Vec<Value>) -> Result<(), Memory>
-        ensures columns { OnOk result (HaveCellsMore self.old.columns.items cells.items self.new.columns.items) }
-        ensures keys { OnOk result (self.new.keys.items ≡ self.old.keys.items ++ key ∷ []) }
+    fn add(&mut self, begin: u64, row: Row) -> Result<(), Memory>
+        ensures columns { OnOk result (HaveCellsMore self.old.columns.items row self.new.columns.items) }
         ensures begins { OnOk result (self.new.begins.items ≡ self.old.begins.items ++ begin ∷ []) }
     {
-        add_cells(&mut self.columns, cells)?;
-        self.keys.push(key)?;
+        add_cells(&mut self.columns, &row)?;
         self.begins.push(begin)?;
         Ok(())
     }
@@ -76,13 +67,12 @@ fn empty_columns(alloc: Global, width: usize, count: usize) -> Result<Vec<Items<
     Ok(columns)
 }
 
-/// Puts a cell at the end of each column, NULL where there is none for it.
-fn add_cells(columns: &mut Vec<Items<Value>>, cells: Vec<Value>) -> Result<(), Memory>
-    ensures { OnOk result (HaveCellsMore columns.old.items cells.items columns.new.items) }
+/// Puts a copy of the row's cell at the end of each column, NULL where it has none.
+fn add_cells(columns: &mut Vec<Items<Value>>, row: &Row) -> Result<(), Memory>
+    ensures { OnOk result (HaveCellsMore columns.old.items row.now columns.new.items) }
 {
-    let mut left = cells;
     for place in 0..columns.len() {
-        let cell = take_cell(&mut left, place);
+        let cell = row.cell(place).copy()?;
         columns[place].push(cell)?;
     }
     Ok(())

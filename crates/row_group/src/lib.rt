@@ -10,6 +10,7 @@
 mod arrange;
 mod distance;
 mod kept;
+mod marks;
 mod order;
 mod pack;
 mod packed;

@@ -1,14 +1,16 @@
-ghost use Rattle.std.specs.Prelude.{◌≡◌, ◌≢◌, ◌<◌, ◌↔◌, ℕ, [], All, AllPairs, length, map, slice_get, slice_index_or, IfOk, IfSome, IsNone, IsTrue, Some};
+ghost use Rattle.std.specs.Prelude.{◌≡◌, ◌≢◌, ◌<◌, ◌↔◌, ℕ, [], All, AllPairs, length, map, slice_get, slice_index, slice_index_or, IfOk, IfSome, IsNone, IsTrue, Some};
+ghost use Rattle.std.specs.Bool.{OnTrue};
 ghost use Rattle.cs_types.specs.declared.Column.{Column};
 ghost use Rattle.cs_types.specs.Kinds.{keeps};
 ghost use Rattle.cs_types.specs.Schemas.{IsSchema, IsRowOf};
 ghost use Rattle.row_group.specs.Rows.{repacked};
 ghost use Rattle.row_group.specs.Groups.{IsGroupOf};
 ghost use Rattle.row_group.specs.Kept.{IsKept};
-ghost use Rattle.row_group.specs.Arranged.{IsRowOrder, AreSegmentsOf, AreStamps, KeepColumns, AreKeys, IsArranged};
+ghost use Rattle.row_group.specs.Arranged.{IsRowOrder, AreSegmentsOf, AreStamps, KeepColumns, AreKeyCodes, AreNumbers, IsArranged};
 
-use crate::arrange::{arranged, key_order, picked, row_order};
+use crate::arrange::{arranged, row_order};
 use crate::kept::{Kept, kept_of};
+use crate::order::number_order;
 use crate::packed::Packed;
 use column_segment::{Segment, encode};
 use cs_base::{Items, Memory};
@@ -30,41 +32,37 @@ pub fn pack_rows(
     ensures none { IfOk result (λ packed. IsNone packed ↔ (repacked versions floor ≡ [])) }
     ensures group { IfOk result (λ packed. IfSome packed (λ group. IsGroupOf schema.now versions floor group)) }
 {
-    let kept = kept_of(alloc, schema, versions, floor)?;
+    let kept = kept_of(alloc, schema.columns.len(), versions, floor)?;
     if kept.begins.is_empty() {
         return Ok(None);
     }
-    let order = row_order(alloc, &kept.columns, &kept.begins)?;
-    let packed = packed_by(alloc, schema, kept, &order, floor)?;
+    let (order, keys) = row_order(alloc, &kept.columns, &kept.begins, schema.key)?;
+    let packed = packed_by(alloc, schema, kept, &order, &keys, floor)?;
     Ok(Some(packed))
 }
 
-/// The group of kept versions, at the places of an order.
+/// The group of kept versions, at the places of an order in which these are codes of their keys.
 fn packed_by(
     alloc: Global,
     schema: &Schema,
     kept: Kept,
     order: &[usize],
+    key_codes: &[u64],
     floor: u64,
 ) -> Result<Packed, Memory>
     requires columns { length kept.columns.items ≡ length schema.now.columns }
     requires cells { KeepColumns schema.now kept.columns.items }
     requires key { schema.now.key < length kept.columns.items }
-    requires keys { AreKeys kept.columns.items schema.now.key (length kept.begins.items) kept.keys.items }
+    requires numbers { AreNumbers (slice_index_or kept.columns.items schema.now.key []) (length kept.begins.items) }
+    requires codes { AreKeyCodes (slice_index_or kept.columns.items schema.now.key []) order.now key_codes.now }
     requires places { All (λ place. place < length kept.begins.items) order.now }
     requires some { 0 < length order.now }
     requires apart { AllPairs (λ a b. a ≢ b) order.now }
     ensures { IfOk result (λ group. IsArranged kept.columns.items kept.begins.items order.now schema.now.key floor group) }
 {
-    let Kept {
-        columns,
-        keys,
-        begins,
-    } = kept;
-    let keys = picked(alloc, &keys, order)?;
-    let places = key_order(alloc, &keys)?;
-    let begins = picked(alloc, &begins, order)?;
-    let late = stamps_of(alloc, &begins, floor)?;
+    let Kept { columns, begins } = kept;
+    let places = number_order(alloc, key_codes)?;
+    let late = late_of(alloc, &begins, order, floor)?;
     let segments = segments_of(alloc, schema, columns, order)?;
     Ok(Packed {
         segments,
@@ -98,14 +96,49 @@ fn segments_of(
     Ok(segments)
 }
 
-/// The begins that are not the floor, with their positions.
-fn stamps_of(alloc: Global, begins: &[u64], floor: u64) -> Result<Items<(usize, u64)>, Memory>
-    ensures { IfOk result (λ late. AreStamps begins.now floor late) }
+/// The begins that are not the floor, with their positions in an order. Where all are the floor the order is not read.
+fn late_of(
+    alloc: Global,
+    begins: &[u64],
+    order: &[usize],
+    floor: u64,
+) -> Result<Items<(usize, u64)>, Memory>
+    requires { All (λ place. place < length begins.now) order.now }
+    ensures { IfOk result (λ late. AreStamps (map (slice_index begins.now) order.now) floor late) }
+{
+    if are_all(begins, floor) {
+        return Ok(Items::new(alloc));
+    }
+    stamps_of(alloc, begins, order, floor)
+}
+
+/// Whether all begins are this one.
+fn are_all(begins: &[u64], floor: u64) -> bool
+    ensures { OnTrue result (All (λ begin. begin ≡ floor) begins.now) }
+{
+    for begin in begins {
+        if *begin != floor {
+            return false;
+        }
+    }
+    true
+}
+
+/// The same, one position after another.
+fn stamps_of(
+    alloc: Global,
+    begins: &[u64],
+    order: &[usize],
+    floor: u64,
+) -> Result<Items<(usize, u64)>, Memory>
+    requires { All (λ place. place < length begins.now) order.now }
+    ensures { IfOk result (λ late. AreStamps (map (slice_index begins.now) order.now) floor late) }
 {
     let mut late = Items::new(alloc);
-    for position in 0..begins.len() {
-        if begins[position] != floor {
-            late.push((position, begins[position]))?;
+    for position in 0..order.len() {
+        let begin = begins[order[position]];
+        if begin != floor {
+            late.push((position, begin))?;
         }
     }
     Ok(late)

@@ -5,7 +5,6 @@ use Rattle.row_group.proofs.kept.add_cells.Given as goal
 abbrev pub invariant-loop-place : goal.invariant-loop-place
 invariant-loop-place l = record {
   counted : length l.columns.items ≡ length l.initial.columns.items;
-  done : (c : ℕ) → c < l.place → get_or l.columns.items c [] ≡ get_or l.initial.columns.items c [] ++ cell_at l.fn.cells.items c ∷ [];
+  done : (c : ℕ) → c < l.place → get_or l.columns.items c [] ≡ get_or l.initial.columns.items c [] ++ cell_at l.row c ∷ [];
   open_yet : (c : ℕ) → l.place ≤ c → get_or l.columns.items c [] ≡ get_or l.initial.columns.items c [];
-  left_yet : (c : ℕ) → l.place ≤ c → cell_at l.left.items c ≡ cell_at l.fn.cells.items c;
 }

@@ -1,10 +1,10 @@
-use Rattle.std.proofs.Common.{ℕ, refl, List, map, sym, ◌∙◌, subst}
-use Rattle.cs_types.specs.declared.Key.{Key}
+use Rattle.std.proofs.Common.{ℕ, refl, List, map, slice_index, sym, subst}
 use Rattle.row_group.specs.Orders.{IsOrderOf}
 use Rattle.row_group.specs.Rows.{PackedRow}
 use Rattle.row_group.specs.Groups.{key_cmp, keys_of}
-use Rattle.row_group.specs.Arranged.{ArePicked, AreStamps, source_row}
-use Rattle.row_group.proofs.FieldLemmas.{fields-made, keys-arranged, rows-arranged}
+use Rattle.row_group.specs.Arranged.{AreStamps, source_row}
+use Rattle.row_group.proofs.FieldLemmas.{fields-made, codes-order, rows-arranged}
+use Rattle.row_group.proofs.StampLemmas.{picked-map}
 use Rattle.row_group.proofs.pack.packed_by.Goals as goal
 
 pub invariant_of-result : goal.invariant_of-result
@@ -13,13 +13,12 @@ invariant_of-result c =
     let begins = c.args.kept.begins.items in
     let order = c.args.order.now in
     let key = c.args.schema.now.key in
-    let picked_keys = subst (λ (keys : List Key). ArePicked keys order c.in_ok-keys.keys.items) c.deref.ensures.value c.in_ok-keys.ensures in
-    let picked_begins = subst (λ (all : List ℕ). ArePicked all order c.in_ok-begins.begins.items) c.deref-3.ensures.value c.in_ok-begins.ensures in
-    let stamps = subst (λ (all : List ℕ). AreStamps all c.args.floor c.in_ok-late.late) c.deref-4.ensures.value c.in_ok-late.ensures in
-    let keys = c.deref-2.ensures.value ∙ keys-arranged columns begins order c.args.kept.keys.items c.in_ok-keys.keys.items key c.requires.keys c.requires.places picked_keys in
-    let ordered = subst (λ (all : List Key). IsOrderOf key_cmp all c.in_ok-places.places.items) keys c.in_ok-places.ensures in
-    fields-made columns begins c.in_ok-begins.begins.items order c.in_ok-segments.segments c.in_ok-late.late key c.args.floor c.from_vec.result
-    c.in_ok-segments.ensures picked_begins stamps c.requires.key
+    let moved = map (slice_index begins) order in
+    let picked = picked-map begins order c.requires.places in
+    let stamps = subst (λ (all : List ℕ). AreStamps (map (slice_index all) order) c.args.floor c.in_ok-late.late) c.deref.ensures.value c.in_ok-late.ensures in
+    let ordered = codes-order columns begins order c.args.key_codes.now c.in_ok-places.places.items key c.requires.numbers c.requires.places c.requires.codes c.in_ok-places.ensures in
+    fields-made columns begins moved order c.in_ok-segments.segments c.in_ok-late.late key c.args.floor c.from_vec.result
+    c.in_ok-segments.ensures picked stamps c.requires.key
     (subst (IsOrderOf key_cmp (keys_of key (map (source_row columns begins) order))) (sym c.from_vec.ensures) ordered)
 
 pub returns : goal.returns
@@ -28,12 +27,11 @@ returns c =
     let begins = c.args.kept.begins.items in
     let order = c.args.order.now in
     let key = c.args.schema.now.key in
-    let picked_keys = subst (λ (keys : List Key). ArePicked keys order c.in_ok-keys.keys.items) c.deref.ensures.value c.in_ok-keys.ensures in
-    let picked_begins = subst (λ (all : List ℕ). ArePicked all order c.in_ok-begins.begins.items) c.deref-3.ensures.value c.in_ok-begins.ensures in
-    let stamps = subst (λ (all : List ℕ). AreStamps all c.args.floor c.in_ok-late.late) c.deref-4.ensures.value c.in_ok-late.ensures in
-    let keys = c.deref-2.ensures.value ∙ keys-arranged columns begins order c.args.kept.keys.items c.in_ok-keys.keys.items key c.requires.keys c.requires.places picked_keys in
-    let ordered = subst (λ (all : List Key). IsOrderOf key_cmp all c.in_ok-places.places.items) keys c.in_ok-places.ensures in
-    let rows = rows-arranged columns begins c.in_ok-begins.begins.items order c.in_ok-segments.segments c.in_ok-late.late c.args.floor c.in_ok-segments.ensures picked_begins stamps in
+    let moved = map (slice_index begins) order in
+    let picked = picked-map begins order c.requires.places in
+    let stamps = subst (λ (all : List ℕ). AreStamps (map (slice_index all) order) c.args.floor c.in_ok-late.late) c.deref.ensures.value c.in_ok-late.ensures in
+    let ordered = codes-order columns begins order c.args.key_codes.now c.in_ok-places.places.items key c.requires.numbers c.requires.places c.requires.codes c.in_ok-places.ensures in
+    let rows = rows-arranged columns begins moved order c.in_ok-segments.segments c.in_ok-late.late c.args.floor c.in_ok-segments.ensures picked stamps in
     record {
       rows = rows;
       places = subst (λ (all : List PackedRow). IsOrderOf key_cmp (keys_of key all) c.from_vec.result) (sym rows)
