@@ -80,11 +80,7 @@ const SCRIPTS: [(&str, Status, &str); 21] = [
         "refused line 1 reason 8 error 50001\n",
     ),
     // A byte that no line may have comes before the line's form.
-    (
-        "\u{e9}\n",
-        Status::Script,
-        "refused line 1 reason 6\n",
-    ),
+    ("\u{e9}\n", Status::Script, "refused line 1 reason 6\n"),
     (
         "setup CREATE TABLE t (k bigint NOT NULL PRIMARY KEY, v int)\ns1 SELECT\t* FROM t\nx\u{7f}\n",
         Status::Script,

@@ -1,6 +1,4 @@
 // Statements, replies and events.
-ghost use Rattle.std.specs.Prelude.{◌≡◌};
-
 use cs_base::Items;
 use cs_plans::{InsertPlan, Query};
 use cs_types::{Key, Loose};

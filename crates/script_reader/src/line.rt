@@ -25,7 +25,8 @@ pub const NO_SETUP: u32 = 2;
 fn has_line_bytes(line: &[u8]) -> bool
     ensures { result ≡ list_all is_line_byte line.now }
 {
-    line.iter().all(|byte| *byte == b'\t' || 32 <= *byte && *byte <= 126)
+    line.iter()
+        .all(|byte| *byte == b'\t' || 32 <= *byte && *byte <= 126)
 }
 
 /// Why a line is bad whatever it says.

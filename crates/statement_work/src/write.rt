@@ -6,7 +6,7 @@ ghost use Rattle.std.specs.Option.{option_copied};
 ghost use Rattle.cs_types.specs.Kinds.{IsColumnType};
 ghost use Rattle.cs_types.specs.Schemas.{IsSchema};
 ghost use Rattle.cs_predicate.specs.Expressions.{Computed, Gives};
-ghost use Rattle.cs_model.specs.Answers.{kept, computed_of, given, cells_from, rows_from, inserted};
+ghost use Rattle.cs_model.specs.Answers.{kept, computed_of, given, cells_from, inserted};
 ghost use Rattle.statement_work.specs.Gives.{GivesCell, GivesRow, GivesRows};
 ghost use Rattle.statement_work.specs.Held.{IsHeld};
 
@@ -110,7 +110,14 @@ pub fn written_rows(
     let columns = plan.columns.as_slice();
     let mut rows = Items::new(alloc);
     for (i, exprs) in plan.rows.as_slice().iter().enumerate() {
-        let row = cells(alloc, schema, columns, &none, i as u64 + 1, exprs.as_slice())?;
+        let row = cells(
+            alloc,
+            schema,
+            columns,
+            &none,
+            i as u64 + 1,
+            exprs.as_slice(),
+        )?;
         rows.push(row)?;
     }
     Ok(rows)

@@ -76,9 +76,8 @@ fn is_report(table: &TableTree) -> bool
     ensures { result ≡ spec.is_report table.now }
 {
     match &table.second {
-        Some(second) =>
-            is_same_name(table.first.bytes.as_slice(), b"sys")
-                && is_report_name(second.bytes.as_slice()),
+        Some(second) => is_same_name(table.first.bytes.as_slice(), b"sys")
+            && is_report_name(second.bytes.as_slice()),
         None => false,
     }
 }
@@ -119,12 +118,11 @@ pub fn is_postponed(statement: &Statement) -> bool
             filter,
             groups,
             order,
-        } =>
-            is_report(table)
-                || has_aggregate(items)
-                || filter.is_some()
-                || groups.is_some()
-                || order.is_some(),
+        } => is_report(table)
+            || has_aggregate(items)
+            || filter.is_some()
+            || groups.is_some()
+            || order.is_some(),
         _ => true,
     }
 }

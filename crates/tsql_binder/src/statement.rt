@@ -4,7 +4,6 @@ ghost use Rattle.std.specs.Prelude.{◌≡◌, ◌≤◌, ℕ, List, length, Res
 ghost use Rattle.cs_model.specs.declared.entry.Bound.{Bound};
 ghost use Rattle.tsql_reader.specs.Statements.{IsNoStatement, RefusesStatement, AnswersOnly};
 ghost use Rattle.tsql_faults.specs.declared.fault.Fault.{Fault};
-ghost use Rattle.tsql_binder.specs.Meaning as spec;
 ghost use Rattle.tsql_binder.specs.Meaning.{plan_of, bound_of, bound_or, Means, GivesBound};
 
 use crate::postponed::is_postponed;
@@ -29,8 +28,12 @@ fn plan_of(alloc: Global, schema: &Schema, statement: &Statement) -> Result<Boun
     ensures { IfOk result (λ bound. bound ≡ plan_of schema.now statement.now) }
 {
     match statement {
-        Statement::Insert { names, source, .. } =>
-            Ok(Bound::Insert(insert_plan(alloc, schema, names.as_ref(), source)?)),
+        Statement::Insert { names, source, .. } => Ok(Bound::Insert(insert_plan(
+            alloc,
+            schema,
+            names.as_ref(),
+            source,
+        )?)),
         Statement::Select {
             items,
             filter,
