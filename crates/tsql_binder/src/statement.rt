@@ -14,7 +14,7 @@ use cs_model::{Bound, Refusal};
 use cs_types::Schema;
 use std::alloc::Global;
 use tsql_faults::first_fault;
-use tsql_plans::{insert_plan, query};
+use tsql_plans::{filter_of, insert_plan, query, update_plan};
 use tsql_reader::{ReadRefusal, read_statement};
 use tsql_trees::Statement;
 
@@ -31,6 +31,10 @@ fn plan_of(alloc: Global, schema: &Schema, statement: &Statement) -> Result<Boun
     match statement {
         Statement::Insert { names, source, .. } =>
             Ok(Bound::Insert(insert_plan(alloc, schema, names.as_ref(), source)?)),
+        Statement::Update { sets, filter, .. } =>
+            Ok(Bound::Update(update_plan(alloc, schema, sets, filter.as_ref())?)),
+        Statement::Delete { filter, .. } =>
+            Ok(Bound::Delete(filter_of(alloc, schema, filter.as_ref())?)),
         Statement::Select {
             items,
             filter,
