@@ -1,25 +1,25 @@
 -- What a statement reads and writes, by one plain table.
-use Rattle.std.specs.Prelude.{ℕ, ◌+◌, ◌==◌, List, [], ◌∷◌, map, slice_get, Bool, true, false, Option, None, Some, Result, Ok, Err}
-use Rattle.std.specs.List.{position_from}
+use Rattle.std.specs.Prelude.{ℕ, ◌+◌, ◌==◌, ℤ, pos, ◌+ℤ◌, ◌-ℤ◌, int_lt, unsigned_abs, List, [], ◌∷◌, map, filter, slice_get, unwrap_or, if◌then◌else◌, Bool, true, false, Option, None, Some, Result, Ok, Err}
+use Rattle.std.specs.List.{position_from, range_with_len, find}
 use Rattle.std.specs.Option.{option_and_then}
 use Rattle.cs_types.specs.declared.Value.{Value}
-use Rattle.cs_types.specs.declared.Loose.{Loose}
+use Rattle.cs_types.specs.declared.Value.TheVariants.{Number}
 use Rattle.cs_types.specs.declared.Loose.TheVariants as loose
 use Rattle.cs_types.specs.declared.Column.{Column}
 use Rattle.cs_types.specs.declared.Schema.{Schema}
 use Rattle.cs_types.specs.declared.Key.{Key}
 use Rattle.cs_types.specs.declared.refusal.ValueRefusal.{ValueRefusal}
 use Rattle.cs_types.specs.Fit.{fit, refusal_number}
-use Rattle.cs_types.specs.Rows.{key_in}
+use Rattle.cs_types.specs.Rows.{cell_at, key_in}
 use Rattle.cs_plans.specs.declared.expr.Expr.{Expr}
+use Rattle.cs_plans.specs.declared.pred.Pred.{Pred}
 use Rattle.cs_plans.specs.declared.plan.InsertPlan.{InsertPlan}
-use Rattle.cs_plans.specs.declared.plan.Item.{Item}
-use Rattle.cs_plans.specs.declared.plan.Item.TheVariants as item
-use Rattle.cs_plans.specs.declared.plan.Query.{Query}
-use Rattle.cs_predicate.specs.Cells.{loose_at}
+use Rattle.cs_plans.specs.declared.plan.UpdatePlan.{UpdatePlan}
 use Rattle.cs_predicate.specs.Expressions.{Computed, compute, refusal_number as expr_number}
+use Rattle.tsql_names.specs.Names.{series_schema}
+use Rattle.batch_aggregate.specs.Answers.{keeps}
 use Rattle.cs_model.specs.declared.entry.Bound.{Bound}
-use Rattle.cs_model.specs.declared.entry.Bound.TheVariants.{Insert, Select, Refused}
+use Rattle.cs_model.specs.declared.entry.Bound.TheVariants.{Insert, Update, Delete, Select, Refused}
 use Rattle.cs_model.specs.declared.entry.Refusal.{Refusal}
 use Rattle.cs_model.specs.declared.entry.Refusal.TheVariants.{Valued}
 use Rattle.cs_model.specs.Changes.{Edit, Table}
@@ -27,29 +27,12 @@ use Rattle.cs_model.specs.Changes.{Edit, Table}
 -- whether a statement is one of the table, which takes a snapshot, in a transaction of its own where none is open
 abbrev pub is_of_table : Bound → Bool
 is_of_table (Insert plan) = true
+is_of_table (Update plan) = true
+is_of_table (Delete condition) = true
 is_of_table (Select query) = true
 is_of_table (Refused refusal) = false
 
--- ---- SELECT
-
--- what an item shows of a row: so far each item is a column
-abbrev pub shown : Schema → List Value → Item → Loose
-shown schema row (item.Column i) = loose_at schema row i
-shown schema row item.CountAll = loose.Null
-shown schema row (item.Count i) = loose.Null
-shown schema row (item.Sum i) = loose.Null
-shown schema row (item.Min i) = loose.Null
-shown schema row (item.Max i) = loose.Null
-shown schema row (item.Avg i) = loose.Null
-
-abbrev pub answer_row : Schema → Query → List Value → List Loose
-answer_row schema query row = map (shown schema row) query.items
-
--- the answer of a SELECT: its items of all rows, in the order of the keys
-abbrev pub answer : Schema → Query → Table → List (List Loose)
-answer schema query table = map (λ (entry : Key × List Value). answer_row schema query entry.1) table
-
--- ---- INSERT
+-- ---- cells and rows that are written
 
 abbrev pub numbered : Result Value ValueRefusal → Result Value ℕ
 numbered (Ok v) = Ok v
@@ -60,15 +43,6 @@ abbrev pub kept : Column → Computed → Result Value ℕ
 kept column (Ok x) = numbered (fit column.kind column.nullable x)
 kept column (Err refusal) = Err (expr_number refusal)
 
--- the value of a row of VALUES, and NULL for a column that is given none
-abbrev pub computed_of : Schema → Option Expr → Computed
-computed_of schema None = Ok loose.Null
-computed_of schema (Some expr) = compute expr [] schema
-
--- what the list of columns gives the column with this number
-abbrev pub given : List ℕ → List Expr → ℕ → Option Expr
-given columns exprs i = option_and_then (slice_get exprs) (position_from (λ c. c == i) 0 columns)
-
 -- a cell before those behind it, or its refusal with the column, counted from 1
 abbrev pub cell_onto : ℕ → Result Value ℕ → Result (List Value) (ℕ × ℕ) → Result (List Value) (ℕ × ℕ)
 cell_onto i (Err number) cells = Err (number, i + 1)
@@ -76,27 +50,55 @@ cell_onto i (Ok v) (Ok cells) = Ok (v ∷ cells)
 cell_onto i (Ok v) (Err refusal) = Err refusal
 
 -- the cells of these columns, from the i-th on, or the first refusal of one
-abbrev pub cells_from : Schema → List ℕ → List Expr → ℕ → List Column → Result (List Value) (ℕ × ℕ)
-cells_from schema columns exprs i [] = Ok []
-cells_from schema columns exprs i (column ∷ rest) =
-    cell_onto i (kept column (computed_of schema (given columns exprs i))) (cells_from schema columns exprs (i + 1) rest)
+abbrev pub cells_from : (ℕ → Column → Result Value ℕ) → ℕ → List Column → Result (List Value) (ℕ × ℕ)
+cells_from cell i [] = Ok []
+cells_from cell i (column ∷ rest) = cell_onto i (cell i column) (cells_from cell (i + 1) rest)
 
--- a row before those behind it, or its refusal with the row
-abbrev pub row_onto : ℕ → Result (List Value) (ℕ × ℕ) → Result (List (List Value)) Refusal → Result (List (List Value)) Refusal
+-- what is written of a row before what is written of those behind it, or its refusal with the row
+abbrev pub row_onto : {Y : Type 0} → ℕ → Result Y (ℕ × ℕ) → Result (List Y) Refusal → Result (List Y) Refusal
 row_onto n (Err refusal) rows = Err (Valued refusal.0 n refusal.1)
 row_onto n (Ok row) (Ok rows) = Ok (row ∷ rows)
 row_onto n (Ok row) (Err refusal) = Err refusal
 
--- the rows of these values, of which the first one is the n-th, or the first refusal of one
-abbrev pub rows_from : Schema → List ℕ → ℕ → List (List Expr) → Result (List (List Value)) Refusal
-rows_from schema columns n [] = Ok []
-rows_from schema columns n (exprs ∷ rest) = row_onto n (cells_from schema columns exprs 0 schema.columns) (rows_from schema columns (n + 1) rest)
+-- what is written of these, of which the first one is the n-th, or the first refusal of one
+abbrev pub rows_from : {X Y : Type 0} → (X → Result Y (ℕ × ℕ)) → ℕ → List X → Result (List Y) Refusal
+rows_from row n [] = Ok []
+rows_from row n (x ∷ rest) = row_onto n (row x) (rows_from row (n + 1) rest)
+
+-- ---- INSERT
+
+-- the value that a column is given over a row, and NULL where it is given none
+abbrev pub computed_of : Schema → List Value → Option Expr → Computed
+computed_of source row None = Ok loose.Null
+computed_of source row (Some expr) = compute expr row source
+
+-- what the list of columns gives the column with this number
+abbrev pub given : List ℕ → List Expr → ℕ → Option Expr
+given columns exprs i = option_and_then (slice_get exprs) (position_from (λ c. c == i) 0 columns)
+
+abbrev pub inserted_cell : Schema → List Value → List ℕ → List Expr → ℕ → Column → Result Value ℕ
+inserted_cell source row columns exprs i column = kept column (computed_of source row (given columns exprs i))
+
+-- a row of these expressions, which read a row of the source
+abbrev pub inserted_row : Schema → Schema → List ℕ → List Value → List Expr → Result (List Value) (ℕ × ℕ)
+inserted_row schema source columns row exprs = cells_from (inserted_cell source row columns exprs) 0 schema.columns
+
+-- the numbers of a series, from its first to its last
+abbrev pub series_len : ℤ → ℤ → ℕ
+series_len start stop = if int_lt stop start then 0 else unsigned_abs (stop -ℤ start) + 1
+
+abbrev pub series : ℤ × ℤ → List ℤ
+series ends = map (λ i. ends.0 +ℤ pos i) (range_with_len 0 (series_len ends.0 ends.1))
+
+-- the row of VALUES, which read nothing; and a row over each number of a series
+abbrev pub inserted_by : Schema → List ℕ → List (List Expr) → Option (ℤ × ℤ) → Result (List (List Value)) Refusal
+inserted_by schema columns rows None = rows_from (inserted_row schema schema columns []) 1 rows
+inserted_by schema columns rows (Some ends) =
+    rows_from (λ number. inserted_row schema series_schema columns (Number number ∷ []) (unwrap_or (slice_get rows 0) [])) 1 (series ends)
 
 -- the rows that an INSERT writes, or its first value refusal by row and then by column
 abbrev pub inserted : Schema → InsertPlan → Result (List (List Value)) Refusal
-inserted schema plan = rows_from schema plan.columns 1 plan.rows
-
--- ---- writes
+inserted schema plan = inserted_by schema plan.columns plan.rows plan.series
 
 -- each row at its key, where a key may stand twice; their order decides nothing
 abbrev pub edits_of : Schema → List (List Value) → List Edit
@@ -106,8 +108,44 @@ abbrev pub edits_by : Schema → Result (List (List Value)) Refusal → Result (
 edits_by schema (Ok rows) = Ok (edits_of schema rows)
 edits_by schema (Err refusal) = Err refusal
 
--- what a statement writes, or its first value refusal
-abbrev pub writes : Schema → Bound → Result (List Edit) Refusal
-writes schema (Insert plan) = edits_by schema (inserted schema plan)
-writes schema (Select query) = Ok []
-writes schema (Refused refusal) = Ok []
+-- ---- UPDATE and DELETE
+
+-- the rows of the table, in the order of their keys, that a condition keeps
+abbrev pub chosen : Schema → Option Pred → Table → Table
+chosen schema condition table = filter (λ (entry : Key × List Value). keeps schema condition entry.1) table
+
+-- what a column becomes: the value of what it is set to over the row as it was, and else what it was
+abbrev pub updated_by : Schema → List Value → ℕ → Column → Option (ℕ × Expr) → Result Value ℕ
+updated_by schema row i column None = Ok (cell_at row i)
+updated_by schema row i column (Some set) = kept column (compute set.1 row schema)
+
+abbrev pub updated_cell : Schema → List (ℕ × Expr) → List Value → ℕ → Column → Result Value ℕ
+updated_cell schema sets row i column = updated_by schema row i column (find (λ (set : ℕ × Expr). set.0 == i) sets)
+
+abbrev pub updated_row : Schema → List (ℕ × Expr) → List Value → Result (List Value) (ℕ × ℕ)
+updated_row schema sets row = cells_from (updated_cell schema sets row) 0 schema.columns
+
+-- a row at its key
+abbrev pub at_key : Key → Result (List Value) (ℕ × ℕ) → Result Edit (ℕ × ℕ)
+at_key key (Ok row) = Ok (key, Some row)
+at_key key (Err refusal) = Err refusal
+
+abbrev pub updated_entry : Schema → List (ℕ × Expr) → Key × List Value → Result Edit (ℕ × ℕ)
+updated_entry schema sets entry = at_key entry.0 (updated_row schema sets entry.1)
+
+-- what an UPDATE writes, or its first value refusal by row and then by column; its rows are counted among those it changes
+abbrev pub updated : Schema → UpdatePlan → Table → Result (List Edit) Refusal
+updated schema plan table = rows_from (updated_entry schema plan.sets) 1 (chosen schema plan.filter table)
+
+abbrev pub deleted : Schema → Option Pred → Table → List Edit
+deleted schema condition table = map (λ (entry : Key × List Value). (entry.0, None)) (chosen schema condition table)
+
+-- ---- writes
+
+-- what a statement writes over the table that it reads, or its first value refusal
+abbrev pub writes : Schema → Table → Bound → Result (List Edit) Refusal
+writes schema table (Insert plan) = edits_by schema (inserted schema plan)
+writes schema table (Update plan) = updated schema plan table
+writes schema table (Delete condition) = Ok (deleted schema condition table)
+writes schema table (Select query) = Ok []
+writes schema table (Refused refusal) = Ok []

@@ -5,7 +5,7 @@ use Rattle.std.specs.BTreeMap.{is_at}
 use Rattle.std.specs.Map.{lookup}
 use Rattle.cs_types.specs.declared.Key.{Key}
 use Rattle.cs_model.specs.declared.entry.Bound.{Bound}
-use Rattle.cs_model.specs.declared.entry.Bound.TheVariants.{Insert, Select, Refused}
+use Rattle.cs_model.specs.declared.entry.Bound.TheVariants.{Insert, Update, Delete, Select, Refused}
 use Rattle.cs_model.specs.declared.entry.Refusal.{Refusal}
 use Rattle.cs_model.specs.declared.entry.Refusal.TheVariants.{Reading, Valued, Duplicate, Memory}
 use Rattle.cs_model.specs.Keys.{key_cmp, same_key}
@@ -27,6 +27,8 @@ stands_twice keys key = nat_lt 1 (count_by (λ other. same_key key other) keys)
 -- whether an INSERT of these edits would make a key stand twice: it is in what the statement reads, or twice in its list
 abbrev pub is_present : Bound → List Edit → Table → Key → Bool
 is_present (Insert plan) edits table key = has_row table key || stands_twice (keys_of edits) key
+is_present (Update plan) edits table key = false
+is_present (Delete condition) edits table key = false
 is_present (Select query) edits table key = false
 is_present (Refused refusal) edits table key = false
 

@@ -1,12 +1,13 @@
 -- What an event does to the state: a relation by cases of the event.
 use Rattle.std.specs.Prelude.{◌≡◌, ◌⊎◌, ℕ, ◌+◌, List, [], ◌∷◌, ◌++◌, length, map, fold, Bool, true, false, ◌==◌, if◌then◌else◌, is_some, Option, None, Some, Result, Ok, Err}
 use Rattle.std.specs.BTreeMap.{insert_entry}
+use Rattle.std.specs.Map.{values_of}
 use Rattle.cs_types.specs.declared.Loose.{Loose}
 use Rattle.cs_types.specs.declared.Schema.{Schema}
 use Rattle.cs_model.specs.declared.entry.Bound.{Bound}
 use Rattle.cs_model.specs.declared.entry.Bound.TheVariants as bound
 use Rattle.cs_model.specs.declared.entry.Refusal.{Refusal}
-use Rattle.cs_model.specs.declared.entry.Refusal.TheVariants.{Memory}
+use Rattle.cs_model.specs.declared.entry.Refusal.TheVariants.{Valued, Memory}
 use Rattle.cs_model.specs.declared.entry.Reply.{Reply}
 use Rattle.cs_model.specs.declared.entry.Reply.TheVariants as reply
 use Rattle.cs_model.specs.declared.entry.Entry.{Entry}
@@ -14,7 +15,8 @@ use Rattle.cs_model.specs.declared.entry.Entry.TheVariants.{Start, Finish, End}
 use Rattle.cs_model.specs.Keys.{key_cmp}
 use Rattle.cs_model.specs.Changes.{Edit, Table, Change}
 use Rattle.cs_model.specs.State.{Txn, Half, State, start, with, txn_set, half_set, seen}
-use Rattle.cs_model.specs.Answers.{is_of_table, answer, writes}
+use Rattle.batch_aggregate.specs.Answers.{answer}
+use Rattle.cs_model.specs.Answers.{is_of_table, writes}
 use Rattle.cs_model.specs.Obstacles.{keys_of, is_present, IsObstacle, IsJudged}
 
 -- ---- Start
@@ -50,10 +52,15 @@ started m session b short = half_set (if is_of_table b then pinned m session sho
 -- ---- the reply of a Finish
 
 -- an answer of rows; it has counts of segments exactly where the session's setting is on
-abbrev pub IsAnswer : Bool → List (List Loose) → Reply → Type 0
-IsAnswer on rows (reply.Rows list segments) = (list ≡ rows) × (is_some segments ≡ on)
-IsAnswer on rows (reply.Affected count) = ⊥
-IsAnswer on rows (reply.Refused refusal) = ⊥
+abbrev pub IsRows : Bool → List (List Loose) → Reply → Type 0
+IsRows on rows (reply.Rows list segments) = (list ≡ rows) × (is_some segments ≡ on)
+IsRows on rows (reply.Affected count) = ⊥
+IsRows on rows (reply.Refused refusal) = ⊥
+
+-- the reply to a query: its rows, or 8115 with the row and the item whose whole count or sum is out of its range
+abbrev pub IsAnswer : Bool → Result (List (List Loose)) (ℕ × ℕ) → Reply → Type 0
+IsAnswer on (Ok rows) r = IsRows on rows r
+IsAnswer on (Err place) r = r ≡ reply.Refused (Valued 8115 place.0 place.1)
 
 -- the reply to a write of these edits: the obstacle, or how many edits there are
 abbrev pub IsWritten : (Option Refusal → Type 0) → List Edit → Reply → Type 0
@@ -67,15 +74,19 @@ IsWriteReplyOf m session table b (Err refusal) r = r ≡ reply.Refused refusal
 IsWriteReplyOf m session table b (Ok edits) r = IsWritten (IsJudged (IsObstacle m session (is_present b edits table)) (keys_of edits)) edits r
 
 abbrev pub IsWriteReply : Schema → State → ℕ → Table → Bound → Reply → Type 0
-IsWriteReply schema m session table b r = IsWriteReplyOf m session table b (writes schema b) r
+IsWriteReply schema m session table b r = IsWriteReplyOf m session table b (writes schema table b) r
 
 -- the reply that a statement is defined to have, with the session's transaction; one of the table has none without it
 abbrev pub IsReplyIn : Schema → State → ℕ → Option Txn → Bound → Reply → Type 0
 IsReplyIn schema m session txn (bound.Refused refusal) r = r ≡ reply.Refused refusal
 IsReplyIn schema m session None (bound.Select query) r = ⊥
-IsReplyIn schema m session (Some txn) (bound.Select query) r = IsAnswer (m.statistics session) (answer schema query (seen m.changes txn)) r
+IsReplyIn schema m session (Some txn) (bound.Select query) r = IsAnswer (m.statistics session) (answer schema query (values_of (seen m.changes txn))) r
 IsReplyIn schema m session None (bound.Insert plan) r = ⊥
 IsReplyIn schema m session (Some txn) (bound.Insert plan) r = IsWriteReply schema m session (seen m.changes txn) (bound.Insert plan) r
+IsReplyIn schema m session None (bound.Update plan) r = ⊥
+IsReplyIn schema m session (Some txn) (bound.Update plan) r = IsWriteReply schema m session (seen m.changes txn) (bound.Update plan) r
+IsReplyIn schema m session None (bound.Delete condition) r = ⊥
+IsReplyIn schema m session (Some txn) (bound.Delete condition) r = IsWriteReply schema m session (seen m.changes txn) (bound.Delete condition) r
 
 abbrev pub IsReply : Schema → State → ℕ → Bound → Reply → Type 0
 IsReply schema m session b r = IsReplyIn schema m session (m.txns session) b r
@@ -103,20 +114,20 @@ commits m session txn =
     if is_empty txn.own then gone m session
     else record (gone m session) { changes = m.changes ++ committed (m.clock + 1) txn; clock = m.clock + 1 }
 
--- after a statement that was not refused: its edits are the transaction's own, and an implicit transaction commits
-abbrev pub accepted_in : State → ℕ → Option Txn → List Edit → State
-accepted_in m session None edits = m
-accepted_in m session (Some txn) edits =
-    let after = record txn { own = staged txn.own edits } in
-    if txn.depth == 0 then commits m session after else txn_set m session (Some after)
-
 -- the edits of a write that was not refused
 abbrev pub edits_in : Result (List Edit) Refusal → List Edit
 edits_in (Ok edits) = edits
 edits_in (Err refusal) = []
 
+-- after a statement that was not refused: what it writes is the transaction's own, and an implicit transaction commits
+abbrev pub accepted_in : Schema → State → ℕ → Option Txn → Bound → State
+accepted_in schema m session None b = m
+accepted_in schema m session (Some txn) b =
+    let after = record txn { own = staged txn.own (edits_in (writes schema (seen m.changes txn) b)) } in
+    if txn.depth == 0 then commits m session after else txn_set m session (Some after)
+
 abbrev pub accepted : Schema → State → ℕ → Bound → State
-accepted schema m session b = accepted_in m session (m.txns session) (edits_in (writes schema b))
+accepted schema m session b = accepted_in schema m session (m.txns session) b
 
 -- whether a refusal ends the transaction: every one ends an implicit one
 abbrev pub ends_txn : Txn → Refusal → Bool

@@ -1,6 +1,6 @@
 // Statements, replies and events.
 use cs_base::Items;
-use cs_plans::{InsertPlan, Query};
+use cs_plans::{InsertPlan, Pred, Query, UpdatePlan};
 use cs_types::{Key, Loose};
 
 /// A row of an answer: a value for each item of the query.
@@ -9,8 +9,12 @@ pub type AnswerRow = Items<Loose>;
 /// A statement as it is bound to the table, or why it is refused.
 #[derive(Debug, Drop)]
 pub enum Bound {
-    /// INSERT of the rows of VALUES.
+    /// INSERT of the rows of VALUES, or of a row over each number of a series.
     Insert(InsertPlan),
+    /// UPDATE of the rows for which its filter is true.
+    Update(UpdatePlan),
+    /// DELETE of the rows for which the condition is true, or of all rows.
+    Delete(Option<Pred>),
     /// SELECT from the table.
     Select(Query),
     /// Reading or binding refused the text, or there was no memory for it.

@@ -1,7 +1,9 @@
 -- A statement's Start and Finish, while no session has a transaction.
 use Rattle.std.proofs.Common.{◌≡◌, ℕ, ◌+◌, List, [], ◌∷◌, ◌++◌, refl, sym, ap, subst, ◌∙◌, cond, Bool, true, false, inr, arith}
 use Rattle.std.specs.Prelude.{◌==◌, Option, None, Some, Result, Ok, Err}
+use Rattle.std.specs.Map.{values_of}
 use Rattle.std.proofs.lemmas.Bool.Decides.{nat_tests}
+use Rattle.cs_types.specs.declared.Loose.{Loose}
 use Rattle.cs_types.specs.declared.Schema.{Schema}
 use Rattle.cs_model.specs.declared.entry.Bound.{Bound}
 use Rattle.cs_model.specs.declared.entry.Bound.TheVariants as bound
@@ -10,11 +12,12 @@ use Rattle.cs_model.specs.declared.entry.Reply.{Reply}
 use Rattle.cs_model.specs.declared.entry.Reply.TheVariants as reply
 use Rattle.cs_model.specs.declared.entry.Entry.{Entry}
 use Rattle.cs_model.specs.declared.entry.Entry.TheVariants.{Start, Finish, End}
-use Rattle.cs_model.specs.Answers.{is_of_table, answer, writes}
+use Rattle.batch_aggregate.specs.Answers.{answer}
+use Rattle.cs_model.specs.Answers.{is_of_table, writes}
 use Rattle.cs_model.specs.Changes.{Edit, Table, Change, table, laid}
-use Rattle.cs_model.specs.State.{Txn, State, with}
+use Rattle.cs_model.specs.State.{Txn, State, with, half_set}
 use Rattle.cs_model.specs.Steps.{IsFinish, pinned, IsAnswer, IsWriteReplyOf, IsWriteReply, edits_in, IsReplyIn, Leads, started, finished, accepted_in, refused_in, commits, gone, committed, staged}
-use Rattle.statement_core.specs.Answers.{Answers}
+use Rattle.statement_core.specs.Answers.{AnswersWrite, Answers}
 use Rattle.statement_core.specs.Running.{resting}
 use Rattle.statement_core.proofs.Commits.{IsNumbered, numbered_after, table_after}
 
@@ -65,18 +68,18 @@ pub record Turned (schema : Schema) (changes : List Change) (clock next s : ℕ)
   pub stands : after ≡ table then later
 
 module _ (schema : Schema) (changes : List Change) (clock next s : ℕ) where
-  -- a Start and a Finish with the defined reply
-  turn_leads : (b : Bound) (r : Reply) (txn : Option Txn) (after : State) → (started (resting changes clock next) s b false).txns s ≡ txn
-      → IsReplyIn schema (started (resting changes clock next) s b false) s txn b r → finished schema (started (resting changes clock next) s b false) s b r ≡ after
-      → Leads schema (resting changes clock next) (turn s b r) after
-  turn_leads b r txn after has reply is = (
-    started (resting changes clock next) s b false,
-    (refl, (λ e. cc), refl),
+  -- a Start that leads to a state, and a Finish with the defined reply
+  turn_leads : (b : Bound) (r : Reply) (txn : Option Txn) (mid after : State) → started (resting changes clock next) s b false ≡ mid → mid.half s ≡ Some (record { bound = b; short = false }) → mid.txns s ≡ txn
+      → IsReplyIn schema mid s txn b r → finished schema mid s b r ≡ after → Leads schema (resting changes clock next) (turn s b r) after
+  turn_leads b r txn mid after begins half has reply is = (
+    mid,
+    (refl, (λ e. cc), sym begins),
     (
-      finished schema (started (resting changes clock next) s b false) s b r,
-      subst (λ h. IsFinish schema (started (resting changes clock next) s b false) s h r (finished schema (started (resting changes clock next) s b false) s b r))
-          (sym (ap (λ t. cond t (Some (record { bound = b; short = false })) ((cond (is_of_table b) (pinned (resting changes clock next) s false) (resting changes clock next)).half s)) (same s)))
-          (inr (refl, subst (λ t. IsReplyIn schema (started (resting changes clock next) s b false) s t b r) (sym has) reply), refl),
+      finished schema mid s b r,
+      (
+        subst (λ h. IsFinish schema mid s h r (finished schema mid s b r)) (sym half)
+            (inr (refl, subst (λ t. IsReplyIn schema mid s t b r) (sym has) reply), refl)
+      ),
       sym is,
     ),
   )
@@ -85,7 +88,24 @@ module _ (schema : Schema) (changes : List Change) (clock next s : ℕ) where
   abbrev opened : Txn
   opened = record { number = next; depth = 0; snapshot = Some clock; own = [] }
 
-  -- the state between the Start and the effect of the Finish of such a statement
+  -- the state after the Start of such a statement
+  abbrev begun : Bound → State
+  begun b = record {
+    changes = changes;
+    clock = clock;
+    txns = with (λ _. None) s (Some opened);
+    half = with (λ _. None) s (Some (record { bound = b; short = false }));
+    statistics = λ _. false;
+    next = next + 1;
+  }
+
+  begins : (b : Bound) → is_of_table b ≡ true → started (resting changes clock next) s b false ≡ begun b
+  begins b is = ap (λ t. half_set (cond t (pinned (resting changes clock next) s false) (resting changes clock next)) s (Some (record { bound = b; short = false }))) is
+
+  is_half : (b : Bound) → (with (λ _. None) s (Some (record { bound = b; short = false }))) s ≡ Some (record { bound = b; short = false })
+  is_half b = at_itself (λ _. None) s (Some (record { bound = b; short = false }))
+
+  -- the state between its Start and the effect of its Finish
   abbrev between : Bound → State
   between b = record {
     changes = changes;
@@ -112,7 +132,7 @@ module _ (schema : Schema) (changes : List Change) (clock next s : ℕ) where
 
   refused_turned : (refusal : Refusal) → Leads schema (resting changes clock next) (turn s (bound.Refused refusal) (reply.Refused refusal)) (resting changes clock next)
   refused_turned refusal =
-      turn_leads (bound.Refused refusal) (reply.Refused refusal) None (resting changes clock next) refl refl
+      turn_leads (bound.Refused refusal) (reply.Refused refusal) None (started (resting changes clock next) s (bound.Refused refusal) false) (resting changes clock next) refl (is_half (bound.Refused refusal)) refl refl
       (λ i. record { changes = changes; clock = clock; txns = λ _. None; half = cleared s (Some (record { bound = bound.Refused refusal; short = false })) i; statistics = λ _. false; next = next })
 
   -- the changes after a commit of these own writes, and their table
@@ -135,6 +155,42 @@ module _ (schema : Schema) (changes : List Change) (clock next s : ℕ) where
         stands = sym (table_after clock changes txn n);
       }
 
+  no_rows : (b : Bound) (table : Table) (list : List (List Loose)) (segments : Option (ℕ × ℕ)) (w : Result (List Edit) Refusal) → IsWriteReplyOf (begun b) s table b w (reply.Rows list segments) → ⊥
+  no_rows b table list segments (Ok edits) h = h
+  no_rows b table list segments (Err refusal) h = cc
+
+  -- a turn of a write
+  write_turned : (rows after : Table) (b : Bound) (r : Reply) → is_of_table b ≡ true → (IsWriteReply schema (begun b) s (table changes clock) b r → IsReplyIn schema (begun b) s (Some opened) b r)
+      → IsNumbered clock changes → rows ≡ table changes clock → AnswersWrite schema rows b r after → Turned schema changes clock next s b r after
+  write_turned rows after b (reply.Rows list segments) is to n e a = absurd (no_rows b rows list segments (writes schema rows b) (a.0 (begun b) s))
+  write_turned rows after b (reply.Refused refusal) is to n e a = record {
+    then = changes;
+    later = clock;
+    drawn = next + 1;
+    leads = turn_leads b (reply.Refused refusal) (Some opened) (begun b) (resting changes clock (next + 1)) (begins b is) (is_half b) has_opened
+        (to (subst (λ t. IsWriteReply schema (begun b) s t b (reply.Refused refusal)) e (a.0 (begun b) s)))
+        (ap (λ t. refused_in (between b) s t refusal) has_opened ∙ gone_rests b changes clock);
+    numbered = n;
+    stands = a.1 ∙ e;
+  }
+  write_turned rows after b (reply.Affected count) is to n e a =
+      let edits = edits_in (writes schema (table changes clock) b) in
+      let k = committed_by b (staged [] edits) n in
+      record {
+        then = k.then;
+        later = k.later;
+        drawn = next + 1;
+        leads = turn_leads b (reply.Affected count) (Some opened) (begun b) (resting k.then k.later (next + 1)) (begins b is) (is_half b) has_opened
+            (to (subst (λ t. IsWriteReply schema (begun b) s t b (reply.Affected count)) e (a.0 (begun b) s)))
+            (ap (λ t. accepted_in schema (between b) s t b) has_opened ∙ k.rests);
+        numbered = k.numbered;
+        stands = a.1 ∙ ap (λ t. laid t (staged [] (edits_in (writes schema t b)))) e ∙ k.stands;
+      }
+
+  no_count : (count : ℕ) (answered : Result (List (List Loose)) (ℕ × ℕ)) → IsAnswer false answered (reply.Affected count) → ⊥
+  no_count count (Ok rows) h = h
+  no_count count (Err place) h = cc
+
   pub turned : (rows after : Table) (b : Bound) (r : Reply) → IsNumbered clock changes → rows ≡ table changes clock → Answers schema rows b r after → Turned schema changes clock next s b r after
   turned rows after (bound.Refused refusal) r n e a =
       subst (λ x. Turned schema changes clock next s (bound.Refused refusal) x after) (sym a.0) (record {
@@ -145,43 +201,27 @@ module _ (schema : Schema) (changes : List Change) (clock next s : ℕ) where
         numbered = n;
         stands = a.1 ∙ e;
       })
-  turned rows after (bound.Select query) (reply.Affected count) n e a = absurd a.0
-  turned rows after (bound.Select query) (reply.Refused refusal) n e a = absurd a.0
+  turned rows after (bound.Select query) (reply.Affected count) n e a = absurd (no_count count (answer schema query (values_of rows)) a.0)
+  turned rows after (bound.Select query) (reply.Refused refusal) n e a = record {
+    then = changes;
+    later = clock;
+    drawn = next + 1;
+    leads = turn_leads (bound.Select query) (reply.Refused refusal) (Some opened) (begun (bound.Select query)) (resting changes clock (next + 1)) refl (is_half (bound.Select query)) has_opened
+        (subst (λ t. IsAnswer false (answer schema query (values_of t)) (reply.Refused refusal)) e a.0)
+        (ap (λ t. refused_in (between (bound.Select query)) s t refusal) has_opened ∙ gone_rests (bound.Select query) changes clock);
+    numbered = n;
+    stands = a.1 ∙ e;
+  }
   turned rows after (bound.Select query) (reply.Rows list segments) n e a = record {
     then = changes;
     later = clock;
     drawn = next + 1;
-    leads = turn_leads (bound.Select query) (reply.Rows list segments) (Some opened) (resting changes clock (next + 1)) has_opened
-        (subst (λ t. IsAnswer false (answer schema query t) (reply.Rows list segments)) e a.0)
-        (ap (λ t. accepted_in (between (bound.Select query)) s t []) has_opened ∙ gone_rests (bound.Select query) changes clock);
+    leads = turn_leads (bound.Select query) (reply.Rows list segments) (Some opened) (begun (bound.Select query)) (resting changes clock (next + 1)) refl (is_half (bound.Select query)) has_opened
+        (subst (λ t. IsAnswer false (answer schema query (values_of t)) (reply.Rows list segments)) e a.0)
+        (ap (λ t. accepted_in schema (between (bound.Select query)) s t (bound.Select query)) has_opened ∙ gone_rests (bound.Select query) changes clock);
     numbered = n;
     stands = a.1 ∙ e;
   }
-  turned rows after (bound.Insert plan) (reply.Rows list segments) n e a = absurd (no_rows (writes schema (bound.Insert plan)) (a.0 (resting changes clock next) s))
-    where
-      no_rows : (w : Result (List Edit) Refusal) → IsWriteReplyOf (resting changes clock next) s rows (bound.Insert plan) w (reply.Rows list segments) → ⊥
-      no_rows (Ok edits) h = h
-      no_rows (Err refusal) h = cc
-  turned rows after (bound.Insert plan) (reply.Refused refusal) n e a = record {
-    then = changes;
-    later = clock;
-    drawn = next + 1;
-    leads = turn_leads (bound.Insert plan) (reply.Refused refusal) (Some opened) (resting changes clock (next + 1)) has_opened
-        (subst (λ t. IsWriteReply schema (started (resting changes clock next) s (bound.Insert plan) false) s t (bound.Insert plan) (reply.Refused refusal)) e (a.0 (started (resting changes clock next) s (bound.Insert plan) false) s))
-        (ap (λ t. refused_in (between (bound.Insert plan)) s t refusal) has_opened ∙ gone_rests (bound.Insert plan) changes clock);
-    numbered = n;
-    stands = a.1 ∙ e;
-  }
-  turned rows after (bound.Insert plan) (reply.Affected count) n e a =
-      let edits = edits_in (writes schema (bound.Insert plan)) in
-      let k = committed_by (bound.Insert plan) (staged [] edits) n in
-      record {
-        then = k.then;
-        later = k.later;
-        drawn = next + 1;
-        leads = turn_leads (bound.Insert plan) (reply.Affected count) (Some opened) (resting k.then k.later (next + 1)) has_opened
-            (subst (λ t. IsWriteReply schema (started (resting changes clock next) s (bound.Insert plan) false) s t (bound.Insert plan) (reply.Affected count)) e (a.0 (started (resting changes clock next) s (bound.Insert plan) false) s))
-            (ap (λ t. accepted_in (between (bound.Insert plan)) s t edits) has_opened ∙ k.rests);
-        numbered = k.numbered;
-        stands = a.1 ∙ ap (λ t. laid t (staged [] edits)) e ∙ k.stands;
-      }
+  turned rows after (bound.Insert plan) r n e a = write_turned rows after (bound.Insert plan) r refl (λ h. h) n e a
+  turned rows after (bound.Update plan) r n e a = write_turned rows after (bound.Update plan) r refl (λ h. h) n e a
+  turned rows after (bound.Delete condition) r n e a = write_turned rows after (bound.Delete condition) r refl (λ h. h) n e a

@@ -9,7 +9,8 @@ use Rattle.cs_model.specs.declared.entry.Bound.TheVariants as bound
 use Rattle.cs_model.specs.declared.entry.Reply.{Reply}
 use Rattle.cs_model.specs.declared.entry.Reply.TheVariants as reply
 use Rattle.cs_model.specs.Changes.{Edit, Table, laid}
-use Rattle.cs_model.specs.Answers.{answer, edits_of, writes}
+use Rattle.batch_aggregate.specs.Answers.{answer}
+use Rattle.cs_model.specs.Answers.{edits_of, writes}
 use Rattle.cs_model.specs.Obstacles.{has_row, stands_twice, keys_of, IsObstacle, IsJudged}
 use Rattle.cs_model.specs.State.{State}
 use Rattle.cs_model.specs.Text.{IsPrintableRefusal}
@@ -23,6 +24,8 @@ IsTableHeld schema table = All (IsHeld schema) (values_of table)
 -- what a bound statement that is run meets: its refusal can be printed
 abbrev pub IsReady : Schema → Bound → Type 0
 IsReady schema (bound.Insert plan) = Unit {0}
+IsReady schema (bound.Update plan) = Unit {0}
+IsReady schema (bound.Delete condition) = Unit {0}
 IsReady schema (bound.Select query) = Unit {0}
 IsReady schema (bound.Refused refusal) = IsPrintableRefusal schema refusal
 
@@ -41,9 +44,15 @@ abbrev pub AnswersEdits : Table → List Edit → Reply → Table → Type 0
 AnswersEdits table edits r after =
     ((m : State) (session : ℕ) → IsWritten (IsJudged (IsObstacle m session (is_taken table edits)) (keys_of edits)) edits r) × (after ≡ left_by table edits r)
 
+-- the reply to a write over a table, and the table after it
+abbrev pub AnswersWrite : Schema → Table → Bound → Reply → Table → Type 0
+AnswersWrite schema table b r after =
+    ((m : State) (session : ℕ) → IsWriteReply schema m session table b r) × (after ≡ left_by table (edits_in (writes schema table b)) r)
+
 -- the reply over a table where no session but the one that writes has a transaction, and the table after it
 abbrev pub Answers : Schema → Table → Bound → Reply → Table → Type 0
 Answers schema table (bound.Refused refusal) r after = (r ≡ reply.Refused refusal) × (after ≡ table)
-Answers schema table (bound.Select query) r after = IsAnswer false (answer schema query table) r × (after ≡ table)
-Answers schema table (bound.Insert plan) r after =
-    ((m : State) (session : ℕ) → IsWriteReply schema m session table (bound.Insert plan) r) × (after ≡ left_by table (edits_in (writes schema (bound.Insert plan))) r)
+Answers schema table (bound.Select query) r after = IsAnswer false (answer schema query (values_of table)) r × (after ≡ table)
+Answers schema table (bound.Insert plan) r after = AnswersWrite schema table (bound.Insert plan) r after
+Answers schema table (bound.Update plan) r after = AnswersWrite schema table (bound.Update plan) r after
+Answers schema table (bound.Delete condition) r after = AnswersWrite schema table (bound.Delete condition) r after

@@ -1,8 +1,10 @@
 -- Cells and rows that are written one by one.
-use Rattle.std.proofs.Common.{◌≡◌, ℕ, zero, suc, ◌+◌, ◌<◌, ◌≤◌, List, [], ◌∷◌, ◌++◌, length, drop, get_or, refl, sym, ap, subst, ◌∙◌, append_assoc, arith, cond, Bool, true, false, IsTrue, All}
-use Rattle.std.specs.Prelude.{Result, Ok, Err, Some, slice_get}
+use Rattle.std.proofs.Common.{◌≡◌, ℕ, ℤ, pos, ◌+ℤ◌, ◌==◌, zero, suc, ◌+◌, ◌<◌, ◌≤◌, List, [], ◌∷◌, ◌++◌, length, drop, get_or, refl, sym, ap, subst, ◌∙◌, append_assoc, arith, cond, Bool, true, false, IsTrue, All}
+use Rattle.std.specs.Prelude.{Result, Ok, Err, Some, None, Option, slice_get, IfOk}
+use Rattle.std.specs.List.{find}
 use Rattle.std.proofs.lemmas.List.Elements.{All-nil, All-cons}
 use Rattle.std.proofs.lemmas.List.{drop_more, drop_all, append-nil}
+use Rattle.std.proofs.lemmas.List.FromFn.{length-map-range_with_len, get_or-map-range_with_len}
 use Rattle.cs_types.specs.declared.Column.{Column}
 use Rattle.cs_types.specs.declared.Schema.{Schema}
 use Rattle.cs_types.specs.declared.Value.{Value}
@@ -16,12 +18,12 @@ use Rattle.cs_types.specs.Rows.{cell_at}
 use Rattle.cs_plans.specs.declared.expr.Expr.{Expr}
 use Rattle.cs_model.specs.declared.entry.Refusal.{Refusal}
 use Rattle.cs_model.specs.declared.entry.Refusal.TheVariants.{Valued}
-use Rattle.cs_predicate.specs.Expressions.{Computed}
-use Rattle.cs_model.specs.Answers.{numbered, kept, computed_of, given, cell_onto, cells_from, row_onto, rows_from}
+use Rattle.cs_predicate.specs.Expressions.{Computed, compute}
+use Rattle.cs_model.specs.Answers.{numbered, kept, computed_of, given, cell_onto, cells_from, row_onto, rows_from, inserted_cell, series_len, series, updated_by, updated_cell, updated_row}
 use Rattle.statement_work.specs.declared.refusal.WriteRefusal.{WriteRefusal}
 use Rattle.statement_work.specs.declared.refusal.WriteRefusal.TheVariants as refusal
 use Rattle.statement_work.specs.Held.{holds, IsHeld}
-use Rattle.statement_work.specs.Gives.{RefusesCell, RefusesRow, RefusesRows}
+use Rattle.statement_work.specs.Gives.{RefusesCell, RefusesRow, RefusesRows, GivesRow, GivesRows}
 
 -- what stands behind a front, or its refusal
 abbrev pub behind : {X E : Type 0} → List X → Result (List X) E → Result (List X) E
@@ -34,73 +36,70 @@ behind_cell : (i : ℕ) (cells : List Value) (v : Value) (rest : Result (List Va
 behind_cell i cells v (Ok more) = ap Ok (append_assoc cells (v ∷ []) more)
 behind_cell i cells v (Err e) = refl
 
-module _ (schema : Schema) (columns : List ℕ) (exprs : List Expr) where
+module _ (cell : ℕ → Column → Result Value ℕ) (columns : List Column) where
   abbrev pub all_cells : Result (List Value) (ℕ × ℕ)
-  all_cells = cells_from schema columns exprs 0 schema.columns
-
-  -- what the column with a number keeps
-  abbrev pub kept_at : Column → ℕ → Result Value ℕ
-  kept_at column i = kept column (computed_of schema (given columns exprs i))
+  all_cells = cells_from cell 0 columns
 
   -- the cells so far, and those of the columns behind them
   abbrev pub with_rest : List Value → ℕ → Result (List Value) (ℕ × ℕ)
-  with_rest cells i = behind cells (cells_from schema columns exprs i (drop i schema.columns))
+  with_rest cells i = behind cells (cells_from cell i (drop i columns))
 
-  at_column : (i : ℕ) (column : Column) (k : Result Value ℕ) → i < length schema.columns → column ≡ get_or schema.columns i column → kept_at column i ≡ k
-      → cells_from schema columns exprs i (drop i schema.columns) ≡ cell_onto i k (cells_from schema columns exprs (i + 1) (drop (i + 1) schema.columns))
+  at_column : (i : ℕ) (column : Column) (k : Result Value ℕ) → i < length columns → column ≡ get_or columns i column → cell i column ≡ k
+      → cells_from cell i (drop i columns) ≡ cell_onto i k (cells_from cell (i + 1) (drop (i + 1) columns))
   at_column i column k within is e =
-      ap (cells_from schema columns exprs i) (drop_more schema.columns i column within ∙ ap (λ x. x ∷ drop (i + 1) schema.columns) (sym is))
-      ∙ ap (λ x. cell_onto i x (cells_from schema columns exprs (i + 1) (drop (i + 1) schema.columns))) e
+      ap (cells_from cell i) (drop_more columns i column within ∙ ap (λ x. x ∷ drop (i + 1) columns) (sym is))
+      ∙ ap (λ x. cell_onto i x (cells_from cell (i + 1) (drop (i + 1) columns))) e
 
-  pub cells_more : (cells new : List Value) (i : ℕ) (column : Column) (v : Value) → i < length schema.columns → column ≡ get_or schema.columns i column → kept_at column i ≡ Ok v
+  pub cells_more : (cells new : List Value) (i : ℕ) (column : Column) (v : Value) → i < length columns → column ≡ get_or columns i column → cell i column ≡ Ok v
       → new ≡ cells ++ v ∷ [] → with_rest cells i ≡ all_cells → with_rest new (i + 1) ≡ all_cells
   cells_more cells new i column v within is e pushed before =
       ap (λ front. with_rest front (i + 1)) pushed
-      ∙ behind_cell i cells v (cells_from schema columns exprs (i + 1) (drop (i + 1) schema.columns))
+      ∙ behind_cell i cells v (cells_from cell (i + 1) (drop (i + 1) columns))
       ∙ ap (behind cells) (sym (at_column i column (Ok v) within is e)) ∙ before
 
-  pub cells_refused : (row : ℕ) (cells : List Value) (i : ℕ) (column : Column) (e : WriteRefusal) → i < length schema.columns → column ≡ get_or schema.columns i column
-      → RefusesCell row i (kept_at column i) e → with_rest cells i ≡ all_cells → RefusesRow row all_cells e
+  pub cells_refused : (row : ℕ) (cells : List Value) (i : ℕ) (column : Column) (e : WriteRefusal) → i < length columns → column ≡ get_or columns i column
+      → RefusesCell row i (cell i column) e → with_rest cells i ≡ all_cells → RefusesRow row all_cells e
   cells_refused row cells i column (refusal.Value number r c) within is h before =
       (sym before ∙ ap (behind cells) (at_column i column (Err number) within is h.0) ∙ ap (λ k. Err (number, k)) (sym h.2), h.1)
   cells_refused row cells i column refusal.Memory within is h before = tt
 
+  pub cells_done : (cells : List Value) (i : ℕ) → length columns ≤ i → with_rest cells i ≡ all_cells → all_cells ≡ Ok cells
+  cells_done cells i end before = sym before ∙ ap (λ rest. behind cells (cells_from cell i rest)) (drop_all i columns end) ∙ ap Ok (append-nil cells)
+
 -- ---- rows
 
-behind_row : (n : ℕ) (rows : List (List Value)) (row : List Value) (rest : Result (List (List Value)) Refusal) → behind (rows ++ row ∷ []) rest ≡ behind rows (row_onto n (Ok row) rest)
+behind_row : {Y : Type 0} (n : ℕ) (rows : List Y) (row : Y) (rest : Result (List Y) Refusal) → behind (rows ++ row ∷ []) rest ≡ behind rows (row_onto n (Ok row) rest)
 behind_row n rows row (Ok more) = ap Ok (append_assoc rows (row ∷ []) more)
 behind_row n rows row (Err e) = refl
 
-module _ (schema : Schema) (columns : List ℕ) (plan : List (List Expr)) where
+module _ {X : Type 0} (row_of : X → Result (List Value) (ℕ × ℕ)) (plan : List X) where
   abbrev pub all_rows : Result (List (List Value)) Refusal
-  all_rows = rows_from schema columns 1 plan
+  all_rows = rows_from row_of 1 plan
 
   abbrev pub rows_with : List (List Value) → ℕ → Result (List (List Value)) Refusal
-  rows_with rows i = behind rows (rows_from schema columns (i + 1) (drop i plan))
+  rows_with rows i = behind rows (rows_from row_of (i + 1) (drop i plan))
 
-  at_row : (i : ℕ) (exprs : List Expr) (k : Result (List Value) (ℕ × ℕ)) → i < length plan → exprs ≡ get_or plan i exprs → cells_from schema columns exprs 0 schema.columns ≡ k
-      → rows_from schema columns (i + 1) (drop i plan) ≡ row_onto (i + 1) k (rows_from schema columns (i + 1 + 1) (drop (i + 1) plan))
-  at_row i exprs k within is e =
-      ap (rows_from schema columns (i + 1)) (drop_more plan i exprs within ∙ ap (λ x. x ∷ drop (i + 1) plan) (sym is))
-      ∙ ap (λ x. row_onto (i + 1) x (rows_from schema columns (i + 1 + 1) (drop (i + 1) plan))) e
+  at_row : (i : ℕ) (x : X) (k : Result (List Value) (ℕ × ℕ)) → i < length plan → x ≡ get_or plan i x → row_of x ≡ k
+      → rows_from row_of (i + 1) (drop i plan) ≡ row_onto (i + 1) k (rows_from row_of (i + 1 + 1) (drop (i + 1) plan))
+  at_row i x k within is e =
+      ap (rows_from row_of (i + 1)) (drop_more plan i x within ∙ ap (λ y. y ∷ drop (i + 1) plan) (sym is))
+      ∙ ap (λ y. row_onto (i + 1) y (rows_from row_of (i + 1 + 1) (drop (i + 1) plan))) e
 
-  pub rows_more : (rows new : List (List Value)) (i : ℕ) (exprs : List Expr) (row : List Value) → i < length plan → exprs ≡ get_or plan i exprs
-      → cells_from schema columns exprs 0 schema.columns ≡ Ok row → new ≡ rows ++ row ∷ [] → rows_with rows i ≡ all_rows → rows_with new (i + 1) ≡ all_rows
-  rows_more rows new i exprs row within is e pushed before =
+  pub rows_more : (rows new : List (List Value)) (i : ℕ) (x : X) (row : List Value) → i < length plan → x ≡ get_or plan i x
+      → row_of x ≡ Ok row → new ≡ rows ++ row ∷ [] → rows_with rows i ≡ all_rows → rows_with new (i + 1) ≡ all_rows
+  rows_more rows new i x row within is e pushed before =
       ap (λ front. rows_with front (i + 1)) pushed
-      ∙ behind_row (i + 1) rows row (rows_from schema columns (i + 1 + 1) (drop (i + 1) plan))
-      ∙ ap (behind rows) (sym (at_row i exprs (Ok row) within is e)) ∙ before
+      ∙ behind_row (i + 1) rows row (rows_from row_of (i + 1 + 1) (drop (i + 1) plan))
+      ∙ ap (behind rows) (sym (at_row i x (Ok row) within is e)) ∙ before
 
-  pub rows_refused : (rows : List (List Value)) (i : ℕ) (exprs : List Expr) (e : WriteRefusal) → i < length plan → exprs ≡ get_or plan i exprs
-      → RefusesRow (i + 1) (cells_from schema columns exprs 0 schema.columns) e → rows_with rows i ≡ all_rows → RefusesRows all_rows e
-  rows_refused rows i exprs (refusal.Value number row c) within is h before =
-      sym before ∙ ap (behind rows) (at_row i exprs (Err (number, c)) within is h.0) ∙ ap (λ n. Err (Valued number n c)) (sym h.1)
-  rows_refused rows i exprs refusal.Memory within is h before = tt
+  pub rows_refused : (rows : List (List Value)) (i : ℕ) (x : X) (e : WriteRefusal) → i < length plan → x ≡ get_or plan i x
+      → RefusesRow (i + 1) (row_of x) e → rows_with rows i ≡ all_rows → RefusesRows all_rows e
+  rows_refused rows i x (refusal.Value number row c) within is h before =
+      sym before ∙ ap (behind rows) (at_row i x (Err (number, c)) within is h.0) ∙ ap (λ n. Err (Valued number n c)) (sym h.1)
+  rows_refused rows i x refusal.Memory within is h before = tt
 
-pub rows_done : (schema : Schema) (columns : List ℕ) (plan : List (List Expr)) (rows : List (List Value)) (i : ℕ) → length plan ≤ i
-    → rows_with schema columns plan rows i ≡ all_rows schema columns plan → all_rows schema columns plan ≡ Ok rows
-rows_done schema columns plan rows i end before =
-    sym before ∙ ap (λ rest. behind rows (rows_from schema columns (i + 1) rest)) (drop_all i plan end) ∙ ap Ok (append-nil rows)
+  pub rows_done : (rows : List (List Value)) (i : ℕ) → length plan ≤ i → rows_with rows i ≡ all_rows → all_rows ≡ Ok rows
+  rows_done rows i end before = sym before ∙ ap (λ rest. behind rows (rows_from row_of (i + 1) rest)) (drop_all i plan end) ∙ ap Ok (append-nil rows)
 
 -- ---- columns hold what they keep
 
@@ -115,34 +114,86 @@ kept_holds column (Ok (loose.Number m s)) v is = kept_when column (keeps column.
 kept_holds column (Ok (loose.Text t)) v is = kept_when column (is_short column.kind t) (Text t) v TooLong (λ h. h) is
 kept_holds column (Ok (loose.Day d)) v is = kept_when column (keeps column.kind (Number d)) (Number d) v Overflow (λ h. h) is
 
-module _ (schema : Schema) (columns : List ℕ) (exprs : List Expr) where
-  abbrev Holds : List Column → List Value → Type 0
-  Holds list cells = (k : ℕ) (column : Column) → slice_get list k ≡ Some column → IsTrue (holds column (cell_at cells k))
+abbrev Holds : List Column → List Value → Type 0
+Holds list cells = (k : ℕ) (column : Column) → slice_get list k ≡ Some column → IsTrue (holds column (cell_at cells k))
 
-  onto_held : (i : ℕ) (c : Column) (list : List Column) (k : Result Value ℕ) (rest : Result (List Value) (ℕ × ℕ)) (cells : List Value) → ((v : Value) → k ≡ Ok v → IsTrue (holds c v))
-      → ((more : List Value) → rest ≡ Ok more → Holds list more) → cell_onto i k rest ≡ Ok cells → Holds (c ∷ list) cells
-  onto_held i c list (Err number) rest cells one all is = absurd (cc)
-  onto_held i c list (Ok v) (Err e) cells one all is = absurd (cc)
-  onto_held i c list (Ok v) (Ok more) cells one all is = let same : v ∷ more ≡ cells = cc in subst (Holds (c ∷ list)) same both
-    where
-      both : Holds (c ∷ list) (v ∷ more)
-      both zero column e = let here : c ≡ column = cc in subst (λ x. IsTrue (holds x v)) here (one v refl)
-      both (suc k) column e = all more refl k column e
+onto_held : (i : ℕ) (c : Column) (list : List Column) (k : Result Value ℕ) (rest : Result (List Value) (ℕ × ℕ)) (cells : List Value) → ((v : Value) → k ≡ Ok v → IsTrue (holds c v))
+    → ((more : List Value) → rest ≡ Ok more → Holds list more) → cell_onto i k rest ≡ Ok cells → Holds (c ∷ list) cells
+onto_held i c list (Err number) rest cells one all is = absurd (cc)
+onto_held i c list (Ok v) (Err e) cells one all is = absurd (cc)
+onto_held i c list (Ok v) (Ok more) cells one all is = let same : v ∷ more ≡ cells = cc in subst (Holds (c ∷ list)) same both
+  where
+    both : Holds (c ∷ list) (v ∷ more)
+    both zero column e = let here : c ≡ column = cc in subst (λ x. IsTrue (holds x v)) here (one v refl)
+    both (suc k) column e = all more refl k column e
 
-  cells_held : (i : ℕ) (list : List Column) (cells : List Value) → cells_from schema columns exprs i list ≡ Ok cells → Holds list cells
-  cells_held i [] cells is = λ k column e. absurd (cc)
-  cells_held i (c ∷ list) cells is =
-      onto_held i c list (kept c (computed_of schema (given columns exprs i))) (cells_from schema columns exprs (i + 1) list) cells
-      (kept_holds c (computed_of schema (given columns exprs i))) (cells_held (i + 1) list) is
+-- each column of the list holds what is written to it
+abbrev CellsHeld : (ℕ → Column → Result Value ℕ) → ℕ → List Column → Type 0
+CellsHeld cell i list = (k : ℕ) (column : Column) → slice_get list k ≡ Some column → (j : ℕ) → j ≡ i + k → (v : Value) → cell j column ≡ Ok v → IsTrue (holds column v)
 
-rows_onto_held : (schema : Schema) (n : ℕ) (row : Result (List Value) (ℕ × ℕ)) (rest : Result (List (List Value)) Refusal) (rows : List (List Value)) → ((cells : List Value) → row ≡ Ok cells → IsHeld schema cells)
-    → ((more : List (List Value)) → rest ≡ Ok more → All (IsHeld schema) more) → row_onto n row rest ≡ Ok rows → All (IsHeld schema) rows
-rows_onto_held schema n (Err e) rest rows one all is = absurd (cc)
-rows_onto_held schema n (Ok cells) (Err e) rows one all is = absurd (cc)
-rows_onto_held schema n (Ok cells) (Ok more) rows one all is = let same : cells ∷ more ≡ rows = cc in subst (All (IsHeld schema)) same (All-cons (IsHeld schema) cells more (one cells refl) (all more refl))
+cells_held : (cell : ℕ → Column → Result Value ℕ) (i : ℕ) (list : List Column) (cells : List Value) → CellsHeld cell i list → cells_from cell i list ≡ Ok cells → Holds list cells
+cells_held cell i [] cells all is = λ k column e. absurd (cc)
+cells_held cell i (c ∷ list) cells all is =
+    onto_held i c list (cell i c) (cells_from cell (i + 1) list) cells (all 0 c refl i (omega arith))
+    (λ more. cells_held cell (i + 1) list more (λ k column e j at. all (suc k) column e j (omega (arith, at)))) is
 
-pub rows_held : (schema : Schema) (columns : List ℕ) (n : ℕ) (plan : List (List Expr)) (rows : List (List Value)) → rows_from schema columns n plan ≡ Ok rows → All (IsHeld schema) rows
-rows_held schema columns n [] rows is = let same : [] ≡ rows = cc in subst (All (IsHeld schema)) same (All-nil (IsHeld schema))
-rows_held schema columns n (exprs ∷ rest) rows is =
-    rows_onto_held schema n (cells_from schema columns exprs 0 schema.columns) (rows_from schema columns (n + 1) rest) rows
-    (cells_held schema columns exprs 0 schema.columns) (rows_held schema columns (n + 1) rest) is
+pub inserted_held : (schema source : Schema) (columns : List ℕ) (read : List Value) (exprs : List Expr) (cells : List Value)
+    → cells_from (inserted_cell source read columns exprs) 0 schema.columns ≡ Ok cells → IsHeld schema cells
+inserted_held schema source columns read exprs cells is =
+    cells_held (inserted_cell source read columns exprs) 0 schema.columns cells (λ k column e j at v. kept_holds column (computed_of source read (given columns exprs j)) v) is
+
+set_held : (schema : Schema) (row : List Value) (k : ℕ) (column : Column) (set : Option (ℕ × Expr)) (v : Value) → IsTrue (holds column (cell_at row k)) → updated_by schema row k column set ≡ Ok v → IsTrue (holds column v)
+set_held schema row k column None v was is = let same : cell_at row k ≡ v = cc in subst (λ x. IsTrue (holds column x)) same was
+set_held schema row k column (Some set) v was is = kept_holds column (compute set.1 row schema) v is
+
+pub updated_held : (schema : Schema) (sets : List (ℕ × Expr)) (row cells : List Value) → IsHeld schema row → updated_row schema sets row ≡ Ok cells → IsHeld schema cells
+updated_held schema sets row cells held is =
+    cells_held (updated_cell schema sets row) 0 schema.columns cells
+    (λ k column e j at v. set_held schema row j column (find (λ (set : ℕ × Expr). set.0 == j) sets) v
+    (let same : k ≡ j = omega (arith, at) in subst (λ n. IsTrue (holds column (cell_at row n))) same (held k column e))) is
+
+rows_onto_held : (P : List Value → Type 0) (n : ℕ) (row : Result (List Value) (ℕ × ℕ)) (rest : Result (List (List Value)) Refusal) (rows : List (List Value)) → ((cells : List Value) → row ≡ Ok cells → P cells)
+    → ((more : List (List Value)) → rest ≡ Ok more → All P more) → row_onto n row rest ≡ Ok rows → All P rows
+rows_onto_held P n (Err e) rest rows one all is = absurd (cc)
+rows_onto_held P n (Ok cells) (Err e) rows one all is = absurd (cc)
+rows_onto_held P n (Ok cells) (Ok more) rows one all is = let same : cells ∷ more ≡ rows = cc in subst (All P) same (All-cons P cells more (one cells refl) (all more refl))
+
+pub rows_held : {X : Type 0} (P : List Value → Type 0) (row_of : X → Result (List Value) (ℕ × ℕ)) (n : ℕ) (plan : List X) (rows : List (List Value)) → ((x : X) (cells : List Value) → row_of x ≡ Ok cells → P cells)
+    → rows_from row_of n plan ≡ Ok rows → All P rows
+rows_held P row_of n [] rows one is = let same : [] ≡ rows = cc in subst (All P) same (All-nil P)
+rows_held P row_of n (x ∷ rest) rows one is =
+    rows_onto_held P n (row_of x) (rows_from row_of (n + 1) rest) rows (one x) (λ more. rows_held P row_of (n + 1) rest more one) is
+
+pub gives_held : (P : List Value → Type 0) (wanted : Result (List (List Value)) Refusal) (r : Result (List (List Value)) WriteRefusal) → ((rows : List (List Value)) → wanted ≡ Ok rows → All P rows) → GivesRows wanted r → IfOk r (All P)
+gives_held P wanted (Ok rows) all is = all rows is
+gives_held P wanted (Err e) all is = tt
+
+-- ---- rows over the numbers of a series
+
+module _ (row_of : ℤ → Result (List Value) (ℕ × ℕ)) (start stop : ℤ) (count : ℕ) (is : count ≡ series_len start stop) where
+  abbrev at : ℕ → ℤ
+  at i = start +ℤ pos i
+
+  numbers : length (series (start, stop)) ≡ count
+  numbers = length-map-range_with_len at 0 (series_len start stop) ∙ sym is
+
+  number_is : (i : ℕ) (x : ℤ) → i < count → x ≡ start +ℤ pos i → x ≡ get_or (series (start, stop)) i x
+  number_is i x within e = let there : i < series_len start stop = omega (arith, within, is) in let same : 0 + i ≡ i = omega arith in
+      e ∙ sym (get_or-map-range_with_len at 0 (series_len start stop) i i x there same)
+
+  pub series_more : (rows new : List (List Value)) (i : ℕ) (x : ℤ) (row : List Value) → i < count → x ≡ start +ℤ pos i → row_of x ≡ Ok row → new ≡ rows ++ row ∷ []
+      → rows_with row_of (series (start, stop)) rows i ≡ all_rows row_of (series (start, stop)) → rows_with row_of (series (start, stop)) new (i + 1) ≡ all_rows row_of (series (start, stop))
+  series_more rows new i x row within e gives pushed before =
+      let there : i < length (series (start, stop)) = omega (arith, within, numbers) in
+      rows_more row_of (series (start, stop)) rows new i x row there (number_is i x within e) gives pushed before
+
+  pub series_refused : (rows : List (List Value)) (i : ℕ) (x : ℤ) (e : WriteRefusal) → i < count → x ≡ start +ℤ pos i → RefusesRow (i + 1) (row_of x) e
+      → rows_with row_of (series (start, stop)) rows i ≡ all_rows row_of (series (start, stop)) → RefusesRows (all_rows row_of (series (start, stop))) e
+  series_refused rows i x e within is_x h before =
+      let there : i < length (series (start, stop)) = omega (arith, within, numbers) in
+      rows_refused row_of (series (start, stop)) rows i x e there (number_is i x within is_x) h before
+
+  pub series_done : (rows : List (List Value)) (i : ℕ) → count ≤ i → rows_with row_of (series (start, stop)) rows i ≡ all_rows row_of (series (start, stop)) → all_rows row_of (series (start, stop)) ≡ Ok rows
+  series_done rows i end before =
+      let there : length (series (start, stop)) ≤ i = omega (arith, end, numbers) in
+      rows_done row_of (series (start, stop)) rows i there before

@@ -1,13 +1,17 @@
-//! What a statement reads and writes: the rows that an INSERT writes, or its first value refusal, and a row of an answer.
+//! What a statement reads and writes: the rows that an INSERT writes, what an UPDATE makes of a row, or the first value
+//! refusal, and the answer of a SELECT.
 //!
-//! Its one contract: `written_rows` gives the rows of the definition, or its refusal by row and column, and `answer_row`
-//! the items of a row. It stands on `cs_model`, whose definitions it meets, and on `cs_predicate` for expressions.
+//! Its one contract: `written_rows` gives the rows of the definition, or its refusal by row and column, `updated_row` the
+//! same of one row, and `answer` the answer of a query. It stands on `cs_model`, whose definitions it meets, on
+//! `cs_predicate` for expressions, and on `batch_aggregate` for answers.
 #![tactic(auto)]
 
-mod answer;
 mod refusal;
+mod select;
+mod update;
 mod write;
 
-pub use answer::answer_row;
 pub use refusal::WriteRefusal;
+pub use select::answer;
+pub use update::updated_row;
 pub use write::written_rows;

@@ -1,12 +1,13 @@
 //! The rows that an INSERT writes.
 
-ghost use Rattle.std.specs.Prelude.{◌≡◌, ◌<◌, ◌==◌, [], All, IfOk};
+ghost use Rattle.std.specs.Prelude.{◌≡◌, ◌<◌, ◌==◌, pos, ◌+ℤ◌, [], ◌∷◌, slice_get, unwrap_or, All, IfOk};
 ghost use Rattle.std.specs.List.{position_from};
 ghost use Rattle.std.specs.Option.{option_copied};
 ghost use Rattle.cs_types.specs.Kinds.{IsColumnType};
 ghost use Rattle.cs_types.specs.Schemas.{IsSchema};
 ghost use Rattle.cs_predicate.specs.Expressions.{Computed, Gives};
-ghost use Rattle.cs_model.specs.Answers.{kept, computed_of, given, cells_from, inserted};
+ghost use Rattle.cs_model.specs.Answers.{kept, computed_of, given, inserted_row, rows_from, series_len, series, inserted};
+ghost use Rattle.tsql_names.specs.Names.{series_schema};
 ghost use Rattle.statement_work.specs.Gives.{GivesCell, GivesRow, GivesRows};
 ghost use Rattle.statement_work.specs.Held.{IsHeld};
 
@@ -16,6 +17,7 @@ use cs_plans::{Expr, InsertPlan};
 use cs_predicate::{ExprRefusal, compute};
 use cs_types::{Column, Loose, Row, Schema, Value, fits};
 use std::alloc::Global;
+use tsql_names::series_schema;
 
 /// The place of a column in the list of columns.
 fn place_of(columns: &[usize], column: usize) -> Option<usize>
@@ -34,19 +36,18 @@ fn given<'a>(columns: &[usize], exprs: &'a [Expr], column: usize) -> Option<&'a 
     }
 }
 
-/// What was computed for a column: NULL where it is given nothing.
-fn computed(schema: &Schema, none: &Row, expr: Option<&Expr>) -> Result<Loose, ExprRefusal>
-    requires { none.now ≡ [] }
-    ensures { Gives result (computed_of schema.now (option_copied expr.entry)) }
+/// What was computed for a column over a row of the source: NULL where it is given nothing.
+fn computed(source: &Schema, read: &Row, expr: Option<&Expr>) -> Result<Loose, ExprRefusal>
+    ensures { Gives result (computed_of source.now read.now (option_copied expr.entry)) }
 {
     match expr {
-        Some(expr) => compute(expr, none, schema),
+        Some(expr) => compute(expr, read, source),
         None => Ok(Loose::Null),
     }
 }
 
 /// The value that a column keeps of what was computed, in a row, at the column's number from 0.
-fn kept(
+pub fn kept(
     column: &Column,
     row: u64,
     i: usize,
@@ -71,26 +72,135 @@ fn kept(
     })
 }
 
-/// The cells of a row, column by column.
-fn cells(
+/// The row of these expressions, column by column, over a row of the source.
+fn inserted_row(
     alloc: Global,
     schema: &Schema,
+    source: &Schema,
     columns: &[usize],
-    none: &Row,
+    read: &Row,
     row: u64,
     exprs: &[Expr],
 ) -> Result<Row, WriteRefusal>
-    requires schema { IsSchema schema.now }
-    requires none { none.now ≡ [] }
-    ensures { GivesRow row (cells_from schema.now columns.now exprs.now 0 schema.now.columns) result }
+    requires { IsSchema schema.now }
+    ensures { GivesRow row (inserted_row schema.now source.now columns.now read.now exprs.now) result }
 {
     let mut cells = Row::new(alloc);
     for (i, column) in schema.columns.as_slice().iter().enumerate() {
-        let computed = computed(schema, none, given(columns, exprs, i));
+        let computed = computed(source, read, given(columns, exprs, i));
         let value = kept(column, row, i, computed)?;
         cells.push(value)?;
     }
     Ok(cells)
+}
+
+/// A row of VALUES, which reads nothing.
+fn values_row(
+    alloc: Global,
+    schema: &Schema,
+    columns: &[usize],
+    row: u64,
+    exprs: &[Expr],
+) -> Result<Row, WriteRefusal>
+    requires { IsSchema schema.now }
+    ensures { GivesRow row (inserted_row schema.now schema.now columns.now [] exprs.now) result }
+{
+    let none = Row::new(alloc);
+    inserted_row(alloc, schema, schema, columns, &none, row, exprs)
+}
+
+/// The rows of VALUES.
+fn values_rows(
+    alloc: Global,
+    schema: &Schema,
+    columns: &[usize],
+    rows: &[Items<Expr>],
+) -> Result<Items<Row>, WriteRefusal>
+    requires { IsSchema schema.now }
+    ensures { GivesRows (rows_from (inserted_row schema.now schema.now columns.now []) 1 rows.now) result }
+{
+    let mut written = Items::new(alloc);
+    for (i, exprs) in rows.iter().enumerate() {
+        let row = values_row(alloc, schema, columns, i as u64 + 1, exprs.as_slice())?;
+        written.push(row)?;
+    }
+    Ok(written)
+}
+
+/// A row over a number of a series.
+fn series_row(
+    alloc: Global,
+    schema: &Schema,
+    source: &Schema,
+    columns: &[usize],
+    number: i64,
+    row: u64,
+    exprs: &[Expr],
+) -> Result<Row, WriteRefusal>
+    requires { IsSchema schema.now }
+    ensures { GivesRow row (inserted_row schema.now source.now columns.now (Value.Number number ∷ []) exprs.now) result }
+{
+    let mut read = Row::new(alloc);
+    read.push(Value::Number(number))?;
+    inserted_row(alloc, schema, source, columns, &read, row, exprs)
+}
+
+/// How many numbers a series has.
+fn series_len(start: i64, stop: i64) -> Result<u64, Memory>
+    ensures { IfOk result (λ count. count ≡ series_len start stop) }
+{
+    if stop < start {
+        return Ok(0);
+    }
+    match stop.abs_diff(start).checked_add(1) {
+        Some(count) => Ok(count),
+        // The rows of all numbers find no room.
+        None => Err(Memory),
+    }
+}
+
+/// The number of a series after i others.
+fn number_at(start: i64, stop: i64, i: u64) -> i64
+    requires { i < series_len start stop }
+    ensures { result ≡ start +ℤ pos i }
+{
+    match i64::try_from(start as i128 + i as i128) {
+        Ok(number) => number,
+        Err(_) => unreachable!(),
+    }
+}
+
+/// The rows over the numbers of a series.
+fn series_rows(
+    alloc: Global,
+    schema: &Schema,
+    columns: &[usize],
+    start: i64,
+    stop: i64,
+    exprs: &[Expr],
+) -> Result<Items<Row>, WriteRefusal>
+    requires { IsSchema schema.now }
+    ensures { GivesRows (rows_from (λ number. inserted_row schema.now series_schema columns.now (Value.Number number ∷ []) exprs.now) 1 (series (start, stop))) result }
+{
+    let source = series_schema(alloc)?;
+    let count = series_len(start, stop)?;
+    let mut written = Items::new(alloc);
+    for i in 0..count {
+        let number = number_at(start, stop, i);
+        let row = series_row(alloc, schema, &source, columns, number, i + 1, exprs)?;
+        written.push(row)?;
+    }
+    Ok(written)
+}
+
+/// The expressions of the one row over a series.
+fn first_row(rows: &[Items<Expr>]) -> &[Expr]
+    ensures { result.now ≡ unwrap_or (slice_get rows.now 0) [] }
+{
+    match rows.first() {
+        Some(exprs) => exprs.as_slice(),
+        None => &[],
+    }
 }
 
 /// The rows that an INSERT writes: each value computed and fitted, row by row and column by column, and NULL in the columns
@@ -106,19 +216,11 @@ pub fn written_rows(
     ensures gives { GivesRows (inserted schema.now plan.now) result }
     ensures held { IfOk result (λ rows. All (IsHeld schema.now) rows) }
 {
-    let none = Row::new(alloc);
     let columns = plan.columns.as_slice();
-    let mut rows = Items::new(alloc);
-    for (i, exprs) in plan.rows.as_slice().iter().enumerate() {
-        let row = cells(
-            alloc,
-            schema,
-            columns,
-            &none,
-            i as u64 + 1,
-            exprs.as_slice(),
-        )?;
-        rows.push(row)?;
+    let rows = plan.rows.as_slice();
+    match plan.series {
+        Some((start, stop)) =>
+            series_rows(alloc, schema, columns, start, stop, first_row(rows)),
+        None => values_rows(alloc, schema, columns, rows),
     }
-    Ok(rows)
 }

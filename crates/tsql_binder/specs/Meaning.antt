@@ -2,7 +2,7 @@
 use Rattle.std.specs.Prelude.{◌≡◌, ◌⊎◌, ℕ, List, Bool, true, false, Option, None, Some, Result, Ok, Err, if◌then◌else◌}
 use Rattle.cs_types.specs.declared.Schema.{Schema}
 use Rattle.cs_model.specs.declared.entry.Bound.{Bound}
-use Rattle.cs_model.specs.declared.entry.Bound.TheVariants.{Insert, Select, Refused}
+use Rattle.cs_model.specs.declared.entry.Bound.TheVariants.{Insert, Update, Delete, Select, Refused}
 use Rattle.cs_model.specs.declared.entry.Refusal.TheVariants.{Reading}
 use Rattle.tsql_trees.specs.declared.statement.Statement.{Statement}
 use Rattle.tsql_trees.specs.declared.statement.Statement.TheVariants as statements
@@ -10,7 +10,8 @@ use Rattle.tsql_reader.specs.Statements.{IsStatement, IsNoStatement}
 use Rattle.tsql_faults.specs.declared.fault.Fault.{Fault}
 use Rattle.tsql_faults.specs.Least.{fault}
 use Rattle.tsql_faults.specs.Faults.{first_fault}
-use Rattle.tsql_plans.specs.Plans.{insert_plan, query}
+use Rattle.tsql_plans.specs.Preds.{filter_of}
+use Rattle.tsql_plans.specs.Plans.{insert_plan, update_plan, query}
 use Rattle.tsql_binder.specs.declared.refusal.BindRefusal.{BindRefusal}
 use Rattle.tsql_binder.specs.declared.refusal.BindRefusal.TheVariants.{At, Memory}
 use Rattle.tsql_binder.specs.Postponed.{is_postponed}
@@ -32,8 +33,8 @@ plan_of schema (statements.SetStatistics on) = refused later
 plan_of schema (statements.SetLockTimeout number) = refused later
 plan_of schema (statements.AlterIndex index table compress) = refused later
 plan_of schema (statements.Insert table names source) = Insert (insert_plan schema names source)
-plan_of schema (statements.Update table sets filter) = refused later
-plan_of schema (statements.Delete table filter) = refused later
+plan_of schema (statements.Update table sets filter) = Update (update_plan schema sets filter)
+plan_of schema (statements.Delete table filter) = Delete (filter_of schema filter)
 plan_of schema (statements.Select items table filter groups order) = Select (query schema items filter groups order)
 
 abbrev pub unless : Option Fault → Bound → Result Bound Fault

@@ -4,6 +4,7 @@ ghost use Rattle.std.specs.Prelude.{◌≡◌, ◌≤◌, ℕ, List, length, Res
 ghost use Rattle.cs_model.specs.declared.entry.Bound.{Bound};
 ghost use Rattle.tsql_reader.specs.Statements.{IsNoStatement, RefusesStatement, AnswersOnly};
 ghost use Rattle.tsql_faults.specs.declared.fault.Fault.{Fault};
+ghost use Rattle.tsql_binder.specs.Meaning as spec;
 ghost use Rattle.tsql_binder.specs.Meaning.{plan_of, bound_of, bound_or, Means, GivesBound};
 
 use crate::postponed::is_postponed;
@@ -13,7 +14,7 @@ use cs_model::{Bound, Refusal};
 use cs_types::Schema;
 use std::alloc::Global;
 use tsql_faults::first_fault;
-use tsql_plans::{insert_plan, query};
+use tsql_plans::{filter_of, insert_plan, query, update_plan};
 use tsql_reader::{ReadRefusal, read_statement};
 use tsql_trees::Statement;
 
@@ -28,12 +29,12 @@ fn plan_of(alloc: Global, schema: &Schema, statement: &Statement) -> Result<Boun
     ensures { IfOk result (λ bound. bound ≡ plan_of schema.now statement.now) }
 {
     match statement {
-        Statement::Insert { names, source, .. } => Ok(Bound::Insert(insert_plan(
-            alloc,
-            schema,
-            names.as_ref(),
-            source,
-        )?)),
+        Statement::Insert { names, source, .. } =>
+            Ok(Bound::Insert(insert_plan(alloc, schema, names.as_ref(), source)?)),
+        Statement::Update { sets, filter, .. } =>
+            Ok(Bound::Update(update_plan(alloc, schema, sets, filter.as_ref())?)),
+        Statement::Delete { filter, .. } =>
+            Ok(Bound::Delete(filter_of(alloc, schema, filter.as_ref())?)),
         Statement::Select {
             items,
             filter,

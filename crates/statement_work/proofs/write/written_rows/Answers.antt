@@ -1,9 +1,24 @@
-use Rattle.statement_work.proofs.Written.{rows_done, rows_held}
+use Rattle.std.proofs.Common.{ℤ, [], ◌∷◌}
+use Rattle.cs_types.specs.declared.Value.TheVariants.{Number}
+use Rattle.tsql_names.specs.Names.{series_schema}
+use Rattle.cs_model.specs.Answers.{inserted_row, rows_from, series}
+use Rattle.statement_work.specs.Held.{IsHeld}
+use Rattle.statement_work.proofs.Written.{rows_held, gives_held, inserted_held}
 use Rattle.statement_work.proofs.write.written_rows.Goals as goal
 
-pub returns-clause-held : goal.returns-clause-held
-returns-clause-held c =
+pub returns-in-Some-clause-held : goal.returns-in-Some-clause-held
+returns-in-Some-clause-held c =
     let schema = c.args.schema.now in
-    let plan = c.args.plan.now in
-    rows_held schema plan.columns 1 plan.rows c.loop-i.rows
-    (rows_done schema plan.columns plan.rows c.loop-i.rows c.loop-i.i (rw c.as_slice-exprs-items.ensures at c.loop-i-test.false) c.loop-i.invariant)
+    let columns = c.as_slice-columns.result.now in
+    let exprs = c.first_row.result.now in
+    let row = λ (number : ℤ). inserted_row schema series_schema columns (Number number ∷ []) exprs in
+    gives_held (IsHeld schema) _ c.series_rows.result
+    (λ rows. rows_held (IsHeld schema) row 1 _ rows (λ number. inserted_held schema series_schema columns (Number number ∷ []) exprs)) c.series_rows.ensures
+
+pub returns-in-None-clause-held : goal.returns-in-None-clause-held
+returns-in-None-clause-held c =
+    let schema = c.args.schema.now in
+    let columns = c.as_slice-columns.result.now in
+    let rows = c.as_slice-rows.result.now in
+    gives_held (IsHeld schema) (rows_from (inserted_row schema schema columns []) 1 rows) c.values_rows.result
+    (λ written. rows_held (IsHeld schema) (inserted_row schema schema columns []) 1 rows written (λ exprs. inserted_held schema schema columns [] exprs)) c.values_rows.ensures

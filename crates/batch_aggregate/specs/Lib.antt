@@ -1,0 +1,5 @@
+pub mod Answers
+pub mod Groups
+pub mod Items
+pub mod Order
+pub mod Standing

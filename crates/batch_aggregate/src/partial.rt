@@ -1,0 +1,89 @@
+//! Partial answers.
+
+ghost use Rattle.std.specs.Prelude.{◌≡◌, ◌++◌, ◌∷◌, [], IfOk, OnOk, List};
+ghost use Rattle.cs_types.specs.declared.Value.{Value};
+ghost use Rattle.batch_aggregate.specs.Answers as answers;
+ghost use Rattle.batch_aggregate.specs.Answers.{Gives};
+ghost use Rattle.batch_aggregate.specs.Standing.{StandsFor};
+
+use crate::entries::{Entries, add_row, no_rows};
+use crate::refusal::AnswerRefusal;
+use crate::shown::{grouped_answer, plain_answer};
+use cs_base::{Items, Memory};
+use cs_plans::Query;
+use cs_predicate::{Truth, truth};
+use cs_types::{Loose, Row, Schema};
+use std::alloc::Global;
+
+/// What is known of the answer of a query after some rows. It stands for the list of the rows added to it; it keeps the
+/// tallies of their groups, and in a query without groups copies of the rows that the filter keeps.
+#[derive(Drop)]
+pub struct Partial<'a> {
+    schema: &'a Schema,
+    query: &'a Query,
+    rows: Vec<Row>,
+    groups: Entries,
+    alloc: Global,
+}
+
+/// Whether the filter of a query keeps a row.
+fn keeps(schema: &Schema, query: &Query, row: &Row) -> bool
+    ensures { result ≡ answers.keeps schema.now query.now.filter row.now }
+{
+    match &query.filter {
+        Some(pred) => truth(pred, row, schema) == Truth::True,
+        None => true,
+    }
+}
+
+impl<'a> Partial<'a> {
+    /// What is known after no rows. Exactly in a query with an aggregate and without grouping columns there is a group then.
+    pub fn new(alloc: Global, schema: &'a Schema, query: &'a Query) -> Result<Partial<'a>, Memory>
+        ensures schema { IfOk result (λ partial. partial.schema.now ≡ schema.now) }
+        ensures query { IfOk result (λ partial. partial.query.now ≡ query.now) }
+        ensures empty { IfOk result (λ partial. StandsFor partial []) }
+    {
+        Ok(Partial {
+            schema,
+            query,
+            rows: Vec::new(alloc),
+            groups: no_rows(alloc, query)?,
+            alloc,
+        })
+    }
+
+    /// Adds a row. After `Memory` what it stands for is not known.
+    pub fn add(&mut self, row: &Row) -> Result<(), Memory>
+        ensures schema { self.new.schema.now ≡ self.old.schema.now }
+        ensures query { self.new.query.now ≡ self.old.query.now }
+        ensures added { (rows : List (List Value)) → StandsFor self.old rows → OnOk result (StandsFor self.new (rows ++ row.now ∷ [])) }
+    {
+        if !keeps(self.schema, self.query, row) {
+            return Ok(());
+        }
+        if self.query.grouped {
+            return add_row(self.alloc, &mut self.groups, self.query, row);
+        }
+        self.rows.push(row.copy()?)?;
+        Ok(())
+    }
+
+    /// The answer of the query over the rows added. `Overflow` at the first row of the answer and its first item whose
+    /// whole count or sum is out of the range of its type; `Memory` where there is no room.
+    pub fn result(self) -> Result<Items<Items<Loose>>, AnswerRefusal>
+        ensures { (rows : List (List Value)) → StandsFor self.entry rows → Gives result (answers.answer self.entry.schema.now self.entry.query.now rows) }
+    {
+        let Partial {
+            schema,
+            query,
+            rows,
+            groups,
+            alloc,
+        } = self;
+        if query.grouped {
+            grouped_answer(alloc, schema, query, groups)
+        } else {
+            Ok(plain_answer(alloc, schema, query, rows)?)
+        }
+    }
+}

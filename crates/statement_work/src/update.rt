@@ -1,0 +1,66 @@
+//! The rows that an UPDATE writes.
+
+ghost use Rattle.std.specs.Prelude.{◌≡◌, ◌<◌, ◌==◌, ℕ, IfOk};
+ghost use Rattle.std.specs.List.{find};
+ghost use Rattle.std.specs.Option.{option_copied};
+ghost use Rattle.cs_types.specs.Kinds.{IsColumnType};
+ghost use Rattle.cs_types.specs.Schemas.{IsSchema};
+ghost use Rattle.cs_plans.specs.declared.expr.Expr.{Expr};
+ghost use Rattle.cs_model.specs.Answers as spec;
+ghost use Rattle.statement_work.specs.Gives.{GivesCell, GivesRow};
+ghost use Rattle.statement_work.specs.Held.{IsHeld};
+
+use crate::refusal::WriteRefusal;
+use crate::write::kept;
+use cs_plans::Expr;
+use cs_predicate::compute;
+use cs_types::{Column, Row, Schema, Value};
+use std::alloc::Global;
+
+/// What a column is set to.
+fn set_of(sets: &[(usize, Expr)], column: usize) -> Option<&(usize, Expr)>
+    ensures { option_copied result ≡ find (λ (set : ℕ × Expr). set.0 == column) sets.now }
+{
+    sets.iter().find(|set| set.0 == column)
+}
+
+/// What a column of a row becomes, at the column's number from 0.
+fn updated_cell(
+    schema: &Schema,
+    sets: &[(usize, Expr)],
+    old: &Row,
+    row: u64,
+    i: usize,
+    column: &Column,
+) -> Result<Value, WriteRefusal>
+    requires kind { IsColumnType column.now.kind }
+    requires few { i < 32 }
+    ensures { GivesCell row i (spec.updated_cell schema.now sets.now old.now i column.now) result }
+{
+    match set_of(sets, i) {
+        Some(set) => kept(column, row, i, compute(&set.1, old, schema)),
+        None => Ok(old.cell(i).copy()?),
+    }
+}
+
+/// What an UPDATE makes of a row: each column that it sets computed from the row as it was and fitted, the others as they
+/// were. `Value` with the first refusal by column: 515, 2628, 220, 8115 and 8134. `Memory` where there is no room for the row.
+pub fn updated_row(
+    alloc: Global,
+    schema: &Schema,
+    sets: &[(usize, Expr)],
+    old: &Row,
+    row: u64,
+) -> Result<Row, WriteRefusal>
+    requires schema { IsSchema schema.now }
+    requires held { IsHeld schema.now old.now }
+    ensures gives { GivesRow row (spec.updated_row schema.now sets.now old.now) result }
+    ensures held { IfOk result (IsHeld schema.now) }
+{
+    let mut cells = Row::new(alloc);
+    for (i, column) in schema.columns.as_slice().iter().enumerate() {
+        let value = updated_cell(schema, sets, old, row, i, column)?;
+        cells.push(value)?;
+    }
+    Ok(cells)
+}
