@@ -17,7 +17,7 @@ use Rattle.batch_aggregate.specs.Order.{put, in_order, comes_before}
 use Rattle.batch_aggregate.specs.Standing.{Entry, no_tally, with_cell, with_row, with_row_by, tally_of, entry_of, entries_of, entry_row, answer_of, shown, Keeps, StandsFor}
 
 abbrev tally : Item → ℕ → ℤ → Value → Value → Tally
-tally kind c s l g = record { item = kind; count = c; sum = s; least = l; greatest = g }
+tally kind c s l g = record { item = kind; total = (c, s); least = l; greatest = g }
 
 abbrev over : Tally → List (List Value) → Tally
 over = fold (λ t row. with_row row t)

@@ -21,18 +21,18 @@ use Rattle.batch_aggregate.specs.Items.{is_null, lesser, greater, count_of, of_s
 
 -- the tally of an item over no rows
 abbrev pub no_tally : Item → Tally
-no_tally kind = record { item = kind; count = 0; sum = pos 0; least = value.Null; greatest = value.Null }
+no_tally kind = record { item = kind; total = (0, pos 0); least = value.Null; greatest = value.Null }
 
 -- a tally with one more cell; NULL is not counted
 abbrev pub with_cell : Tally → Value → Tally
 with_cell tally cell =
     if is_null cell then tally
-    else record { item = tally.item; count = tally.count + 1; sum = tally.sum +ℤ number_in cell; least = lesser tally.least cell; greatest = greater tally.greatest cell }
+    else record { item = tally.item; total = (tally.total.0 + 1, tally.total.1 +ℤ number_in cell); least = lesser tally.least cell; greatest = greater tally.greatest cell }
 
 -- a tally with one more row, by its item
 abbrev pub with_row_by : Item → Tally → List Value → Tally
 with_row_by (item.Column i) tally row = tally
-with_row_by item.CountAll tally row = record { item = tally.item; count = tally.count + 1; sum = tally.sum; least = tally.least; greatest = tally.greatest }
+with_row_by item.CountAll tally row = record { item = tally.item; total = (tally.total.0 + 1, tally.total.1 +ℤ pos 0); least = tally.least; greatest = tally.greatest }
 with_row_by (item.Count i) tally row = with_cell tally (cell_at row i)
 with_row_by (item.Sum i) tally row = with_cell tally (cell_at row i)
 with_row_by (item.Min i) tally row = with_cell tally (cell_at row i)
@@ -66,12 +66,12 @@ with_entry items cells row (e ∷ es) = if same_cells cells e.0 then (e.0, map (
 -- what a tally shows for its item, None where that is refused
 abbrev pub shown_by : Item → Schema → List ℕ → List Value → Tally → Option Loose
 shown_by (item.Column i) schema columns cells tally = Some (loose_in (slice_get schema.columns i) (cell_at cells (place_of columns i)))
-shown_by item.CountAll schema columns cells tally = count_of tally.count
-shown_by (item.Count i) schema columns cells tally = count_of tally.count
-shown_by (item.Sum i) schema columns cells tally = if tally.count == 0 then Some Null else of_sum_in (slice_get schema.columns i) tally.sum tally.sum
+shown_by item.CountAll schema columns cells tally = count_of tally.total.0
+shown_by (item.Count i) schema columns cells tally = count_of tally.total.0
+shown_by (item.Sum i) schema columns cells tally = if tally.total.0 == 0 then Some Null else of_sum_in (slice_get schema.columns i) tally.total.1 tally.total.1
 shown_by (item.Min i) schema columns cells tally = Some (loose_in (slice_get schema.columns i) tally.least)
 shown_by (item.Max i) schema columns cells tally = Some (loose_in (slice_get schema.columns i) tally.greatest)
-shown_by (item.Avg i) schema columns cells tally = if tally.count == 0 then Some Null else of_sum_in (slice_get schema.columns i) tally.sum (int_div tally.sum (pos tally.count))
+shown_by (item.Avg i) schema columns cells tally = if tally.total.0 == 0 then Some Null else of_sum_in (slice_get schema.columns i) tally.total.1 (int_div tally.total.1 (pos tally.total.0))
 
 abbrev pub shown : Schema → List ℕ → List Value → Tally → Option Loose
 shown schema columns cells tally = shown_by tally.item schema columns cells tally

@@ -13,6 +13,9 @@ mod partial;
 mod refusal;
 mod shown;
 mod tally;
+#[cfg(test)]
+mod tests;
+mod total;
 
-pub use partial::Partial;
+pub use partial::{Partial, answer};
 pub use refusal::AnswerRefusal;

@@ -87,3 +87,20 @@ impl<'a> Partial<'a> {
         }
     }
 }
+
+/// The answer of a query over rows. `Overflow` at the first row of the answer and its first item whose whole count or sum is
+/// out of the range of its type; `Memory` where there is no room.
+pub fn answer(
+    alloc: Global,
+    schema: &Schema,
+    query: &Query,
+    rows: &[Row],
+) -> Result<Items<Items<Loose>>, AnswerRefusal>
+    ensures { Gives result (answers.answer schema.now query.now rows.now) }
+{
+    let mut partial = Partial::new(alloc, schema, query)?;
+    for row in rows {
+        partial.add(row)?;
+    }
+    partial.result()
+}

@@ -65,14 +65,23 @@ fn of_sum(schema: &Schema, column: usize, whole: i128, shown: i128) -> Option<Lo
     }
 }
 
+/// The count of a tally.
+fn count_of(tally: &Tally) -> Option<Loose>
+    ensures { result ≡ spec.count_of tally.now.total.0 }
+{
+    let count = tally.total.count() as i128;
+    if_int(count, count)
+}
+
 /// The sum of a tally.
 fn sum_of(schema: &Schema, column: usize, tally: &Tally) -> Option<Loose>
     ensures { result ≡ standing.shown_by (Item.Sum column) schema.now [] [] tally.now }
 {
-    if tally.count == 0 {
+    if tally.total.count() == 0 {
         Some(Loose::Null)
     } else {
-        of_sum(schema, column, tally.sum, tally.sum)
+        let sum = tally.total.sum();
+        of_sum(schema, column, sum, sum)
     }
 }
 
@@ -80,10 +89,11 @@ fn sum_of(schema: &Schema, column: usize, tally: &Tally) -> Option<Loose>
 fn average_of(schema: &Schema, column: usize, tally: &Tally) -> Option<Loose>
     ensures { result ≡ standing.shown_by (Item.Avg column) schema.now [] [] tally.now }
 {
-    if tally.count == 0 {
+    if tally.total.count() == 0 {
         Some(Loose::Null)
     } else {
-        of_sum(schema, column, tally.sum, tally.sum / tally.count as i128)
+        let sum = tally.total.sum();
+        of_sum(schema, column, sum, sum / tally.total.count() as i128)
     }
 }
 
@@ -101,7 +111,7 @@ fn shown(
             let value = loose_in(schema, column, cells.cell(place_of(groups, column)))?;
             Ok(Some(value))
         }
-        Item::CountAll | Item::Count(_) => Ok(if_int(tally.count as i128, tally.count as i128)),
+        Item::CountAll | Item::Count(_) => Ok(count_of(tally)),
         Item::Sum(column) => Ok(sum_of(schema, column, tally)),
         Item::Avg(column) => Ok(average_of(schema, column, tally)),
         Item::Min(column) => {

@@ -6,19 +6,19 @@ ghost use Rattle.cs_predicate.specs.Cells.{loose_in};
 ghost use Rattle.batch_aggregate.specs.Items as spec;
 ghost use Rattle.batch_aggregate.specs.Standing.{no_tally, with_cell, with_row};
 
+use crate::total::Total;
 use cs_base::Memory;
 use cs_plans::Item;
 use cs_types::{Row, Value, compare};
 use std::alloc::Global;
 use std::marker::Model;
 
-/// The whole count and sum, and the least and the greatest, of the cells of an item that are not NULL; for `COUNT(*)` the
+/// The count and the whole sum, and the least and the greatest, of the cells of an item that are not NULL; for `COUNT(*)` the
 /// number of rows.
-#[derive(Debug, Drop)]
+#[derive(Drop)]
 pub struct Tally {
     pub item: Item,
-    pub count: u64,
-    pub sum: i128,
+    pub total: Total,
     pub least: Value,
     pub greatest: Value,
 }
@@ -60,19 +60,10 @@ impl Tally {
     {
         Tally {
             item,
-            count: 0,
-            sum: 0,
+            total: Total::new(),
             least: Value::Null,
             greatest: Value::Null,
         }
-    }
-
-    /// Counts one more.
-    fn count_one(&mut self) -> Result<(), Memory>
-        ensures { OnOk result (self.new ≡ record { item = self.old.item; count = self.old.count + 1; sum = self.old.sum; least = self.old.least; greatest = self.old.greatest }) }
-    {
-        self.count = self.count.checked_add(1).ok_or(Memory)?;
-        Ok(())
     }
 
     /// Takes a cell; NULL is not counted.
@@ -82,8 +73,7 @@ impl Tally {
         if matches!(cell, Value::Null) {
             return Ok(());
         }
-        self.count_one()?;
-        self.sum = self.sum.checked_add(number_of(cell) as i128).ok_or(Memory)?;
+        self.total.add(number_of(cell))?;
         keep_lesser(&mut self.least, cell)?;
         keep_greater(&mut self.greatest, cell)?;
         Ok(())
@@ -95,7 +85,7 @@ impl Tally {
     {
         match self.item {
             Item::Column(_) => Ok(()),
-            Item::CountAll => self.count_one(),
+            Item::CountAll => self.total.add(0),
             Item::Count(column)
             | Item::Sum(column)
             | Item::Min(column)
