@@ -219,8 +219,7 @@ pub fn written_rows(
     let columns = plan.columns.as_slice();
     let rows = plan.rows.as_slice();
     match plan.series {
-        Some((start, stop)) =>
-            series_rows(alloc, schema, columns, start, stop, first_row(rows)),
+        Some((start, stop)) => series_rows(alloc, schema, columns, start, stop, first_row(rows)),
         None => values_rows(alloc, schema, columns, rows),
     }
 }

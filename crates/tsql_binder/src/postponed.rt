@@ -23,9 +23,8 @@ fn is_report(table: &TableTree) -> bool
     ensures { result ≡ spec.is_report table.now }
 {
     match &table.second {
-        Some(second) =>
-            is_same_name(table.first.bytes.as_slice(), b"sys")
-                && is_report_name(second.bytes.as_slice()),
+        Some(second) => is_same_name(table.first.bytes.as_slice(), b"sys")
+            && is_report_name(second.bytes.as_slice()),
         None => false,
     }
 }

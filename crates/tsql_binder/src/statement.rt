@@ -29,12 +29,23 @@ fn plan_of(alloc: Global, schema: &Schema, statement: &Statement) -> Result<Boun
     ensures { IfOk result (λ bound. bound ≡ plan_of schema.now statement.now) }
 {
     match statement {
-        Statement::Insert { names, source, .. } =>
-            Ok(Bound::Insert(insert_plan(alloc, schema, names.as_ref(), source)?)),
-        Statement::Update { sets, filter, .. } =>
-            Ok(Bound::Update(update_plan(alloc, schema, sets, filter.as_ref())?)),
-        Statement::Delete { filter, .. } =>
-            Ok(Bound::Delete(filter_of(alloc, schema, filter.as_ref())?)),
+        Statement::Insert { names, source, .. } => Ok(Bound::Insert(insert_plan(
+            alloc,
+            schema,
+            names.as_ref(),
+            source,
+        )?)),
+        Statement::Update { sets, filter, .. } => Ok(Bound::Update(update_plan(
+            alloc,
+            schema,
+            sets,
+            filter.as_ref(),
+        )?)),
+        Statement::Delete { filter, .. } => Ok(Bound::Delete(filter_of(
+            alloc,
+            schema,
+            filter.as_ref(),
+        )?)),
         Statement::Select {
             items,
             filter,
