@@ -77,9 +77,9 @@ module _ (schema : Schema) (changes : List Change) (clock next s : ℕ) where
     (
       finished schema mid s b r,
       (
-        subst (λ h. IsFinish schema mid s h r (finished schema mid s b r)) (sym half)
-            (inr (refl, subst (λ t. IsReplyIn schema mid s t b r) (sym has) reply), refl)
-      ),
+          subst (λ h. IsFinish schema mid s h r (finished schema mid s b r)) (sym half)
+          (inr (refl, subst (λ t. IsReplyIn schema mid s t b r) (sym has) reply), refl)
+          ),
       sym is,
     ),
   )
