@@ -105,9 +105,9 @@ const SCRIPTS: [(&str, Status, &str); 21] = [
     ),
     // Forms that come later, before all other refusals of binding.
     (
-        "setup CREATE TABLE t (k bigint NOT NULL PRIMARY KEY, v int)\ns1 BEGIN TRAN\ns1 SET STATISTICS IO ON\ns1 INSERT INTO u VALUES (1, 1 + 1)\ns1 INSERT INTO t VALUES (1, x)\ns1 INSERT INTO t VALUES (1, (2))\ns1 INSERT INTO t SELECT value, 1 FROM GENERATE_SERIES(1, 2)\ns1 UPDATE t SET v = 1\ns1 DELETE t\ns1 SELECT COUNT(*) FROM t\ns1 SELECT x FROM u WHERE k = 1\ns1 SELECT k FROM t ORDER BY k\ns1 SELECT * FROM sys.column_store_segments\ns1 ALTER INDEX ALL ON t REORGANIZE\n",
+        "setup CREATE TABLE t (k bigint NOT NULL PRIMARY KEY, v int)\ns1 BEGIN TRAN\ns1 COMMIT\ns1 ROLLBACK\ns1 SET STATISTICS IO ON\ns1 SET LOCK_TIMEOUT 0\ns1 SELECT x FROM sys.column_store_segments WHERE 1 = 1\ns1 ALTER INDEX ALL ON t REORGANIZE\n",
         Status::Done,
-        "1 s1.1 >\n2 s1.1 < error 50001 at 1\n3 s1.2 >\n4 s1.2 < error 50001 at 1\n5 s1.3 >\n6 s1.3 < error 50001 at 1\n7 s1.4 >\n8 s1.4 < error 50001 at 1\n9 s1.5 >\n10 s1.5 < error 50001 at 1\n11 s1.6 >\n12 s1.6 < error 50001 at 1\n13 s1.7 >\n14 s1.7 < error 50001 at 1\n15 s1.8 >\n16 s1.8 < error 50001 at 1\n17 s1.9 >\n18 s1.9 < error 50001 at 1\n19 s1.10 >\n20 s1.10 < error 50001 at 1\n21 s1.11 >\n22 s1.11 < error 50001 at 1\n23 s1.12 >\n24 s1.12 < error 50001 at 1\n25 s1.13 >\n26 s1.13 < error 50001 at 1\n27 s1 end\n",
+        "1 s1.1 >\n2 s1.1 < error 50001 at 1\n3 s1.2 >\n4 s1.2 < error 50001 at 1\n5 s1.3 >\n6 s1.3 < error 50001 at 1\n7 s1.4 >\n8 s1.4 < error 50001 at 1\n9 s1.5 >\n10 s1.5 < error 50001 at 1\n11 s1.6 >\n12 s1.6 < error 50001 at 1\n13 s1.7 >\n14 s1.7 < error 50001 at 1\n15 s1 end\n",
     ),
     // The numbers with nine digits, and a negative one.
     (
@@ -128,11 +128,68 @@ const SCRIPTS: [(&str, Status, &str); 21] = [
     ),
 ];
 
+/// Writes and queries, and what they give.
+const QUERIES: [(&str, &str); 9] = [
+    // No rows.
+    (
+        "setup CREATE TABLE t (k bigint NOT NULL PRIMARY KEY, v int)\ns1 SELECT * FROM t\ns1 SELECT COUNT(*), SUM(v) FROM t\n",
+        "1 s1.1 >\n2 s1.1 < ok 0 rows\n3 s1.2 >\n4 s1.2 < ok 1 rows\n  0, NULL\n5 s1 end\n",
+    ),
+    // Whole sums alone are judged.
+    (
+        "setup CREATE TABLE t (k bigint NOT NULL PRIMARY KEY, v int)\ns1 INSERT INTO t VALUES (1, 2147483647), (2, 1), (3, -1)\ns1 SELECT SUM(v) FROM t\ns1 SELECT SUM(v) FROM t WHERE k < 3\n",
+        "1 s1.1 >\n2 s1.1 < ok 3 affected\n3 s1.2 >\n4 s1.2 < ok 1 rows\n  2147483647\n5 s1.3 >\n6 s1.3 < error 8115 row 1 column 1\n7 s1 end\n",
+    ),
+    (
+        "setup CREATE TABLE t (k bigint NOT NULL PRIMARY KEY, v int)\ns1 INSERT INTO t VALUES (1, -3), (2, 0)\ns1 SELECT AVG(v) FROM t\n",
+        "1 s1.1 >\n2 s1.1 < ok 2 affected\n3 s1.2 >\n4 s1.2 < ok 1 rows\n  -1\n5 s1 end\n",
+    ),
+    // NULLs in WHERE.
+    (
+        "setup CREATE TABLE t (k bigint NOT NULL PRIMARY KEY, v int)\ns1 INSERT INTO t VALUES (1, NULL), (2, 5), (3, 6)\ns1 SELECT * FROM t WHERE v <> 5\ns1 SELECT * FROM t WHERE v NOT IN (5, NULL)\ns1 SELECT k FROM t WHERE NOT v = 5 OR v IS NULL\n",
+        "1 s1.1 >\n2 s1.1 < ok 3 affected\n3 s1.2 >\n4 s1.2 < ok 1 rows\n  3, 6\n5 s1.3 >\n6 s1.3 < ok 0 rows\n7 s1.4 >\n8 s1.4 < ok 2 rows\n  1\n  3\n9 s1 end\n",
+    ),
+    // Groups and their order.
+    (
+        "setup CREATE TABLE dbo.orders (id bigint NOT NULL PRIMARY KEY NONCLUSTERED, placed date NOT NULL, price decimal(10,2), region varchar(20), INDEX cci CLUSTERED COLUMNSTORE)\ns1 INSERT INTO dbo.orders VALUES (1, '2024-02-29', 19.99, 'north'), (2, '2024-03-01', 0.005, 'south'), (3, '20240301', 100, 'north');\ns1 SELECT region, SUM(price), COUNT(*) FROM orders WHERE placed >= '2024-02-29' GROUP BY region\n",
+        "1 s1.1 >\n2 s1.1 < ok 3 affected\n3 s1.2 >\n4 s1.2 < ok 2 rows\n  'north', 119.99, 2\n  'south', 0.01, 1\n5 s1 end\n",
+    ),
+    (
+        "setup CREATE TABLE t (k bigint NOT NULL PRIMARY KEY, v int)\ns1 INSERT INTO t VALUES (1, NULL), (2, 5), (3, NULL), (4, 7)\ns1 SELECT v, COUNT(*), MIN(k) FROM t GROUP BY v ORDER BY v DESC\n",
+        "1 s1.1 >\n2 s1.1 < ok 4 affected\n3 s1.2 >\n4 s1.2 < ok 3 rows\n  7, 1, 4\n  5, 1, 2\n  NULL, 2, 1\n5 s1 end\n",
+    ),
+    // Expressions.
+    (
+        "setup CREATE TABLE t (k bigint NOT NULL PRIMARY KEY, v int)\ns1 INSERT INTO t VALUES (1, -7 / 2), (2, -7 % 2)\ns1 INSERT INTO t VALUES (3, 1 / 0)\ns1 SELECT * FROM t\n",
+        "1 s1.1 >\n2 s1.1 < ok 2 affected\n3 s1.2 >\n4 s1.2 < error 8134 row 1 column 2\n5 s1.3 >\n6 s1.3 < ok 2 rows\n  1, -3\n  2, -1\n7 s1 end\n",
+    ),
+    // An UPDATE reads the row as it was; a DELETE.
+    (
+        "setup CREATE TABLE t (k int PRIMARY KEY, a int, b int)\ns1 INSERT INTO t VALUES (1, 1, 2), (2, 3, NULL)\ns1 UPDATE t SET a = b, b = a\ns1 UPDATE t SET a = a + 1 WHERE a = 2\ns1 UPDATE t SET b = 2147483647 + b\ns1 SELECT * FROM t\ns1 DELETE FROM t WHERE a IS NULL\ns1 SELECT * FROM t\ns1 DELETE t\ns1 SELECT * FROM t\n",
+        "1 s1.1 >\n2 s1.1 < ok 2 affected\n3 s1.2 >\n4 s1.2 < ok 2 affected\n5 s1.3 >\n6 s1.3 < ok 1 affected\n7 s1.4 >\n8 s1.4 < error 8115 row 1 column 3\n9 s1.5 >\n10 s1.5 < ok 2 rows\n  1, 3, 1\n  2, NULL, 3\n11 s1.6 >\n12 s1.6 < ok 1 affected\n13 s1.7 >\n14 s1.7 < ok 1 rows\n  1, 3, 1\n15 s1.8 >\n16 s1.8 < ok 1 affected\n17 s1.9 >\n18 s1.9 < ok 0 rows\n19 s1 end\n",
+    ),
+    // Series.
+    (
+        "setup CREATE TABLE t (k bigint NOT NULL PRIMARY KEY, v int)\ns1 INSERT INTO t SELECT value, value * 10 FROM GENERATE_SERIES(-1, 1)\ns1 INSERT INTO t (k) SELECT value + 1 FROM GENERATE_SERIES(1, 2)\ns1 INSERT INTO t SELECT value, 10 / (value - 5) FROM GENERATE_SERIES(4, 6)\ns1 INSERT INTO t SELECT value, 0 FROM GENERATE_SERIES(3, 4)\ns1 SELECT * FROM t WHERE k < 3\ns1 SELECT COUNT(*), COUNT(v), MAX(k) FROM t\n",
+        "1 s1.1 >\n2 s1.1 < ok 3 affected\n3 s1.2 >\n4 s1.2 < ok 2 affected\n5 s1.3 >\n6 s1.3 < error 8134 row 2 column 2\n7 s1.4 >\n8 s1.4 < error 2627 key 3\n9 s1.5 >\n10 s1.5 < ok 4 rows\n  -1, -10\n  0, 0\n  1, 10\n  2, NULL\n11 s1.6 >\n12 s1.6 < ok 1 rows\n  5, 3, 3\n13 s1 end\n",
+    ),
+];
+
 #[test]
 fn runs_scripts(rt: HostRuntime) -> Result<(), Fail> {
     for (input, status, text) in SCRIPTS {
         let (ended, held) = run(rt.alloc(), "replay", input.as_bytes(), 0, 0)?;
         assert_eq!(rt; ended, status);
+        assert_eq!(rt; held.as_slice(), text.as_bytes());
+    }
+    Ok(())
+}
+
+#[test]
+fn writes_and_queries(rt: HostRuntime) -> Result<(), Fail> {
+    for (input, text) in QUERIES {
+        let (ended, held) = run(rt.alloc(), "replay", input.as_bytes(), 0, 0)?;
+        assert_eq!(rt; ended, Status::Done);
         assert_eq!(rt; held.as_slice(), text.as_bytes());
     }
     Ok(())

@@ -1,5 +1,5 @@
 -- Rows that columns hold: their keys, and the tables that they make.
-use Rattle.std.proofs.Common.{◌≡◌, ℕ, zero, suc, ◌<◌, List, [], ◌∷◌, length, map, refl, sym, ap, subst, ◌∙◌, arith, Bool, true, false, IsTrue, All, Contains}
+use Rattle.std.proofs.Common.{◌≡◌, ℕ, zero, suc, ◌<◌, List, [], ◌∷◌, length, map, refl, sym, ap, subst, ◌∙◌, arith, get_or, cond, Bool, true, false, IsTrue, All, Contains}
 use Rattle.std.specs.Prelude.{Option, None, Some, slice_get}
 use Rattle.std.specs.Map.{values_of, remove_entry}
 use Rattle.std.specs.BTreeMap.{insert_entry, is_at}
@@ -15,13 +15,15 @@ use Rattle.cs_types.specs.declared.Value.TheVariants.{Null, Number, Text}
 use Rattle.cs_types.specs.Kinds.{keeps, is_short}
 use Rattle.cs_types.specs.Rows.{cell_at, number_in, key_in, IsNumber}
 use Rattle.cs_types.specs.Schemas.{IsSchema, is_key_kind}
-use Rattle.cs_model.specs.Answers.{edits_of}
+use Rattle.cs_plans.specs.declared.pred.Pred.{Pred}
+use Rattle.batch_aggregate.specs.Answers.{keeps as is_chosen}
+use Rattle.cs_model.specs.Answers.{edits_of, chosen}
 use Rattle.cs_model.specs.Changes.{Edit, Table, edited, laid}
 use Rattle.cs_model.specs.Keys.{key_cmp}
 use Rattle.cs_model.specs.Steps.{staged}
 use Rattle.cs_model.specs.Text.{kind_or, key_kind}
 use Rattle.statement_work.specs.Held.{holds, IsHeld}
-use Rattle.statement_core.specs.Answers.{IsTableHeld}
+use Rattle.statement_core.specs.Answers.{MayHold, IsTableHeld}
 
 -- ---- keys
 
@@ -71,15 +73,11 @@ listed_printable schema rows keys key is held e listed =
 
 -- ---- tables
 
-abbrev MayHold : Schema → Option (List Value) → Type 0
-MayHold schema None = Unit {0}
-MayHold schema (Some row) = IsHeld schema row
-
 edited_held : (schema : Schema) (table : Table) (key : Key) (row : Option (List Value)) → IsTableHeld schema table → MayHold schema row → IsTableHeld schema (edited table (key, row))
 edited_held schema table key None held h = All-map-remove_entry (is_at (key_cmp key)) (λ (e : Key × List Value). e.1) (IsHeld schema) table held
 edited_held schema table key (Some row) held h = All-values-insert_entry key_cmp key row (IsHeld schema) table held h
 
-laid_held : (schema : Schema) (edits : List Edit) (table : Table) → IsTableHeld schema table → All (MayHold schema) (values_of edits) → IsTableHeld schema (laid table edits)
+pub laid_held : (schema : Schema) (edits : List Edit) (table : Table) → IsTableHeld schema table → All (MayHold schema) (values_of edits) → IsTableHeld schema (laid table edits)
 laid_held schema [] table held all = held
 laid_held schema (edit ∷ edits) table held all =
     laid_held schema edits (edited table edit) (edited_held schema table edit.0 edit.1 held (all 0 edit.1 (omega arith))) (λ k d lt. all (suc k) d (omega arith))
@@ -93,3 +91,23 @@ staged_held schema (row ∷ rows) own held all =
 -- rows that columns hold, laid over such a table, make such a table
 pub written_held : (schema : Schema) (rows : List (List Value)) (table : Table) → IsTableHeld schema table → All (IsHeld schema) rows → IsTableHeld schema (laid table (staged [] (edits_of schema rows)))
 written_held schema rows table held all = laid_held schema (staged [] (edits_of schema rows)) table held (staged_held schema rows [] all (All-nil (MayHold schema)))
+
+-- so do writes that take rows away
+pub nothing_held : (schema : Schema) (rows : Table) (own : List Edit) → All (MayHold schema) (values_of own) → All (MayHold schema) (values_of (staged own (map (λ (entry : Key × List Value). (entry.0, None)) rows)))
+nothing_held schema [] own all = all
+nothing_held schema (entry ∷ rows) own all =
+    nothing_held schema rows (insert_entry key_cmp own entry.0 None) (All-values-insert_entry key_cmp entry.0 None (MayHold schema) own all tt)
+
+-- rows that a condition keeps of such a table
+pub chosen_held : (schema : Schema) (condition : Option Pred) (table : Table) → IsTableHeld schema table → IsTableHeld schema (chosen schema condition table)
+chosen_held schema condition [] held = held
+chosen_held schema condition (entry ∷ table) held = at (is_chosen schema condition entry.1) (chosen_held schema condition table (λ k d lt. held (suc k) d (omega arith)))
+  where
+    at : (t : Bool) → IsTableHeld schema (chosen schema condition table) → IsTableHeld schema (cond t (entry ∷ chosen schema condition table) (chosen schema condition table))
+    at true rest = All-cons (IsHeld schema) entry.1 (values_of (chosen schema condition table)) (held 0 entry.1 (omega arith)) rest
+    at false rest = rest
+
+pub held_entry : (schema : Schema) (table : Table) (i : ℕ) (entry : Key × List Value) → IsTableHeld schema table → i < length table → entry ≡ get_or table i entry → IsHeld schema entry.1
+held_entry schema [] i entry held within is = absurd (omega arith)
+held_entry schema (first ∷ table) zero entry held within is = subst (λ (e : Key × List Value). IsHeld schema e.1) (sym is) (held 0 first.1 (omega arith))
+held_entry schema (first ∷ table) (suc i) entry held within is = held_entry schema table i entry (λ k d lt. held (suc k) d (omega arith)) (omega arith) is

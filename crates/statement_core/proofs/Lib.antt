@@ -1,4 +1,4 @@
-pub mod Cells
+pub mod Changed
 pub mod Held
 pub mod Taken
 pub mod Commits

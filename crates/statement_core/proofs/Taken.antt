@@ -127,7 +127,7 @@ refusal_is m session present keys key h = record { key = key; listed = h.listed;
 -- ---- an INSERT whose rows have no value refusal
 
 module _ (schema : Schema) (table : Table) (plan : InsertPlan) (rows : List (List Value)) (is : inserted schema plan ≡ Ok rows) (after : Table) where
-  writes_are : writes schema (bound.Insert plan) ≡ Ok (edits_of schema rows)
+  writes_are : writes schema table (bound.Insert plan) ≡ Ok (edits_of schema rows)
   writes_are = ap (edits_by schema) is
 
   answers_plan : (r : Reply) → AnswersEdits table (edits_of schema rows) r after → Answers schema table (bound.Insert plan) r after

@@ -15,7 +15,7 @@ use Rattle.cs_model.specs.declared.entry.Entry.TheVariants.{Start, Finish, End}
 use Rattle.batch_aggregate.specs.Answers.{answer}
 use Rattle.cs_model.specs.Answers.{is_of_table, writes}
 use Rattle.cs_model.specs.Changes.{Edit, Table, Change, table, laid}
-use Rattle.cs_model.specs.State.{Txn, State, with, half_set}
+use Rattle.cs_model.specs.State.{Txn, Half, State, with, half_set}
 use Rattle.cs_model.specs.Steps.{IsFinish, pinned, IsAnswer, IsWriteReplyOf, IsWriteReply, edits_in, IsReplyIn, Leads, started, finished, accepted_in, refused_in, commits, gone, committed, staged}
 use Rattle.statement_core.specs.Answers.{AnswersWrite, Answers}
 use Rattle.statement_core.specs.Running.{resting}
@@ -102,7 +102,7 @@ module _ (schema : Schema) (changes : List Change) (clock next s : ℕ) where
   begins : (b : Bound) → is_of_table b ≡ true → started (resting changes clock next) s b false ≡ begun b
   begins b is = ap (λ t. half_set (cond t (pinned (resting changes clock next) s false) (resting changes clock next)) s (Some (record { bound = b; short = false }))) is
 
-  is_half : (b : Bound) → (with (λ _. None) s (Some (record { bound = b; short = false }))) s ≡ Some (record { bound = b; short = false })
+  is_half : (b : Bound) → with {A = Option Half} (λ _. None) s (Some (record { bound = b; short = false })) s ≡ Some (record { bound = b; short = false })
   is_half b = at_itself (λ _. None) s (Some (record { bound = b; short = false }))
 
   -- the state between its Start and the effect of its Finish

@@ -1,11 +1,14 @@
 -- What a statement replies over a table, and the table that it leaves.
-use Rattle.std.specs.Prelude.{◌≡◌, ℕ, List, [], Bool, ◌||◌, All, false}
+use Rattle.std.specs.Prelude.{◌≡◌, ℕ, List, [], Bool, ◌||◌, All, false, Option, None, Some, Result, Ok, Err}
+use Rattle.std.specs.BTreeMap.{BTreeMap}
 use Rattle.std.specs.Map.{values_of}
 use Rattle.cs_types.specs.declared.Key.{Key}
 use Rattle.cs_types.specs.declared.Schema.{Schema}
 use Rattle.cs_types.specs.declared.Value.{Value}
 use Rattle.cs_model.specs.declared.entry.Bound.{Bound}
 use Rattle.cs_model.specs.declared.entry.Bound.TheVariants as bound
+use Rattle.cs_model.specs.declared.entry.Refusal.{Refusal}
+use Rattle.cs_model.specs.declared.entry.Refusal.TheVariants.{Valued}
 use Rattle.cs_model.specs.declared.entry.Reply.{Reply}
 use Rattle.cs_model.specs.declared.entry.Reply.TheVariants as reply
 use Rattle.cs_model.specs.Changes.{Edit, Table, laid}
@@ -15,11 +18,27 @@ use Rattle.cs_model.specs.Obstacles.{has_row, stands_twice, keys_of, IsObstacle,
 use Rattle.cs_model.specs.State.{State}
 use Rattle.cs_model.specs.Text.{IsPrintableRefusal}
 use Rattle.cs_model.specs.Steps.{IsAnswer, IsWritten, IsWriteReply, edits_in, staged}
+use Rattle.statement_work.specs.declared.refusal.WriteRefusal.{WriteRefusal}
+use Rattle.statement_work.specs.declared.refusal.WriteRefusal.TheVariants as refusal
 use Rattle.statement_work.specs.Held.{IsHeld}
 
 -- each row of the table is one that its columns hold
 abbrev pub IsTableHeld : Schema → Table → Type 0
 IsTableHeld schema table = All (IsHeld schema) (values_of table)
+
+-- a write that puts no row there, or one that the columns hold
+abbrev pub MayHold : Schema → Option (List Value) → Type 0
+MayHold schema None = Unit {0}
+MayHold schema (Some row) = IsHeld schema row
+
+-- what the writes by key of an UPDATE are: those of its edits, the last for a key standing
+abbrev pub RefusesOwn : Result (List Edit) Refusal → WriteRefusal → Type 0
+RefusesOwn wanted (refusal.Value number row column) = wanted ≡ Err (Valued number row column)
+RefusesOwn wanted refusal.Memory = Unit {0}
+
+abbrev pub GivesOwn : Result (List Edit) Refusal → Result (BTreeMap Key (Option (List Value))) WriteRefusal → Type 0
+GivesOwn wanted (Ok own) = (edits : List Edit) × (wanted ≡ Ok edits) × (own.entries ≡ staged [] edits)
+GivesOwn wanted (Err e) = RefusesOwn wanted e
 
 -- what a bound statement that is run meets: its refusal can be printed
 abbrev pub IsReady : Schema → Bound → Type 0

@@ -104,7 +104,8 @@ fn first_taken(rows: &Rows, counts: &Counts, keys: &[Key]) -> Option<Key>
     least
 }
 
-fn stage_row(own: &mut Own, key: Key, row: Row) -> Result<(), Memory>
+/// Stages a row at a key.
+pub fn stage_row(own: &mut Own, key: Key, row: Row) -> Result<(), Memory>
     ensures { OnOk result (own.new.entries ≡ insert_entry key_cmp own.old.entries key (Some row)) }
 {
     own.insert(key, Some(row))?;

@@ -6,9 +6,10 @@
 //! `statement_work`.
 #![tactic(auto)]
 
-mod answer;
+mod change;
 mod insert;
 mod rows;
 mod run;
+mod select;
 
 pub use run::run_schedule;

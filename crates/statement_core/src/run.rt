@@ -7,9 +7,10 @@ ghost use Rattle.statement_core.specs.Answers.{Answers, IsReady, IsTableHeld};
 ghost use Rattle.statement_core.specs.Logs.{IsLogOf};
 ghost use Rattle.statement_core.specs.Running.{Ran};
 
-use crate::answer::answer;
+use crate::change::{delete_rows, update_rows};
 use crate::insert::insert_rows;
 use crate::rows::Rows;
+use crate::select::select_rows;
 use cs_base::{Items, Memory};
 use cs_model::{Bound, Entry, Reply};
 use cs_types::Schema;
@@ -29,13 +30,9 @@ fn reply_to(alloc: Global, schema: &Schema, rows: &mut Rows, bound: &Bound) -> R
 {
     match bound {
         Bound::Insert(plan) => insert_rows(alloc, schema, rows, plan),
-        Bound::Select(query) => {
-            let found = answer(alloc, schema, query, rows)?;
-            Ok(Reply::Rows {
-                rows: found,
-                segments: None,
-            })
-        }
+        Bound::Update(plan) => update_rows(alloc, schema, rows, plan),
+        Bound::Delete(condition) => delete_rows(alloc, schema, rows, condition),
+        Bound::Select(query) => select_rows(alloc, schema, query, rows),
         Bound::Refused(refusal) => Ok(Reply::Refused(*refusal)),
     }
 }
