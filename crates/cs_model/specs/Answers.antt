@@ -19,13 +19,17 @@ use Rattle.cs_predicate.specs.Expressions.{Computed, compute, refusal_number as 
 use Rattle.tsql_names.specs.Names.{series_schema}
 use Rattle.batch_aggregate.specs.Answers.{keeps}
 use Rattle.cs_model.specs.declared.entry.Bound.{Bound}
-use Rattle.cs_model.specs.declared.entry.Bound.TheVariants.{Insert, Update, Delete, Select, Refused}
+use Rattle.cs_model.specs.declared.entry.Bound.TheVariants.{Begin, Commit, Rollback, Nothing, Insert, Update, Delete, Select, Refused}
 use Rattle.cs_model.specs.declared.entry.Refusal.{Refusal}
 use Rattle.cs_model.specs.declared.entry.Refusal.TheVariants.{Valued}
 use Rattle.cs_model.specs.Changes.{Edit, Table}
 
 -- whether a statement is one of the table, which takes a snapshot, in a transaction of its own where none is open
 abbrev pub is_of_table : Bound → Bool
+is_of_table Begin = false
+is_of_table Commit = false
+is_of_table Rollback = false
+is_of_table Nothing = false
 is_of_table (Insert plan) = true
 is_of_table (Update plan) = true
 is_of_table (Delete condition) = true
@@ -144,6 +148,10 @@ deleted schema condition table = map (λ (entry : Key × List Value). (entry.0, 
 
 -- what a statement writes over the table that it reads, or its first value refusal
 abbrev pub writes : Schema → Table → Bound → Result (List Edit) Refusal
+writes schema table Begin = Ok []
+writes schema table Commit = Ok []
+writes schema table Rollback = Ok []
+writes schema table Nothing = Ok []
 writes schema table (Insert plan) = edits_by schema (inserted schema plan)
 writes schema table (Update plan) = updated schema plan table
 writes schema table (Delete condition) = Ok (deleted schema condition table)

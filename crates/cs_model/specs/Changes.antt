@@ -40,9 +40,13 @@ until s changes = filter (λ (change : Change). nat_le change.commit s) changes
 abbrev pub table : List Change → ℕ → Table
 table changes s = laid [] (map (λ (change : Change). change.edit) (until s changes))
 
+-- the key's newest change
+abbrev pub newest : Key → List Change → Option Change
+newest key changes = fold (λ last (change : Change). if same_key key change.edit.0 then Some change else last) None changes
+
 -- the key's last change numbered at most s
 abbrev pub last_change : Key → ℕ → List Change → Option Change
-last_change key s changes = fold (λ last (change : Change). if same_key key change.edit.0 then Some change else last) None (until s changes)
+last_change key s changes = newest key (until s changes)
 
 -- what a change made of its key
 abbrev pub made : Option Change → Option (List Value)

@@ -4,5 +4,6 @@ pub mod State
 pub mod Answers
 pub mod Obstacles
 pub mod Steps
+pub mod Actors
 pub mod Text
 pub mod Places

@@ -1,13 +1,14 @@
 -- What an event does to the state: a relation by cases of the event.
-use Rattle.std.specs.Prelude.{◌≡◌, ◌⊎◌, ℕ, ◌+◌, List, [], ◌∷◌, ◌++◌, length, map, fold, Bool, true, false, ◌==◌, if◌then◌else◌, is_some, Option, None, Some, Result, Ok, Err}
+use Rattle.std.specs.Prelude.{◌≡◌, ◌⊎◌, ℕ, ◌+◌, List, [], ◌∷◌, ◌++◌, length, map, fold, Bool, true, false, ◌==◌, ◌||◌, nat_lt, nat_le, ◌-◌, if◌then◌else◌, is_some, Option, None, Some, Result, Ok, Err}
 use Rattle.std.specs.BTreeMap.{insert_entry}
 use Rattle.std.specs.Map.{values_of}
 use Rattle.cs_types.specs.declared.Loose.{Loose}
 use Rattle.cs_types.specs.declared.Schema.{Schema}
+use Rattle.cs_plans.specs.declared.plan.Query.{Query}
 use Rattle.cs_model.specs.declared.entry.Bound.{Bound}
 use Rattle.cs_model.specs.declared.entry.Bound.TheVariants as bound
 use Rattle.cs_model.specs.declared.entry.Refusal.{Refusal}
-use Rattle.cs_model.specs.declared.entry.Refusal.TheVariants.{Valued, Memory}
+use Rattle.cs_model.specs.declared.entry.Refusal.TheVariants.{Reading, Valued, Locked, Changed, Duplicate, NoTxn, Memory}
 use Rattle.cs_model.specs.declared.entry.Reply.{Reply}
 use Rattle.cs_model.specs.declared.entry.Reply.TheVariants as reply
 use Rattle.cs_model.specs.declared.entry.Entry.{Entry}
@@ -53,6 +54,7 @@ started m session b short = half_set (if is_of_table b then pinned m session sho
 
 -- an answer of rows; it has counts of segments exactly where the session's setting is on
 abbrev pub IsRows : Bool → List (List Loose) → Reply → Type 0
+IsRows on rows reply.Done = ⊥
 IsRows on rows (reply.Rows list segments) = (list ≡ rows) × (is_some segments ≡ on)
 IsRows on rows (reply.Affected count) = ⊥
 IsRows on rows (reply.Refused refusal) = ⊥
@@ -64,32 +66,49 @@ IsAnswer on (Err place) r = r ≡ reply.Refused (Valued 8115 place.0 place.1)
 
 -- the reply to a write of these edits: the obstacle, or how many edits there are
 abbrev pub IsWritten : (Option Refusal → Type 0) → List Edit → Reply → Type 0
+IsWritten Judged edits reply.Done = ⊥
 IsWritten Judged edits (reply.Affected count) = Judged None × (count ≡ length edits)
 IsWritten Judged edits (reply.Refused refusal) = Judged (Some refusal)
 IsWritten Judged edits (reply.Rows list segments) = ⊥
 
--- the reply to a write, over what its transaction sees: its first value refusal, and else by its edits
-abbrev pub IsWriteReplyOf : State → ℕ → Table → Bound → Result (List Edit) Refusal → Reply → Type 0
-IsWriteReplyOf m session table b (Err refusal) r = r ≡ reply.Refused refusal
-IsWriteReplyOf m session table b (Ok edits) r = IsWritten (IsJudged (IsObstacle m session (is_present b edits table)) (keys_of edits)) edits r
+-- the reply to a write of these edits, or their first value refusal, over what its transaction sees
+abbrev pub IsWriteReplyOf : State → ℕ → Option ℕ → Table → Bound → Result (List Edit) Refusal → Reply → Type 0
+IsWriteReplyOf m session snapshot table b (Err refusal) r = r ≡ reply.Refused refusal
+IsWriteReplyOf m session snapshot table b (Ok edits) r =
+    IsWritten (IsJudged (IsObstacle m session snapshot (is_present b edits table)) (keys_of edits)) edits r
 
-abbrev pub IsWriteReply : Schema → State → ℕ → Table → Bound → Reply → Type 0
-IsWriteReply schema m session table b r = IsWriteReplyOf m session table b (writes schema table b) r
+-- the reply to a write in the session's transaction; it has none without one
+abbrev pub IsWriteReply : Schema → State → ℕ → Option Txn → Bound → Reply → Type 0
+IsWriteReply schema m session None b r = ⊥
+IsWriteReply schema m session (Some txn) b r =
+    IsWriteReplyOf m session txn.snapshot (seen m.changes txn) b (writes schema (seen m.changes txn) b) r
 
--- the reply that a statement is defined to have, with the session's transaction; one of the table has none without it
-abbrev pub IsReplyIn : Schema → State → ℕ → Option Txn → Bound → Reply → Type 0
-IsReplyIn schema m session txn (bound.Refused refusal) r = r ≡ reply.Refused refusal
-IsReplyIn schema m session None (bound.Select query) r = ⊥
-IsReplyIn schema m session (Some txn) (bound.Select query) r = IsAnswer (m.statistics session) (answer schema query (values_of (seen m.changes txn))) r
-IsReplyIn schema m session None (bound.Insert plan) r = ⊥
-IsReplyIn schema m session (Some txn) (bound.Insert plan) r = IsWriteReply schema m session (seen m.changes txn) (bound.Insert plan) r
-IsReplyIn schema m session None (bound.Update plan) r = ⊥
-IsReplyIn schema m session (Some txn) (bound.Update plan) r = IsWriteReply schema m session (seen m.changes txn) (bound.Update plan) r
-IsReplyIn schema m session None (bound.Delete condition) r = ⊥
-IsReplyIn schema m session (Some txn) (bound.Delete condition) r = IsWriteReply schema m session (seen m.changes txn) (bound.Delete condition) r
+-- the reply to a query in the session's transaction; it has none without one
+abbrev pub IsAnswerIn : Schema → State → ℕ → Option Txn → Query → Reply → Type 0
+IsAnswerIn schema m session None query r = ⊥
+IsAnswerIn schema m session (Some txn) query r = IsAnswer (m.statistics session) (answer schema query (values_of (seen m.changes txn))) r
 
+-- BEGIN is done, but in a transaction that is 32 deep
+abbrev pub begin_reply : Option Txn → Reply
+begin_reply None = reply.Done
+begin_reply (Some txn) = if nat_lt txn.depth 32 then reply.Done else reply.Refused (Reading 50001 1)
+
+-- COMMIT and ROLLBACK are done, but without a transaction
+abbrev pub done_in : Option Txn → ℕ → Reply
+done_in None number = reply.Refused (NoTxn number)
+done_in (Some txn) number = reply.Done
+
+-- the reply that a statement is defined to have
 abbrev pub IsReply : Schema → State → ℕ → Bound → Reply → Type 0
-IsReply schema m session b r = IsReplyIn schema m session (m.txns session) b r
+IsReply schema m session bound.Begin r = r ≡ begin_reply (m.txns session)
+IsReply schema m session bound.Commit r = r ≡ done_in (m.txns session) 3902
+IsReply schema m session bound.Rollback r = r ≡ done_in (m.txns session) 3903
+IsReply schema m session bound.Nothing r = r ≡ reply.Done
+IsReply schema m session (bound.Insert plan) r = IsWriteReply schema m session (m.txns session) (bound.Insert plan) r
+IsReply schema m session (bound.Update plan) r = IsWriteReply schema m session (m.txns session) (bound.Update plan) r
+IsReply schema m session (bound.Delete condition) r = IsWriteReply schema m session (m.txns session) (bound.Delete condition) r
+IsReply schema m session (bound.Select query) r = IsAnswerIn schema m session (m.txns session) query r
+IsReply schema m session (bound.Refused refusal) r = r ≡ reply.Refused refusal
 
 -- ---- the state after a Finish
 
@@ -101,9 +120,13 @@ abbrev pub is_empty : List Edit → Bool
 is_empty [] = true
 is_empty (edit ∷ edits) = false
 
--- the changes of a commit
+-- edits as the changes of a commit of a transaction
+abbrev pub numbered : ℕ → ℕ → List Edit → List Change
+numbered commit txn edits = map (λ edit. record { commit = commit; txn = txn; edit = edit }) edits
+
+-- the changes of a transaction's commit
 abbrev pub committed : ℕ → Txn → List Change
-committed commit txn = map (λ edit. record { commit = commit; txn = txn.number; edit = edit }) txn.own
+committed commit txn = numbered commit txn.number txn.own
 
 abbrev pub gone : State → ℕ → State
 gone m session = txn_set m session None
@@ -114,38 +137,82 @@ commits m session txn =
     if is_empty txn.own then gone m session
     else record (gone m session) { changes = m.changes ++ committed (m.clock + 1) txn; clock = m.clock + 1 }
 
+-- an implicit transaction commits after its statement, and another stays open
+abbrev pub settled : State → ℕ → Txn → State
+settled m session txn = if txn.depth == 0 then commits m session txn else txn_set m session (Some txn)
+
+-- after these writes of the session's transaction
+abbrev pub wrote : State → ℕ → Option Txn → List Edit → State
+wrote m session None edits = m
+wrote m session (Some txn) edits = settled m session (record txn { own = staged txn.own edits })
+
+-- after BEGIN: a transaction opens, or is a level deeper
+abbrev pub began : State → ℕ → Option Txn → State
+began m session None = record m {
+  txns = with m.txns session (Some (record { number = m.next; depth = 1; snapshot = None; own = [] }));
+  next = m.next + 1;
+}
+began m session (Some txn) = txn_set m session (Some (record txn { depth = txn.depth + 1 }))
+
+-- after COMMIT: the transaction is committed, or is a level less deep
+abbrev pub unwound : State → ℕ → Option Txn → State
+unwound m session None = m
+unwound m session (Some txn) = if nat_le txn.depth 1 then commits m session txn else txn_set m session (Some (record txn { depth = txn.depth - 1 }))
+
 -- the edits of a write that was not refused
 abbrev pub edits_in : Result (List Edit) Refusal → List Edit
 edits_in (Ok edits) = edits
 edits_in (Err refusal) = []
 
--- after a statement that was not refused: what it writes is the transaction's own, and an implicit transaction commits
-abbrev pub accepted_in : Schema → State → ℕ → Option Txn → Bound → State
-accepted_in schema m session None b = m
-accepted_in schema m session (Some txn) b =
-    let after = record txn { own = staged txn.own (edits_in (writes schema (seen m.changes txn) b)) } in
-    if txn.depth == 0 then commits m session after else txn_set m session (Some after)
+-- what a statement writes in the session's transaction
+abbrev pub writes_in : Schema → List Change → Option Txn → Bound → List Edit
+writes_in schema changes None b = []
+writes_in schema changes (Some txn) b = edits_in (writes schema (seen changes txn) b)
 
+-- after a statement that was not refused
 abbrev pub accepted : Schema → State → ℕ → Bound → State
-accepted schema m session b = accepted_in schema m session (m.txns session) b
+accepted schema m session bound.Begin = began m session (m.txns session)
+accepted schema m session bound.Commit = unwound m session (m.txns session)
+accepted schema m session bound.Rollback = gone m session
+accepted schema m session bound.Nothing = m
+accepted schema m session (bound.Insert plan) = wrote m session (m.txns session) (writes_in schema m.changes (m.txns session) (bound.Insert plan))
+accepted schema m session (bound.Update plan) = wrote m session (m.txns session) (writes_in schema m.changes (m.txns session) (bound.Update plan))
+accepted schema m session (bound.Delete condition) = wrote m session (m.txns session) (writes_in schema m.changes (m.txns session) (bound.Delete condition))
+accepted schema m session (bound.Select query) = wrote m session (m.txns session) []
+accepted schema m session (bound.Refused refusal) = m
 
--- whether a refusal ends the transaction: every one ends an implicit one
-abbrev pub ends_txn : Txn → Refusal → Bool
-ends_txn txn refusal = txn.depth == 0
+-- 3960 alone ends every transaction
+abbrev pub is_changed : Refusal → Bool
+is_changed (Reading number at) = false
+is_changed (Valued number row column) = false
+is_changed (Locked key txn) = false
+is_changed (Changed key txn commit) = true
+is_changed (Duplicate key) = false
+is_changed (NoTxn number) = false
+is_changed Memory = false
+
+-- whether a refusal ends the transaction: every one ends an implicit one, and 3960 ends any
+abbrev pub ends_txn : Option Txn → Refusal → Bool
+ends_txn None refusal = false
+ends_txn (Some txn) refusal = txn.depth == 0 || is_changed refusal
 
 -- after a refusal the transaction is gone, or as it was
-abbrev pub refused_in : State → ℕ → Option Txn → Refusal → State
-refused_in m session None refusal = m
-refused_in m session (Some txn) refusal = if ends_txn txn refusal then gone m session else m
+abbrev pub refused : State → ℕ → Refusal → State
+refused m session refusal = if ends_txn (m.txns session) refusal then gone m session else m
 
 abbrev pub replied : Schema → State → ℕ → Bound → Reply → State
+replied schema m session b reply.Done = accepted schema m session b
 replied schema m session b (reply.Affected count) = accepted schema m session b
 replied schema m session b (reply.Rows list segments) = accepted schema m session b
-replied schema m session b (reply.Refused refusal) = refused_in m session (m.txns session) refusal
+replied schema m session b (reply.Refused refusal) = refused m session refusal
+
+-- the statement is no longer half done
+abbrev pub rested : State → ℕ → State
+rested m session = half_set m session None
 
 -- the state after a Finish: the statement is no longer half done, and then its reply takes effect
 abbrev pub finished : Schema → State → ℕ → Bound → Reply → State
-finished schema m session b r = replied schema (half_set m session None) session b r
+finished schema m session b r = replied schema (rested m session) session b r
 
 -- a Finish of the half-done statement: with the defined reply, or with want of memory in its place
 abbrev pub IsFinish : Schema → State → ℕ → Option Half → Reply → State → Type 0
@@ -158,7 +225,7 @@ IsFinish schema m session (Some half) r after =
 
 -- the entry leads from the state m to the state after
 abbrev pub IsStep : Schema → State → Entry → State → Type 0
-IsStep schema m (Start session b short) after = (m.half session ≡ None) × (short ≡ true → is_of_table b ≡ true) × (after ≡ started m session b short)
+IsStep schema m (Start session b short) after = (m.half session ≡ None) × (short ≡ true → is_of_table b.value ≡ true) × (after ≡ started m session b.value short)
 IsStep schema m (Finish session r) after = IsFinish schema m session (m.half session) r after
 IsStep schema m (End session) after = (m.half session ≡ None) × (after ≡ gone m session)
 

@@ -10,10 +10,11 @@ use Rattle.cs_types.specs.declared.Schema.{Schema}
 use Rattle.cs_types.specs.declared.Value.TheVariants.{Number}
 use Rattle.cs_types.specs.Kinds.{keeps}
 use Rattle.cs_types.specs.Text.{loose_text, value_text, IsPrintable}
+use Rattle.cs_model.specs.Actors.{actor_of}
 use Rattle.cs_model.specs.declared.entry.Refusal.{Refusal}
-use Rattle.cs_model.specs.declared.entry.Refusal.TheVariants.{Reading, Valued, Duplicate, Memory}
+use Rattle.cs_model.specs.declared.entry.Refusal.TheVariants.{Reading, Valued, Locked, Changed, Duplicate, NoTxn, Memory}
 use Rattle.cs_model.specs.declared.entry.Reply.{Reply}
-use Rattle.cs_model.specs.declared.entry.Reply.TheVariants.{Affected, Rows, Refused}
+use Rattle.cs_model.specs.declared.entry.Reply.TheVariants.{Done, Affected, Rows, Refused}
 use Rattle.cs_model.specs.declared.entry.Entry.{Entry}
 use Rattle.cs_model.specs.declared.entry.Entry.TheVariants.{Start, Finish, End}
 
@@ -48,7 +49,10 @@ valued_text number row column = codes "error " ++ decimal number ++ codes " row 
 abbrev pub refusal_text : Schema → Refusal → List ℕ
 refusal_text schema (Reading number at) = codes "error " ++ decimal number ++ codes " at " ++ decimal at
 refusal_text schema (Valued number row column) = valued_text number row column
+refusal_text schema (Locked key txn) = codes "error 1222 key " ++ key_text schema key ++ codes " transaction " ++ decimal txn
+refusal_text schema (Changed key txn commit) = codes "error 3960 key " ++ key_text schema key ++ codes " transaction " ++ decimal txn ++ codes " commit " ++ decimal commit
 refusal_text schema (Duplicate key) = codes "error 2627 key " ++ key_text schema key
+refusal_text schema (NoTxn number) = codes "error " ++ decimal number
 refusal_text schema Memory = codes "error 701"
 
 -- the last line under an answer, where STATISTICS IO is on
@@ -58,6 +62,7 @@ segments_line (Some counts) = codes "  segments read " ++ decimal counts.0 ++ co
 
 -- the reply, and the lines under it
 abbrev pub reply_text : Schema → Reply → List ℕ
+reply_text schema Done = codes "ok\n"
 reply_text schema (Affected count) = codes "ok " ++ decimal count ++ codes " affected\n"
 reply_text schema (Rows rows segments) = codes "ok " ++ decimal (length rows) ++ codes " rows\n" ++ flat_map row_line rows ++ segments_line segments
 reply_text schema (Refused refusal) = refusal_text schema refusal ++ codes "\n"
@@ -71,12 +76,6 @@ abbrev pub entry_text : Schema → ℕ → ℕ → Entry → List ℕ
 entry_text schema event place (Start session bound short) = decimal event ++ codes " " ++ session_text session ++ codes "." ++ decimal place ++ codes " >\n"
 entry_text schema event place (Finish session reply) = decimal event ++ codes " " ++ session_text session ++ codes "." ++ decimal place ++ codes " < " ++ reply_text schema reply
 entry_text schema event place (End session) = decimal event ++ codes " " ++ session_text session ++ codes " end\n"
-
--- the number of the actor whose entry it is: that of its session
-abbrev pub actor_of : Entry → ℕ
-actor_of (Start session bound short) = session
-actor_of (Finish session reply) = session
-actor_of (End session) = session
 
 abbrev pub is_start_of : ℕ → Entry → Bool
 is_start_of session (Start s bound short) = s == session
@@ -102,16 +101,24 @@ text schema log = text_after schema [] log
 
 -- ---- what can be printed: values that a column keeps, and no day outside the calendar
 
+-- the key's column keeps it
+abbrev pub IsPrintableKey : Schema → Key → Type 0
+IsPrintableKey schema key = IsTrue (keeps (key_kind schema) (Number key.0))
+
 abbrev pub IsPrintableRefusal : Schema → Refusal → Type 0
 IsPrintableRefusal schema (Reading number at) = Unit {0}
 IsPrintableRefusal schema (Valued number row column) = Unit {0}
-IsPrintableRefusal schema (Duplicate key) = IsTrue (keeps (key_kind schema) (Number key.0))
+IsPrintableRefusal schema (Locked key txn) = IsPrintableKey schema key
+IsPrintableRefusal schema (Changed key txn commit) = IsPrintableKey schema key
+IsPrintableRefusal schema (Duplicate key) = IsPrintableKey schema key
+IsPrintableRefusal schema (NoTxn number) = Unit {0}
 IsPrintableRefusal schema Memory = Unit {0}
 
 abbrev pub IsPrintableRow : List Loose → Type 0
 IsPrintableRow row = All IsPrintable row
 
 abbrev pub IsPrintableReply : Schema → Reply → Type 0
+IsPrintableReply schema Done = Unit {0}
 IsPrintableReply schema (Affected count) = Unit {0}
 IsPrintableReply schema (Rows rows segments) = All IsPrintableRow rows
 IsPrintableReply schema (Refused refusal) = IsPrintableRefusal schema refusal

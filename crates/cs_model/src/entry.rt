@@ -2,6 +2,7 @@
 use cs_base::Items;
 use cs_plans::{InsertPlan, Pred, Query, UpdatePlan};
 use cs_types::{Key, Loose};
+use std::sync::Arc;
 
 /// A row of an answer: a value for each item of the query.
 pub type AnswerRow = Items<Loose>;
@@ -9,6 +10,15 @@ pub type AnswerRow = Items<Loose>;
 /// A statement as it is bound to the table, or why it is refused.
 #[derive(Debug, Drop)]
 pub enum Bound {
+    /// BEGIN TRANSACTION: opens a transaction, or makes the open one a level deeper.
+    Begin,
+    /// COMMIT: leaves a level; at the outermost the transaction commits.
+    Commit,
+    /// ROLLBACK: the whole transaction is undone.
+    Rollback,
+    /// SET of something that changes nothing here: the isolation level, which is always SNAPSHOT, or the time to wait for a
+    /// lock, since no statement waits.
+    Nothing,
     /// INSERT of the rows of VALUES, or of a row over each number of a series.
     Insert(InsertPlan),
     /// UPDATE of the rows for which its filter is true.
@@ -29,8 +39,15 @@ pub enum Refusal {
     /// A value that a row's column does not keep, or that can't be computed, has an error with this number: 515, 2628, 220,
     /// 8115 or 8134. Rows are counted from 1 in their order in the statement, columns from 1 by their place in the table.
     Valued { number: u32, row: u64, column: u32 },
+    /// A write of a key that another open transaction, the one with this number, has written (error 1222).
+    Locked { key: Key, txn: u64 },
+    /// A write of a key that was changed after the transaction's snapshot was taken (error 3960): its newest change is this
+    /// transaction's, under this commit number.
+    Changed { key: Key, txn: u64, commit: u64 },
     /// An INSERT of a key that is there already, or twice in the statement (error 2627).
     Duplicate { key: Key },
+    /// A COMMIT (error 3902) or a ROLLBACK (error 3903) without a transaction.
+    NoTxn { number: u32 },
     /// Memory was not there (error 701). No row has changed.
     Memory,
 }
@@ -38,6 +55,8 @@ pub enum Refusal {
 /// The reply to a statement.
 #[derive(Debug, Drop)]
 pub enum Reply {
+    /// The statement was done; it counts no rows.
+    Done,
     /// So many rows were written.
     Affected(u64),
     /// The answer of a query. Where STATISTICS IO is on, also how many segments the scan read and skipped.
@@ -53,10 +72,10 @@ pub enum Reply {
 #[derive(Debug, Drop)]
 pub enum Entry {
     /// A statement begins. A statement of the table opens a transaction and takes a snapshot here; `short` says that
-    /// there was no memory for that.
+    /// there was no memory for that. The statement is shared with whoever works on it.
     Start {
         session: u32,
-        bound: Bound,
+        bound: Arc<Bound>,
         short: bool,
     },
     /// The statement that the session began is replied to, and takes effect unless it is refused.

@@ -1,6 +1,7 @@
 // The text of a log.
 ghost use Rattle.std.specs.Prelude.{◌≡◌, ◌+◌, ◌<◌, ◌^◌, ℕ, All, IfOk, OnOk};
-ghost use Rattle.cs_model.specs.Text.{actor_of, text, IsPrintableEntry};
+ghost use Rattle.cs_model.specs.Actors.{actor_of};
+ghost use Rattle.cs_model.specs.Text.{text, IsPrintableEntry};
 ghost use Rattle.cs_model.specs.Places.{place_in, begun_by};
 
 use crate::entry::Entry;

@@ -2,7 +2,7 @@
 ghost use Rattle.std.specs.Prelude.{◌≡◌, ◌++◌, All, OnOk, OnErr, IsTrue, codes, decimal};
 ghost use Rattle.std.specs.List.{flat_map};
 ghost use Rattle.cs_types.specs.Text.{IsPrintable};
-ghost use Rattle.cs_model.specs.Text.{next_cell, cells_text, row_line, key_kind, key_text, valued_text, refusal_text, segments_line, reply_text, session_text, entry_text, IsPrintableRow, IsPrintableRefusal, IsPrintableReply, IsPrintableEntry};
+ghost use Rattle.cs_model.specs.Text.{next_cell, cells_text, row_line, key_kind, key_text, valued_text, refusal_text, segments_line, reply_text, session_text, entry_text, IsPrintableRow, IsPrintableKey, IsPrintableRefusal, IsPrintableReply, IsPrintableEntry};
 ghost use Rattle.cs_types.specs.Kinds.{keeps};
 ghost use Rattle.cs_types.specs.declared.Value.TheVariants as value;
 
@@ -60,7 +60,7 @@ fn key_kind(schema: &Schema) -> ColumnType
 
 /// Adds a key, printed by its column's type.
 fn append_key(schema: &Schema, key: Key, line: &mut Line) -> Result<(), Memory>
-    requires { IsTrue (keeps (key_kind schema.now) (value.Number key.0)) }
+    requires { IsPrintableKey schema.now key }
     ensures { OnOk result (line.new ≡ line.old ++ key_text schema.now key) }
 {
     print_value(key_kind(schema), &Value::Number(key.0), line)
@@ -76,6 +76,22 @@ fn append_valued(number: u32, row: u64, column: u32, line: &mut Line) -> Result<
     line.append_number(row)?;
     line.append(b" column ")?;
     line.append_number(column as u64)
+}
+
+/// Adds the transaction that stands in the way of a write.
+fn append_txn(txn: u64, line: &mut Line) -> Result<(), Memory>
+    ensures { OnOk result (line.new ≡ line.old ++ codes " transaction " ++ decimal txn) }
+{
+    line.append(b" transaction ")?;
+    line.append_number(txn)
+}
+
+/// Adds the commit that stands in the way of a write.
+fn append_commit(commit: u64, line: &mut Line) -> Result<(), Memory>
+    ensures { OnOk result (line.new ≡ line.old ++ codes " commit " ++ decimal commit) }
+{
+    line.append(b" commit ")?;
+    line.append_number(commit)
 }
 
 fn append_refusal(schema: &Schema, refusal: Refusal, line: &mut Line) -> Result<(), Memory>
@@ -94,9 +110,24 @@ fn append_refusal(schema: &Schema, refusal: Refusal, line: &mut Line) -> Result<
             row,
             column,
         } => append_valued(number, row, column, line),
+        Refusal::Locked { key, txn } => {
+            line.append(b"error 1222 key ")?;
+            append_key(schema, key, line)?;
+            append_txn(txn, line)
+        }
+        Refusal::Changed { key, txn, commit } => {
+            line.append(b"error 3960 key ")?;
+            append_key(schema, key, line)?;
+            append_txn(txn, line)?;
+            append_commit(commit, line)
+        }
         Refusal::Duplicate { key } => {
             line.append(b"error 2627 key ")?;
             append_key(schema, key, line)
+        }
+        Refusal::NoTxn { number } => {
+            line.append(b"error ")?;
+            line.append_number(number as u64)
         }
         Refusal::Memory => line.append(b"error 701"),
     }
@@ -122,6 +153,7 @@ fn append_reply(schema: &Schema, reply: &Reply, line: &mut Line) -> Result<(), M
     ensures { OnOk result (line.new ≡ line.old ++ reply_text schema.now reply.now) }
 {
     match reply {
+        Reply::Done => line.append(b"ok\n"),
         Reply::Affected(count) => {
             line.append(b"ok ")?;
             line.append_number(*count)?;
