@@ -7,3 +7,4 @@ pub mod Steps
 pub mod Actors
 pub mod Text
 pub mod Places
+pub mod Held

@@ -1,4 +1,8 @@
-pub mod Answers
+pub mod Seats
+pub mod Held
 pub mod Least
-pub mod Logs
-pub mod Running
+pub mod Outcomes
+pub mod Settled
+pub mod Fit
+pub mod CoreValue
+pub mod Cores

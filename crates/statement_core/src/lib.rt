@@ -1,15 +1,18 @@
-//! Runs the steps of a script and keeps the log of their events. So far each statement runs whole and commits by itself,
-//! and the rows are those of a plain list of changes.
+//! The transactional core: up to 64 sessions over one table, under SNAPSHOT isolation, with statements half done.
 //!
-//! Its one contract: `run_schedule` gives a log that is legal from the empty state, follows the script line by line, and
-//! has each session's statements once and in order, with its End. It stands on `script_reader` and on
-//! `statement_work`.
+//! Its one contract: each call of `Core` adds one event to a log that stays legal by the row model of `cs_model`, from the
+//! empty state on. The work of a statement is done outside the core, by a `Desk`, over what was started. It stands on
+//! `change_list` for the committed changes, and on `row_laws` for what legal logs have in common.
 #![tactic(auto)]
 
-mod change;
-mod insert;
-mod rows;
-mod run;
-mod select;
+mod begin;
+mod held;
+mod judge;
+mod kept;
+mod seats;
+mod settle;
+mod started;
 
-pub use run::run_schedule;
+pub use kept::Core;
+pub use seats::Seats;
+pub use started::{Desk, Outcome, Started};

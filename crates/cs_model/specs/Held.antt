@@ -1,0 +1,42 @@
+-- Rows that the columns of a table hold, and edits that a table may take.
+use Rattle.std.specs.Prelude.{◌≡◌, ℕ, Bool, IsTrue, List, slice_get, All, Option, None, Some}
+use Rattle.cs_types.specs.declared.Column.{Column}
+use Rattle.cs_types.specs.declared.Key.{Key}
+use Rattle.cs_types.specs.declared.Schema.{Schema}
+use Rattle.cs_types.specs.declared.Value.{Value}
+use Rattle.cs_types.specs.declared.Value.TheVariants.{Null, Number, Text}
+use Rattle.cs_types.specs.Kinds.{keeps_number, is_short}
+use Rattle.cs_types.specs.Rows.{cell_at}
+use Rattle.cs_model.specs.Changes.{Edit, Table, Change}
+use Rattle.cs_model.specs.Text.{IsPrintableKey}
+
+-- NULL where it may stand, a number in the type's range, a text that is short enough
+abbrev pub holds : Column → Value → Bool
+holds column Null = column.nullable
+holds column (Number z) = keeps_number column.kind z
+holds column (Text t) = is_short column.kind t
+
+-- each column holds its cell of the row
+abbrev pub IsHeld : Schema → List Value → Type 0
+IsHeld schema row = (i : ℕ) (column : Column) → slice_get schema.columns i ≡ Some column → IsTrue (holds column (cell_at row i))
+
+-- a write that puts no row there, or one that the columns hold
+abbrev pub MayHold : Schema → Option (List Value) → Type 0
+MayHold schema None = Unit {0}
+MayHold schema (Some row) = IsHeld schema row
+
+-- an edit of a key that can be printed, to nothing or to a row that the columns hold
+abbrev pub IsFit : Schema → Edit → Type 0
+IsFit schema edit = IsPrintableKey schema edit.0 × MayHold schema edit.1
+
+-- a row that the columns hold, at a key that can be printed
+abbrev pub IsFitEntry : Schema → Key × List Value → Type 0
+IsFitEntry schema entry = IsPrintableKey schema entry.0 × IsHeld schema entry.1
+
+-- each change's edit fits the table
+abbrev pub AreFit : Schema → List Change → Type 0
+AreFit schema changes = All (λ (change : Change). IsFit schema change.edit) changes
+
+-- each row of the table fits it
+abbrev pub IsFitTable : Schema → Table → Type 0
+IsFitTable schema table = All (IsFitEntry schema) table

@@ -1,0 +1,35 @@
+-- What the type of a core keeps, and what its calls ask for.
+use Rattle.std.specs.Prelude.{◌≡◌, ℕ, ◌+◌, ◌≤◌, ◌<◌, List, length, All, Bool}
+use Rattle.cs_types.specs.declared.Schema.{Schema}
+use Rattle.cs_model.specs.declared.entry.Bound.{Bound}
+use Rattle.cs_model.specs.declared.entry.Entry.{Entry}
+use Rattle.cs_model.specs.Actors.{owed}
+use Rattle.cs_model.specs.Changes.{Table}
+use Rattle.cs_model.specs.Steps.{Legal}
+use Rattle.cs_model.specs.Text.{IsPrintableEntry}
+use Rattle.row_laws.specs.Laws.{AreDistinct}
+use Rattle.row_laws.specs.Started.{IsStarted}
+use Rattle.statement_core.specs.declared.held.Held.{Held}
+use Rattle.statement_core.specs.declared.started.Outcome.{Outcome}
+use Rattle.statement_core.specs.Held.{state_of}
+use Rattle.statement_core.specs.Outcomes.{GivesOn}
+use Rattle.statement_core.specs.Fit.{IsFitState}
+
+-- the log is legal and leads to the state that the fields stand for; there is room for every Finish and End that is still
+-- owed; and all of it fits the table
+pub record IsCore (schema : Schema) (held : Held) (log : List Entry) (capacity : ℕ) (sessions : List ℕ) : Type 0 where
+  pub legal : Legal schema log (state_of held)
+  pub room : length log + owed log sessions ≤ capacity
+  pub numbers : All (λ session. session < 65) sessions
+  pub few : length sessions ≤ 64
+  pub distinct : AreDistinct sessions
+  pub fit : IsFitState schema (state_of held)
+  pub printable : All (IsPrintableEntry schema) log
+
+-- the outcome is what the definitions give on what the session has begun
+pub record IsDone (schema : Schema) (log : List Entry) (session : ℕ) (outcome : Outcome) : Type 0 where
+  pub bound : Bound
+  pub short : Bool
+  pub rows : Table
+  pub started : IsStarted schema log session bound short rows
+  pub gives : GivesOn schema bound short rows outcome

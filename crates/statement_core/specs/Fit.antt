@@ -1,0 +1,34 @@
+-- States and statements whose rows the columns hold, and whose refusals can be printed.
+use Rattle.std.specs.Prelude.{ℕ, List, All, Option, None, Some}
+use Rattle.cs_types.specs.declared.Schema.{Schema}
+use Rattle.cs_model.specs.declared.entry.Bound.{Bound}
+use Rattle.cs_model.specs.declared.entry.Bound.TheVariants as bound
+use Rattle.cs_model.specs.State.{Txn, Half, State}
+use Rattle.cs_model.specs.Held.{IsFit, AreFit}
+use Rattle.cs_model.specs.Text.{IsPrintableRefusal}
+
+-- the refusal that a statement is bound to can be printed
+abbrev pub IsReady : Schema → Bound → Type 0
+IsReady schema bound.Begin = Unit {0}
+IsReady schema bound.Commit = Unit {0}
+IsReady schema bound.Rollback = Unit {0}
+IsReady schema bound.Nothing = Unit {0}
+IsReady schema (bound.Insert plan) = Unit {0}
+IsReady schema (bound.Update plan) = Unit {0}
+IsReady schema (bound.Delete condition) = Unit {0}
+IsReady schema (bound.Select query) = Unit {0}
+IsReady schema (bound.Refused refusal) = IsPrintableRefusal schema refusal
+
+abbrev pub IsFitTxn : Schema → Option Txn → Type 0
+IsFitTxn schema None = Unit {0}
+IsFitTxn schema (Some txn) = All (IsFit schema) txn.own
+
+abbrev pub IsReadyHalf : Schema → Option Half → Type 0
+IsReadyHalf schema None = Unit {0}
+IsReadyHalf schema (Some half) = IsReady schema half.bound
+
+-- all that is committed, written or half done fits the table
+pub record IsFitState (schema : Schema) (m : State) : Type 0 where
+  pub changes : AreFit schema m.changes
+  pub txns : (session : ℕ) → IsFitTxn schema (m.txns session)
+  pub halves : (session : ℕ) → IsReadyHalf schema (m.half session)

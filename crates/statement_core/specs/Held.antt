@@ -1,0 +1,42 @@
+-- The state of the row model that the core's fields stand for.
+use Rattle.std.specs.Prelude.{◌≡◌, ◌<◌, ◌+◌, ◌^◌, ℕ, List, false, Option, None, Some}
+use Rattle.cs_model.specs.State.{Txn, Half, State}
+use Rattle.statement_core.specs.Seats.{seat}
+use Rattle.statement_core.specs.declared.held.OpenTxn.{OpenTxn}
+use Rattle.statement_core.specs.declared.held.HalfDone.{HalfDone}
+use Rattle.statement_core.specs.declared.held.Held.{Held}
+
+-- the model's transaction
+abbrev pub txn_as : OpenTxn → Txn
+txn_as txn = record { number = txn.number; depth = txn.depth; snapshot = txn.snapshot; own = txn.own.entries }
+
+abbrev pub txn_in : Option OpenTxn → Option Txn
+txn_in None = None
+txn_in (Some txn) = Some (txn_as txn)
+
+abbrev pub half_in : Option HalfDone → Option Half
+half_in None = None
+half_in (Some half) = Some (record { bound = half.bound.value; short = half.short })
+
+abbrev pub txns_of : List (Option OpenTxn) → ℕ → Option Txn
+txns_of seats session = txn_in (seat seats session)
+
+abbrev pub halves_of : List (Option HalfDone) → ℕ → Option Half
+halves_of seats session = half_in (seat seats session)
+
+-- no statement sets a session's STATISTICS IO so far
+abbrev pub state_of : Held → State
+state_of held = record {
+  changes = held.changes;
+  clock = held.clock;
+  txns = txns_of held.txns;
+  half = halves_of held.halves;
+  statistics = λ _. false;
+  next = held.next;
+}
+
+-- the session has a seat, and no number runs over
+pub record IsWithin (held : Held) (session : ℕ) : Type 0 where
+  pub seat : session < 65
+  pub clock : held.clock + 1 < 2 ^ 64
+  pub next : held.next + 1 < 2 ^ 64

@@ -1,0 +1,97 @@
+-- What a Finish leaves, once the statement is no longer half done.
+use Rattle.std.specs.Prelude.{◌≡◌, ◌≤◌, ◌⊎◌, ℕ, ◌+◌, ◌++◌, List, [], count_by, Bool, true, false, if◌then◌else◌, Option, None, Some}
+use Rattle.std.specs.BTreeMap.{BTreeMap}
+use Rattle.cs_types.specs.declared.Key.{Key}
+use Rattle.cs_types.specs.declared.Schema.{Schema}
+use Rattle.cs_model.specs.declared.entry.Bound.{Bound}
+use Rattle.cs_model.specs.declared.entry.Bound.TheVariants as bound
+use Rattle.cs_model.specs.declared.entry.Refusal.{Refusal}
+use Rattle.cs_model.specs.declared.entry.Refusal.TheVariants.{Memory}
+use Rattle.cs_model.specs.declared.entry.Reply.{Reply}
+use Rattle.cs_model.specs.declared.entry.Reply.TheVariants as reply
+use Rattle.cs_model.specs.Changes.{Edit, Table}
+use Rattle.cs_model.specs.Keys.{same_key}
+use Rattle.cs_model.specs.State.{Txn, State, seen}
+use Rattle.cs_model.specs.Answers.{is_of_table}
+use Rattle.cs_model.specs.Obstacles.{keys_of, is_present, IsObstacle, IsJudged}
+use Rattle.cs_model.specs.Steps.{IsReply, IsWritten, is_empty, numbered, replied, wrote, refused, commits}
+use Rattle.row_laws.specs.Started.{Shows, IsPinned, seen_in}
+use Rattle.statement_core.specs.declared.started.Outcome.{Outcome}
+use Rattle.statement_core.specs.Least.{count_in}
+use Rattle.statement_core.specs.Outcomes.{GivesOn}
+
+-- the reply is the defined one or want of memory, and the state after is what it leaves
+pub record Settles (schema : Schema) (m : State) (session : ℕ) (b : Bound) (short : Bool) (r : Reply) (after : State) : Type 0 where
+  pub reply : (r ≡ reply.Refused Memory) ⊎ ((short ≡ false) × IsReply schema m session b r)
+  pub state : after ≡ replied schema m session b r
+
+abbrev pub wrote_or : State → ℕ → List Edit → Reply → State
+wrote_or m session edits reply.Done = wrote m session (m.txns session) edits
+wrote_or m session edits (reply.Affected count) = wrote m session (m.txns session) edits
+wrote_or m session edits (reply.Rows rows segments) = wrote m session (m.txns session) edits
+wrote_or m session edits (reply.Refused refusal) = refused m session refusal
+
+-- the reply to a write of these edits in the session's transaction
+abbrev pub IsWrittenIn : State → ℕ → Option Txn → Bound → List Edit → Reply → Type 0
+IsWrittenIn m session None b edits r = ⊥
+IsWrittenIn m session (Some txn) b edits r =
+    IsWritten (IsJudged (IsObstacle m session txn.snapshot (is_present b edits (seen m.changes txn))) (keys_of edits)) edits r
+
+-- the same for a write of these edits
+pub record WriteSettles (m : State) (session : ℕ) (b : Bound) (edits : List Edit) (r : Reply) (after : State) : Type 0 where
+  pub reply : (r ≡ reply.Refused Memory) ⊎ IsWrittenIn m session (m.txns session) b edits r
+  pub state : after ≡ wrote_or m session edits r
+
+-- these edits are committed under the next number, if there are any
+abbrev pub recorded : State → ℕ → List Edit → State
+recorded m txn edits =
+    if is_empty edits then m
+    else record m { changes = m.changes ++ numbered (m.clock + 1) txn edits; clock = m.clock + 1 }
+
+abbrev pub deepened : Option Txn → ℕ → Option Txn
+deepened None depth = None
+deepened (Some txn) depth = Some (record txn { depth = depth })
+
+-- the session's transaction is committed, if it has one
+abbrev pub committed_in : State → ℕ → Option Txn → State
+committed_in m session None = m
+committed_in m session (Some txn) = commits m session txn
+
+-- a reply that was given is replied, or want of memory in its place
+pub record Replies (m : State) (session : ℕ) (given r : Reply) (after : State) : Type 0 where
+  pub reply : (r ≡ reply.Refused Memory) ⊎ (r ≡ given)
+  pub state : after ≡ wrote_or m session [] r
+
+abbrev pub is_insert : Bound → Bool
+is_insert bound.Begin = false
+is_insert bound.Commit = false
+is_insert bound.Rollback = false
+is_insert bound.Nothing = false
+is_insert (bound.Insert plan) = true
+is_insert (bound.Update plan) = false
+is_insert (bound.Delete condition) = false
+is_insert (bound.Select query) = false
+is_insert (bound.Refused refusal) = false
+
+-- the counts of the keys of an INSERT, and none for another write
+abbrev pub AreCountsFor : Bound → List Key → Option (BTreeMap Key ℕ) → Type 0
+AreCountsFor b keys None = is_insert b ≡ false
+AreCountsFor b keys (Some counts) = (is_insert b ≡ true) × ((key : Key) → count_in counts key ≡ count_by (λ other. same_key key other) keys)
+
+-- how a write of these edits in a transaction is judged
+abbrev pub IsJudgedIn : State → ℕ → Option Txn → Bound → List Edit → Option Refusal → Type 0
+IsJudgedIn m session None b edits found = ⊥
+IsJudgedIn m session (Some txn) b edits found = IsJudged (IsObstacle m session txn.snapshot (is_present b edits (seen m.changes txn))) (keys_of edits) found
+
+-- what a session that has begun a statement has, with the outcome of its work
+pub record IsDoneAt (schema : Schema) (m : State) (session : ℕ) (outcome : Outcome) : Type 0 where
+  pub bound : Bound
+  pub short : Bool
+  pub rows : Table
+  pub shows : Shows m session bound short rows
+  pub gives : GivesOn schema bound short rows outcome
+
+-- the outcome is what the definitions give over what the session's transaction sees
+pub record GivesIn (schema : Schema) (m : State) (session : ℕ) (b : Bound) (short : Bool) (outcome : Outcome) : Type 0 where
+  pub gives : GivesOn schema b short (seen_in m.changes (m.txns session)) outcome
+  pub pinned : is_of_table b ≡ true → short ≡ false → IsPinned (m.txns session) m.clock

@@ -1,0 +1,105 @@
+// What a Start does.
+ghost use Rattle.std.specs.Prelude.{◌≡◌, ◌<◌, IfOk, true, false};
+ghost use Rattle.cs_model.specs.Answers.{is_of_table};
+ghost use Rattle.cs_model.specs.Steps.{fixed, txn_opened};
+ghost use Rattle.row_laws.specs.Started.{Starts, reads_rows, seen_in};
+ghost use Rattle.statement_core.specs.Held.{state_of, IsWithin};
+
+use crate::held::{HalfDone, Held, pin, set_half, txn_of};
+use change_list::{Rows, lay};
+use cs_base::Memory;
+use cs_model::Bound;
+use std::alloc::Global;
+use std::collections::BTreeMap;
+use std::sync::Arc;
+
+fn is_of_table(bound: &Bound) -> bool
+    ensures { result ≡ is_of_table bound.now }
+{
+    match bound {
+        Bound::Insert(_) | Bound::Update(_) | Bound::Delete(_) | Bound::Select(_) => true,
+        Bound::Begin | Bound::Commit | Bound::Rollback | Bound::Nothing | Bound::Refused(_) => {
+            false
+        }
+    }
+}
+
+fn reads_rows(bound: &Bound) -> bool
+    ensures { result ≡ reads_rows bound.now }
+{
+    match bound {
+        Bound::Update(_) | Bound::Delete(_) | Bound::Select(_) => true,
+        Bound::Begin
+        | Bound::Commit
+        | Bound::Rollback
+        | Bound::Nothing
+        | Bound::Insert(_)
+        | Bound::Refused(_) => false,
+    }
+}
+
+/// The rows that the session's transaction reads once its snapshot is taken.
+fn seen(alloc: Global, held: &Held, session: u32) -> Result<Rows, Memory>
+    requires { session < 65 }
+    ensures { IfOk result (λ rows. rows.entries ≡ seen_in (state_of held.now).changes (Some (fixed (txn_opened ((state_of held.now).txns session) (state_of held.now).next) false (state_of held.now).clock))) }
+{
+    let Some(txn) = txn_of(held, session) else {
+        return held.changes.rows_at(alloc, held.clock);
+    };
+    let snapshot = match txn.snapshot {
+        Some(s) => s,
+        None => held.clock,
+    };
+    let mut rows = held.changes.rows_at(alloc, snapshot)?;
+    lay(&mut rows, &txn.own)?;
+    Ok(rows)
+}
+
+/// The rows that a statement reads, or none where it reads none.
+fn rows_for(alloc: Global, held: &Held, session: u32, bound: &Bound) -> Result<Rows, Memory>
+    requires { session < 65 }
+    ensures { IfOk result (λ rows. reads_rows bound.now ≡ true → rows.entries ≡ seen_in (state_of held.now).changes (Some (fixed (txn_opened ((state_of held.now).txns session) (state_of held.now).next) false (state_of held.now).clock))) }
+{
+    if reads_rows(bound) {
+        seen(alloc, held, session)
+    } else {
+        Ok(BTreeMap::new(alloc))
+    }
+}
+
+/// The Start of a statement of the table.
+fn start_on_table(
+    alloc: Global,
+    held: &mut Held,
+    session: u32,
+    bound: Arc<Bound>,
+) -> (Rows, bool)
+    requires within { IsWithin held.old session }
+    requires table { is_of_table bound.value ≡ true }
+    ensures starts { Starts (state_of held.old) session bound.value result.1 result.0.entries (state_of held.new) }
+{
+    let rows = rows_for(alloc, held, session, &bound);
+    let short = rows.is_err();
+    pin(alloc, held, session, short);
+    set_half(held, session, Some(HalfDone { bound, short }));
+    match rows {
+        Ok(rows) => (rows, false),
+        Err(_) => (BTreeMap::new(alloc), true),
+    }
+}
+
+/// A Start, but for its entry: the rows that the statement reads, and whether memory for them was short.
+pub fn start(alloc: Global, held: &mut Held, session: u32, bound: Arc<Bound>) -> (Rows, bool)
+    requires { IsWithin held.old session }
+    ensures starts { Starts (state_of held.old) session bound.value result.1 result.0.entries (state_of held.new) }
+{
+    if is_of_table(&bound) {
+        return start_on_table(alloc, held, session, bound);
+    }
+    let half = HalfDone {
+        bound,
+        short: false,
+    };
+    set_half(held, session, Some(half));
+    (BTreeMap::new(alloc), false)
+}

@@ -1,0 +1,451 @@
+// What a Finish does.
+ghost use Rattle.std.specs.Prelude.{Bool, ◌≡◌, ◌+◌, ◌<◌, ◌^◌, ℕ, IfOk, IfErr, OnOk, OnErr, IsTrue, ◌↔◌, All, false, true, None, Some, is_some, [], if◌then◌else◌};
+ghost use Rattle.std.specs.BTreeMap.{insert_entry};
+ghost use Rattle.cs_types.specs.declared.Schema.{Schema};
+ghost use Rattle.cs_model.specs.Changes.{Change};
+ghost use Rattle.cs_model.specs.Keys.{key_cmp};
+ghost use Rattle.cs_model.specs.Obstacles.{keys_of};
+ghost use Rattle.cs_model.specs.State.{State, txn_set};
+ghost use Rattle.cs_model.specs.Steps.{is_changed, ends_txn, refused, staged, settled, wrote, began, IsStep};
+ghost use Rattle.cs_model.specs.declared.entry.Bound.TheVariants as bound;
+ghost use Rattle.cs_model.specs.declared.entry.Entry.TheVariants.{Finish, End};
+ghost use Rattle.statement_core.specs.Held.{txn_as, txn_in, state_of, IsWithin};
+ghost use Rattle.statement_core.specs.Settled.{Settles, WriteSettles, Replies, GivesIn, IsDoneAt, IsJudgedIn, AreCountsFor, is_insert, deepened, recorded, committed_in};
+
+use crate::held::{Held, OpenTxn, set_half, set_txn, txn_of};
+use crate::judge::{Counts, count_keys, judge};
+use crate::started::Outcome;
+use change_list::Own;
+use cs_base::{Items, Memory};
+use cs_model::{Bound, Refusal, Reply};
+use cs_types::{Key, Row};
+use std::alloc::Global;
+use std::collections::BTreeMap;
+
+/// The deepest that BEGINs are nested.
+const DEEPEST: u32 = 32;
+
+fn is_changed(refusal: Refusal) -> bool
+    ensures { result ≡ is_changed refusal }
+{
+    match refusal {
+        Refusal::Changed { .. } => true,
+        Refusal::Reading { .. }
+        | Refusal::Valued { .. }
+        | Refusal::Locked { .. }
+        | Refusal::Duplicate { .. }
+        | Refusal::NoTxn { .. }
+        | Refusal::Memory => false,
+    }
+}
+
+/// Whether a refusal ends the transaction.
+fn ends_txn(txn: &Option<OpenTxn>, refusal: Refusal) -> bool
+    ensures { result ≡ ends_txn (txn_in txn.now) refusal }
+{
+    match txn {
+        Some(txn) => txn.depth == 0 || is_changed(refusal),
+        None => false,
+    }
+}
+
+/// A refusal, and what it leaves.
+fn refuse(held: &mut Held, session: u32, refusal: Refusal) -> Reply
+    requires { session < 65 }
+    ensures reply { result ≡ Reply.Refused refusal }
+    ensures state { state_of held.new ≡ refused (state_of held.old) session refusal }
+{
+    if ends_txn(txn_of(held, session), refusal) {
+        set_txn(held, session, None);
+    }
+    Reply::Refused(refusal)
+}
+
+/// Commits own writes under the next number, if there are any. Where memory is not there nothing has changed, and the
+/// writes come back.
+fn record(held: &mut Held, txn: u64, own: Own) -> Result<(), Own>
+    requires clock { held.old.clock + 1 < 2 ^ 64 }
+    requires numbered { All (λ (change : Change). change.commit < held.old.clock + 1) held.old.changes }
+    ensures ok { OnOk result (state_of held.new ≡ recorded (state_of held.old) txn own.entries) }
+    ensures err { OnErr result (state_of held.new ≡ state_of held.old) }
+    ensures back { IfErr result (λ back. back.entries ≡ own.entries) }
+{
+    if own.is_empty() {
+        return Ok(());
+    }
+    let commit = held.clock + 1;
+    held.changes.commit(commit, txn, own)?;
+    held.clock = commit;
+    Ok(())
+}
+
+fn stage(own: &mut Own, key: Key, row: Option<Row>) -> Result<(), Memory>
+    ensures { OnOk result (own.new.entries ≡ insert_entry key_cmp own.old.entries key row) }
+{
+    own.insert(key, row)?;
+    Ok(())
+}
+
+/// A copy of what is put at a key.
+fn copied(row: &Option<Row>) -> Result<Option<Row>, Memory>
+    ensures { IfOk result (λ copy. copy ≡ row.now) }
+{
+    match row {
+        Some(row) => Ok(Some(row.copy()?)),
+        None => Ok(None),
+    }
+}
+
+/// A copy of own writes.
+fn copy_of(alloc: Global, own: &Own) -> Result<Own, Memory>
+    ensures { IfOk result (λ copy. copy.entries ≡ own.now.entries) }
+{
+    let mut copy = BTreeMap::new(alloc);
+    for (key, row) in own.iter() {
+        stage(&mut copy, *key, copied(row)?)?;
+    }
+    Ok(copy)
+}
+
+/// Own writes with more laid over them; the last for a key stands.
+fn staged(
+    alloc: Global,
+    own: &Own,
+    writes: Items<(Key, Option<Row>)>,
+) -> Result<Own, Memory>
+    ensures { IfOk result (λ after. after.entries ≡ staged own.now.entries writes) }
+{
+    let mut after = copy_of(alloc, own)?;
+    for (key, row) in writes.into_vec() {
+        stage(&mut after, key, row)?;
+    }
+    Ok(after)
+}
+
+/// Leaves a transaction as it is after its statement: an implicit one commits. Where memory is not there nothing has
+/// changed.
+fn settle_txn(held: &mut Held, session: u32, txn: OpenTxn) -> Result<(), Memory>
+    requires within { IsWithin held.old session }
+    requires numbered { All (λ (change : Change). change.commit < held.old.clock + 1) held.old.changes }
+    ensures ok { OnOk result (state_of held.new ≡ settled (state_of held.old) session (txn_as txn)) }
+    ensures err { OnErr result (state_of held.new ≡ state_of held.old) }
+{
+    if txn.depth != 0 {
+        set_txn(held, session, Some(txn));
+        return Ok(());
+    }
+    match record(held, txn.number, txn.own) {
+        Ok(()) => {
+            set_txn(held, session, None);
+            Ok(())
+        }
+        Err(_) => Err(Memory),
+    }
+}
+
+/// Lays writes over the own ones of the session's transaction; an implicit one commits. After `Memory` nothing has changed.
+fn write(
+    alloc: Global,
+    held: &mut Held,
+    session: u32,
+    writes: Items<(Key, Option<Row>)>,
+) -> Result<(), Memory>
+    requires within { IsWithin held.old session }
+    requires numbered { All (λ (change : Change). change.commit < held.old.clock + 1) held.old.changes }
+    ensures ok { OnOk result (state_of held.new ≡ wrote (state_of held.old) session ((state_of held.old).txns session) writes) }
+    ensures err { OnErr result (state_of held.new ≡ state_of held.old) }
+{
+    let Some(txn) = txn_of(held, session) else {
+        return Ok(());
+    };
+    let own = staged(alloc, &txn.own, writes)?;
+    let after = OpenTxn {
+        number: txn.number,
+        depth: txn.depth,
+        snapshot: txn.snapshot,
+        own,
+    };
+    settle_txn(held, session, after)
+}
+
+/// The transaction at another depth.
+fn at_depth(txn: Option<OpenTxn>, depth: u32) -> Option<OpenTxn>
+    ensures { txn_in result ≡ deepened (txn_in txn) depth }
+{
+    match txn {
+        Some(txn) => {
+            let OpenTxn {
+                number,
+                snapshot,
+                own,
+                ..
+            } = txn;
+            Some(OpenTxn {
+                number,
+                depth,
+                snapshot,
+                own,
+            })
+        }
+        None => None,
+    }
+}
+
+/// Gives the session's transaction another depth.
+fn set_depth(held: &mut Held, session: u32, depth: u32)
+    requires { session < 65 }
+    ensures { state_of held.new ≡ txn_set (state_of held.old) session (deepened ((state_of held.old).txns session) depth) }
+{
+    let txn = set_txn(held, session, None);
+    set_txn(held, session, at_depth(txn, depth));
+}
+
+/// Opens a transaction by BEGIN.
+fn open(alloc: Global, held: &mut Held, session: u32)
+    requires { IsWithin held.old session }
+    ensures { state_of held.new ≡ began (state_of held.old) session None }
+{
+    let txn = OpenTxn {
+        number: held.next,
+        depth: 1,
+        snapshot: None,
+        own: BTreeMap::new(alloc),
+    };
+    set_txn(held, session, Some(txn));
+    held.next += 1;
+}
+
+/// The Finish of a BEGIN.
+fn begin(alloc: Global, held: &mut Held, session: u32) -> Reply
+    requires { IsWithin held.old session }
+    ensures { (schema : Schema) → Settles schema (state_of held.old) session bound.Begin false result (state_of held.new) }
+{
+    let Some(txn) = txn_of(held, session) else {
+        open(alloc, held, session);
+        return Reply::Done;
+    };
+    let depth = txn.depth;
+    if depth < DEEPEST {
+        set_depth(held, session, depth + 1);
+        return Reply::Done;
+    }
+    let refusal = Refusal::Reading {
+        number: 50_001,
+        at: 1,
+    };
+    refuse(held, session, refusal)
+}
+
+/// Commits the session's transaction. Where memory is not there nothing has changed.
+fn commit_txn(held: &mut Held, session: u32) -> Result<(), Memory>
+    requires within { IsWithin held.old session }
+    requires numbered { All (λ (change : Change). change.commit < held.old.clock + 1) held.old.changes }
+    ensures ok { OnOk result (state_of held.new ≡ committed_in (state_of held.old) session ((state_of held.old).txns session)) }
+    ensures err { OnErr result (state_of held.new ≡ state_of held.old) }
+{
+    let Some(txn) = set_txn(held, session, None) else {
+        return Ok(());
+    };
+    let OpenTxn {
+        number,
+        depth,
+        snapshot,
+        own,
+    } = txn;
+    match record(held, number, own) {
+        Ok(()) => Ok(()),
+        Err(own) => {
+            let txn = OpenTxn {
+                number,
+                depth,
+                snapshot,
+                own,
+            };
+            set_txn(held, session, Some(txn));
+            Err(Memory)
+        }
+    }
+}
+
+/// The Finish of a COMMIT.
+fn commit(held: &mut Held, session: u32) -> Reply
+    requires within { IsWithin held.old session }
+    requires numbered { All (λ (change : Change). change.commit < held.old.clock + 1) held.old.changes }
+    ensures { (schema : Schema) → Settles schema (state_of held.old) session bound.Commit false result (state_of held.new) }
+{
+    let Some(txn) = txn_of(held, session) else {
+        return refuse(held, session, Refusal::NoTxn { number: 3902 });
+    };
+    let depth = txn.depth;
+    if depth > 1 {
+        set_depth(held, session, depth - 1);
+        return Reply::Done;
+    }
+    match commit_txn(held, session) {
+        Ok(()) => Reply::Done,
+        Err(_) => refuse(held, session, Refusal::Memory),
+    }
+}
+
+/// The Finish of a ROLLBACK.
+fn rollback(held: &mut Held, session: u32) -> Reply
+    requires { session < 65 }
+    ensures { (schema : Schema) → Settles schema (state_of held.old) session bound.Rollback false result (state_of held.new) }
+{
+    if txn_of(held, session).is_none() {
+        return refuse(held, session, Refusal::NoTxn { number: 3903 });
+    }
+    set_txn(held, session, None);
+    Reply::Done
+}
+
+/// The Finish of a statement that is none of the table. One of the table never comes here; want of memory may stand in place
+/// of any reply.
+fn plain(alloc: Global, held: &mut Held, session: u32, bound: &Bound) -> Reply
+    requires within { IsWithin held.old session }
+    requires numbered { All (λ (change : Change). change.commit < held.old.clock + 1) held.old.changes }
+    ensures { (schema : Schema) → Settles schema (state_of held.old) session bound.now false result (state_of held.new) }
+{
+    match bound {
+        Bound::Begin => begin(alloc, held, session),
+        Bound::Commit => commit(held, session),
+        Bound::Rollback => rollback(held, session),
+        Bound::Nothing => Reply::Done,
+        Bound::Refused(refusal) => refuse(held, session, *refusal),
+        Bound::Insert(_) | Bound::Update(_) | Bound::Delete(_) | Bound::Select(_) => {
+            refuse(held, session, Refusal::Memory)
+        }
+    }
+}
+
+/// The Finish of a statement whose work gave its reply.
+fn answered(alloc: Global, held: &mut Held, session: u32, reply: Reply) -> Reply
+    requires within { IsWithin held.old session }
+    requires numbered { All (λ (change : Change). change.commit < held.old.clock + 1) held.old.changes }
+    ensures { Replies (state_of held.old) session reply result (state_of held.new) }
+{
+    if let Reply::Refused(refusal) = reply {
+        return refuse(held, session, refusal);
+    }
+    match write(alloc, held, session, Items::new(alloc)) {
+        Ok(()) => reply,
+        Err(_) => refuse(held, session, Refusal::Memory),
+    }
+}
+
+fn is_insert(bound: &Bound) -> bool
+    ensures { result ≡ is_insert bound.now }
+{
+    match bound {
+        Bound::Insert(_) => true,
+        Bound::Begin
+        | Bound::Commit
+        | Bound::Rollback
+        | Bound::Nothing
+        | Bound::Update(_)
+        | Bound::Delete(_)
+        | Bound::Select(_)
+        | Bound::Refused(_) => false,
+    }
+}
+
+/// The counts of the keys of an INSERT, and None for another write.
+fn counts_for(
+    alloc: Global,
+    bound: &Bound,
+    writes: &[(Key, Option<Row>)],
+) -> Result<Option<Counts>, Memory>
+    ensures { IfOk result (λ counts. AreCountsFor bound.now (keys_of writes.now) counts) }
+{
+    if is_insert(bound) {
+        Ok(Some(count_keys(alloc, writes)?))
+    } else {
+        Ok(None)
+    }
+}
+
+/// The obstacle of a write in the session's transaction, which has a snapshot.
+fn obstacle_of(
+    alloc: Global,
+    held: &Held,
+    session: u32,
+    bound: &Bound,
+    writes: &[(Key, Option<Row>)],
+) -> Result<Option<Refusal>, Memory>
+    requires { session < 65 }
+    ensures { IfOk result (IsJudgedIn (state_of held.now) session ((state_of held.now).txns session) bound.now writes.now) }
+{
+    let Some(txn) = txn_of(held, session) else {
+        return Err(Memory);
+    };
+    let Some(snapshot) = txn.snapshot else {
+        return Err(Memory);
+    };
+    let counts = counts_for(alloc, bound, writes)?;
+    Ok(judge(held, session, snapshot, &txn.own, &counts, writes))
+}
+
+/// The Finish of a write, whose list of writes is given.
+fn wrote(
+    alloc: Global,
+    held: &mut Held,
+    session: u32,
+    bound: &Bound,
+    writes: Items<(Key, Option<Row>)>,
+) -> Reply
+    requires within { IsWithin held.old session }
+    requires numbered { All (λ (change : Change). change.commit < held.old.clock + 1) held.old.changes }
+    ensures { WriteSettles (state_of held.old) session bound.now writes result (state_of held.new) }
+{
+    let count = writes.len() as u64;
+    match obstacle_of(alloc, held, session, bound, writes.as_slice()) {
+        Ok(Some(refusal)) => refuse(held, session, refusal),
+        Ok(None) => match write(alloc, held, session, writes) {
+            Ok(()) => Reply::Affected(count),
+            Err(_) => refuse(held, session, Refusal::Memory),
+        },
+        Err(_) => refuse(held, session, Refusal::Memory),
+    }
+}
+
+/// The Finish of a statement whose work gave this outcome.
+fn settle(
+    alloc: Global,
+    held: &mut Held,
+    session: u32,
+    bound: &Bound,
+    outcome: Outcome,
+) -> Reply
+    requires within { IsWithin held.old session }
+    requires numbered { All (λ (change : Change). change.commit < held.old.clock + 1) held.old.changes }
+    ensures { (schema : Schema) (short : Bool) → GivesIn schema (state_of held.old) session bound.now short outcome → Settles schema (state_of held.old) session bound.now short result (state_of held.new) }
+{
+    match outcome {
+        Outcome::Nothing => plain(alloc, held, session, bound),
+        Outcome::Answer(reply) => answered(alloc, held, session, reply),
+        Outcome::Writes(writes) => wrote(alloc, held, session, bound, writes),
+        Outcome::Short => refuse(held, session, Refusal::Memory),
+    }
+}
+
+/// A Finish, but for its entry.
+pub fn finish(alloc: Global, held: &mut Held, session: u32, outcome: Outcome) -> Reply
+    requires within { IsWithin held.old session }
+    requires numbered { All (λ (change : Change). change.commit < held.old.clock + 1) held.old.changes }
+    requires half { is_some ((state_of held.old).half session) ≡ true }
+    ensures { (schema : Schema) → IsDoneAt schema (state_of held.old) session outcome → IsStep schema (state_of held.old) (Finish session result) (state_of held.new) }
+{
+    match set_half(held, session, None) {
+        Some(half) => settle(alloc, held, session, &half.bound, outcome),
+        None => unreachable!(),
+    }
+}
+
+/// An End, but for its entry.
+pub fn end(held: &mut Held, session: u32)
+    requires within { session < 65 }
+    requires rests { (state_of held.old).half session ≡ None }
+    ensures { (schema : Schema) → IsStep schema (state_of held.old) (End session) (state_of held.new) }
+{
+    set_txn(held, session, None);
+}
