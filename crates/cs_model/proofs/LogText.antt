@@ -4,7 +4,8 @@ use Rattle.std.proofs.lemmas.List.{take_more, drop_more, length-take-le}
 use Rattle.std.proofs.lemmas.List.Sums.{count_by-le-length, fold-append}
 use Rattle.cs_types.specs.declared.Schema.{Schema}
 use Rattle.cs_model.specs.declared.entry.Entry.{Entry}
-use Rattle.cs_model.specs.Text.{actor_of, statements_of, is_start_of, entry_text, text_after, text}
+use Rattle.cs_model.specs.Actors.{actor_of}
+use Rattle.cs_model.specs.Text.{statements_of, is_start_of, entry_text, text_after, text}
 use Rattle.cs_model.specs.Places.{begun_by}
 
 -- an entry behind the first i ones

@@ -86,12 +86,39 @@ fn append_txn(txn: u64, line: &mut Line) -> Result<(), Memory>
     line.append_number(txn)
 }
 
-/// Adds the commit that stands in the way of a write.
-fn append_commit(commit: u64, line: &mut Line) -> Result<(), Memory>
-    ensures { OnOk result (line.new ≡ line.old ++ codes " commit " ++ decimal commit) }
+/// Adds the commit that stands in the way of a write, with its transaction.
+fn append_commit(txn: u64, commit: u64, line: &mut Line) -> Result<(), Memory>
+    ensures { OnOk result (line.new ≡ line.old ++ codes " transaction " ++ decimal txn ++ codes " commit " ++ decimal commit) }
 {
+    append_txn(txn, line)?;
     line.append(b" commit ")?;
     line.append_number(commit)
+}
+
+/// Adds the refusal of a write of a key that another transaction has written.
+fn append_locked(schema: &Schema, key: Key, txn: u64, line: &mut Line) -> Result<(), Memory>
+    requires { IsPrintableKey schema.now key }
+    ensures { OnOk result (line.new ≡ line.old ++ codes "error 1222 key " ++ key_text schema.now key ++ codes " transaction " ++ decimal txn) }
+{
+    line.append(b"error 1222 key ")?;
+    append_key(schema, key, line)?;
+    append_txn(txn, line)
+}
+
+/// Adds the refusal of a write of a key that was changed above the snapshot.
+fn append_changed(
+    schema: &Schema,
+    key: Key,
+    txn: u64,
+    commit: u64,
+    line: &mut Line,
+) -> Result<(), Memory>
+    requires { IsPrintableKey schema.now key }
+    ensures { OnOk result (line.new ≡ line.old ++ codes "error 3960 key " ++ key_text schema.now key ++ codes " transaction " ++ decimal txn ++ codes " commit " ++ decimal commit) }
+{
+    line.append(b"error 3960 key ")?;
+    append_key(schema, key, line)?;
+    append_commit(txn, commit, line)
 }
 
 fn append_refusal(schema: &Schema, refusal: Refusal, line: &mut Line) -> Result<(), Memory>
@@ -110,17 +137,8 @@ fn append_refusal(schema: &Schema, refusal: Refusal, line: &mut Line) -> Result<
             row,
             column,
         } => append_valued(number, row, column, line),
-        Refusal::Locked { key, txn } => {
-            line.append(b"error 1222 key ")?;
-            append_key(schema, key, line)?;
-            append_txn(txn, line)
-        }
-        Refusal::Changed { key, txn, commit } => {
-            line.append(b"error 3960 key ")?;
-            append_key(schema, key, line)?;
-            append_txn(txn, line)?;
-            append_commit(commit, line)
-        }
+        Refusal::Locked { key, txn } => append_locked(schema, key, txn, line),
+        Refusal::Changed { key, txn, commit } => append_changed(schema, key, txn, commit, line),
         Refusal::Duplicate { key } => {
             line.append(b"error 2627 key ")?;
             append_key(schema, key, line)

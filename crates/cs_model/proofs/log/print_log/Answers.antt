@@ -1,5 +1,6 @@
 use Rattle.std.proofs.Common.{◌≡◌, ℕ, ◌≤◌, ◌<◌, ◌+◌, ◌^◌, ◌∙◌, take, arith, rules}
-use Rattle.cs_model.specs.Text.{actor_of, statements_of}
+use Rattle.cs_model.specs.Actors.{actor_of}
+use Rattle.cs_model.specs.Text.{statements_of}
 use Rattle.cs_model.specs.Places.{place_in}
 use Rattle.cs_model.proofs.LogText.{few, counts_more, prints_more}
 use Rattle.cs_model.proofs.log.print_log.Goals as goal

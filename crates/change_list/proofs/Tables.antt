@@ -1,0 +1,176 @@
+-- Tables: what edits make of them, and when two of them are one.
+use Rattle.std.proofs.Common.{◌≡◌, ℕ, suc, ◌<◌, length, List, [], ◌∷◌, ◌++◌, map, filter, refl, sym, ap, ◌∙◌, subst, cond, Bool, true, false, ◌||◌, All, arith}
+use Rattle.std.specs.Prelude.{Option, None, Some, unwrap_or, is_some, IfSome, nat_le}
+use Rattle.std.specs.List.{list_any, AllByRecursion}
+use Rattle.std.specs.Ordering.{match_ordering, ordering_reverse, eq_by_cmp}
+use Rattle.std.specs.declared.cmp.Ordering.TheVariants.{Less, Greater}
+use Rattle.std.specs.BTreeMap.{BTreeMap, is_at, insert_entry}
+use Rattle.std.specs.Map.{keys_of, values_of, lookup}
+use Rattle.std.specs.List.Sorted.{IsStrictlySortedBy}
+use Rattle.std.proofs.lemmas.Cmp.{eq_by_cmp_equiv}
+use Rattle.std.proofs.lemmas.List.{append-nil, append_assoc}
+use Rattle.std.proofs.lemmas.List.Elements.{All-nil, All-map, All-filter}
+use Rattle.std.proofs.lemmas.Map.{lookup-none}
+use Rattle.std.proofs.lemmas.Map.Entries.{none_past_head}
+use Rattle.std.proofs.lemmas.Map.Keys.{sorted_tail, IsDistinct-from_sorted}
+use Rattle.std.proofs.lemmas.Map.Views.{All-values-insert_entry, All-map-remove_entry}
+use Rattle.cs_types.specs.declared.Key.{Key}
+use Rattle.cs_types.specs.declared.Value.{Value}
+use Rattle.cs_model.specs.Keys.{key_cmp, same_key}
+use Rattle.cs_model.specs.Changes.{Edit, Table, Change, edited, laid, until, table}
+use Rattle.cs_model.specs.Steps.{numbered}
+use Rattle.cs_model.proofs.Tables.{table_ascends, edited_is}
+use Rattle.change_list.proofs.Keys.{key_total, one_key}
+
+abbrev pub Ascends : {X : Type 0} → List (Key × X) → Type 0
+Ascends es = IsStrictlySortedBy key_cmp (keys_of es)
+
+abbrev pub at : {X : Type 0} → Key → List (Key × X) → Option X
+at key es = lookup (is_at (key_cmp key)) es
+
+-- ---- tables ascend
+
+laid_more : (t : Table) (edits : List Edit) (edit : Edit) → laid t (edits ++ edit ∷ []) ≡ edited (laid t edits) edit
+laid_more t [] edit = refl
+laid_more t (e ∷ edits) edit = laid_more (edited t e) edits edit
+
+all_until : (edits : List Edit) → until 0 (numbered 0 0 edits) ≡ numbered 0 0 edits
+all_until [] = refl
+all_until (edit ∷ edits) = ap (λ xs. record { commit = 0; txn = 0; edit = edit } ∷ xs) (all_until edits)
+
+edits_of_numbered : (edits : List Edit) → map (λ (change : Change). change.edit) (numbered 0 0 edits) ≡ edits
+edits_of_numbered [] = refl
+edits_of_numbered (edit ∷ edits) = ap (λ xs. edit ∷ xs) (edits_of_numbered edits)
+
+-- edits laid over the empty table are a table of changes
+pub laid_ascends : (edits : List Edit) → Ascends (laid [] edits)
+laid_ascends edits =
+    subst (λ (t : Table). Ascends t) (ap (λ xs. laid [] (map (λ (change : Change). change.edit) xs)) (all_until edits) ∙ ap (laid []) (edits_of_numbered edits)) (table_ascends (numbered 0 0 edits) 0)
+
+-- the rows of a table as edits
+abbrev as_edits : Table → List Edit
+as_edits t = map (λ (e : Key × List Value). (e.0, Some e.1)) t
+
+first_below : (key : Key) (es : Table) (x : Key × List Value) (t : Table) → AllByRecursion (λ k. key_cmp key k ≡ Less) (keys_of (es ++ x ∷ t)) → key_cmp key x.0 ≡ Less
+first_below key [] x t all = all.0
+first_below key (e ∷ es) x t all = first_below key es x t all.1
+
+put_last : (es : Table) (x : Key × List Value) (t : Table) → Ascends (es ++ x ∷ t) → insert_entry key_cmp es x.0 x.1 ≡ es ++ x ∷ []
+unfolding IsStrictlySortedBy
+put_last [] x t sorted = refl
+put_last (e ∷ es) x t sorted =
+    ap (λ r. match_ordering r ((x.0, x.1) ∷ e ∷ es) ((e.0, x.1) ∷ es) (e ∷ insert_entry key_cmp es x.0 x.1)) (key_total.antisymm x.0 e.0 ∙ ap ordering_reverse (first_below e.0 es x t sorted.0))
+    ∙ ap (λ ys. e ∷ ys) (put_last es x t sorted.1)
+
+rows_laid : (front t : Table) → Ascends (front ++ t) → laid front (as_edits t) ≡ front ++ t
+rows_laid front [] sorted = sym (append-nil front)
+rows_laid front (x ∷ t) sorted =
+    ap (λ es. laid es (as_edits t)) (put_last front x t sorted) ∙ rows_laid (front ++ x ∷ []) t (subst (λ (es : Table). Ascends es) (sym (append_assoc front (x ∷ []) t)) sorted)
+    ∙ append_assoc front (x ∷ []) t
+
+-- an edit keeps the order
+edited_ascends : (t : Table) (edit : Edit) → Ascends t → Ascends (edited t edit)
+edited_ascends t edit sorted =
+    subst (λ (es : Table). Ascends es) (laid_more [] (as_edits t) edit ∙ ap (λ es. edited es edit) (rows_laid [] t sorted)) (laid_ascends (as_edits t ++ edit ∷ []))
+
+-- ---- a key in a table with edits laid over it
+
+edited_key : (key : Key) (t : Table) (edit : Edit) → Ascends t → at key (edited t edit) ≡ cond (same_key key edit.0) edit.1 (at key t)
+edited_key key t edit sorted = edited_is key edit.0 edit.1 t sorted
+
+pub laid_is : (key : Key) (edits : List Edit) (t : Table) → Ascends t → Ascends edits → at key (laid t edits) ≡ unwrap_or (at key edits) (at key t)
+laid_is key [] t sorted apart = refl
+laid_is key (edit ∷ edits) t sorted apart =
+    laid_is key edits (edited t edit) (edited_ascends t edit sorted) (sorted_tail key_cmp edit.0 (keys_of edits) apart)
+    ∙ ap (unwrap_or (at key edits)) (edited_key key t edit sorted) ∙ by (same_key key edit.0) refl
+  where
+    by : (b : Bool) → same_key key edit.0 ≡ b → unwrap_or (at key edits) (cond b edit.1 (at key t)) ≡ unwrap_or (cond b (Some edit.1) (at key edits)) (at key t)
+    by true e =
+        ap (λ o. unwrap_or o edit.1)
+        (lookup-none (is_at (key_cmp key)) edits
+         (none_past_head {eq = eq_by_cmp key_cmp} (eq_by_cmp_equiv key_total) key edit edits (IsDistinct-from_sorted key_cmp (keys_of (edit ∷ edits)) apart) e))
+    by false e = refl
+
+-- ---- the rows of a table at a list of keys
+
+module _ (t : Table) where
+  abbrev onto : Key → Option (List Value) → List Edit → List Edit
+  onto key None rest = rest
+  onto key (Some row) rest = (key, Some row) ∷ rest
+
+  -- the rows at these keys, as edits
+  abbrev pub rows_of : List Key → List Edit
+  rows_of [] = []
+  rows_of (key ∷ keys) = onto key (at key t) (rows_of keys)
+
+  -- a row of the table put in keeps what is right, and makes it right at its key
+  put_right : (q key : Key) (row : List Value) (es : Table) → Ascends es → at key t ≡ Some row → at q es ≡ at q t → at q (edited es (key, Some row)) ≡ at q t
+  put_right q key row es sorted e h = edited_key q es (key, Some row) sorted ∙ by (same_key q key) refl
+    where
+      by : (b : Bool) → same_key q key ≡ b → cond b (Some row) (at q es) ≡ at q t
+      by true s = sym e ∙ ap (λ k. at k t) (sym (one_key q key s))
+      by false s = h
+
+  put_here : (q key : Key) (row : List Value) (es : Table) → Ascends es → at key t ≡ Some row → same_key q key ≡ true → at q (edited es (key, Some row)) ≡ at q t
+  put_here q key row es sorted e s =
+      edited_key q es (key, Some row) sorted ∙ ap (λ b. cond b (Some row) (at q es)) s ∙ sym e ∙ ap (λ k. at k t) (sym (one_key q key s))
+
+  put_apart : (q key : Key) (row : List Value) (es : Table) → Ascends es → same_key q key ≡ false → at q es ≡ None → at q (edited es (key, Some row)) ≡ None
+  put_apart q key row es sorted s h = edited_key q es (key, Some row) sorted ∙ ap (λ b. cond b (Some row) (at q es)) s ∙ h
+
+  right_at : (q key : Key) (keys : List Key) (es : Table) (o : Option (List Value)) → at key t ≡ o → Ascends es → at q es ≡ at q t
+      → ((es : Table) → Ascends es → at q es ≡ at q t → at q (laid es (rows_of keys)) ≡ at q t) → at q (laid es (onto key o (rows_of keys))) ≡ at q t
+  right_at q key keys es None e sorted h rest = rest es sorted h
+  right_at q key keys es (Some row) e sorted h rest = rest (edited es (key, Some row)) (edited_ascends es (key, Some row) sorted) (put_right q key row es sorted e h)
+
+  stays_right : (q : Key) (keys : List Key) (es : Table) → Ascends es → at q es ≡ at q t → at q (laid es (rows_of keys)) ≡ at q t
+  stays_right q [] es sorted h = h
+  stays_right q (key ∷ keys) es sorted h = right_at q key keys es (at key t) refl sorted h (stays_right q keys)
+
+  comes_at : (q key : Key) (keys : List Key) (es : Table) (b : Bool) (o : Option (List Value)) → same_key q key ≡ b → at key t ≡ o → Ascends es → (b || list_any (same_key q) keys) ≡ true → at q es ≡ None
+      → ((es : Table) → Ascends es → list_any (same_key q) keys ≡ true → at q es ≡ None → at q (laid es (rows_of keys)) ≡ at q t) → at q (laid es (onto key o (rows_of keys))) ≡ at q t
+  comes_at q key keys es true None s e sorted has h rest = stays_right q keys es sorted (h ∙ sym e ∙ ap (λ k. at k t) (sym (one_key q key s)))
+  comes_at q key keys es true (Some row) s e sorted has h rest = stays_right q keys (edited es (key, Some row)) (edited_ascends es (key, Some row) sorted) (put_here q key row es sorted e s)
+  comes_at q key keys es false None s e sorted has h rest = rest es sorted has h
+  comes_at q key keys es false (Some row) s e sorted has h rest = rest (edited es (key, Some row)) (edited_ascends es (key, Some row) sorted) has (put_apart q key row es sorted s h)
+
+  comes_right : (q : Key) (keys : List Key) (es : Table) → Ascends es → list_any (same_key q) keys ≡ true → at q es ≡ None → at q (laid es (rows_of keys)) ≡ at q t
+  comes_right q [] es sorted has h = absurd (cc)
+  comes_right q (key ∷ keys) es sorted has h = comes_at q key keys es (same_key q key) (at key t) refl refl sorted has h (comes_right q keys)
+
+  -- where each key of the table is listed, its rows at the list are the table's
+  pub all_right : (keys : List Key) → ((q : Key) → list_any (same_key q) keys ≡ false → at q t ≡ None) → (q : Key) → at q (laid [] (rows_of keys)) ≡ at q t
+  all_right keys none q = by (list_any (same_key q) keys) refl
+    where
+      by : (b : Bool) → list_any (same_key q) keys ≡ b → at q (laid [] (rows_of keys)) ≡ at q t
+      by true e = comes_right q keys [] (laid_ascends []) e refl
+      by false e = stays_right q keys [] (laid_ascends []) (sym (none q e))
+
+pub any_key : {X : Type 0} (q : Key) (es : List (Key × X)) → list_any (same_key q) (keys_of es) ≡ is_some (at q es)
+any_key q [] = refl
+any_key q (e ∷ es) = by (same_key q e.0)
+  where
+    by : (b : Bool) → (b || list_any (same_key q) (keys_of es)) ≡ is_some (cond b (Some e.1) (at q es))
+    by true = refl
+    by false = any_key q es
+
+-- ---- what holds of each row that is written holds of each row that is there
+
+module _ (P : List Value → Type 0) where
+  edited_all : (t : Table) (key : Key) (row : Option (List Value)) → All P (values_of t) → IfSome row P → All P (values_of (edited t (key, row)))
+  edited_all t key None all h = All-map-remove_entry (is_at (key_cmp key)) (λ (e : Key × List Value). e.1) P t all
+  edited_all t key (Some row) all h = All-values-insert_entry key_cmp key row P t all h
+
+  pub laid_all : (edits : List Edit) (t : Table) → All P (values_of t) → All (λ row. IfSome row P) (values_of edits) → All P (values_of (laid t edits))
+  laid_all [] t all each = all
+  laid_all (edit ∷ edits) t all each = laid_all edits (edited t edit) (edited_all t edit.0 edit.1 all (each 0 edit.1 (omega arith))) (λ k d lt. each (suc k) d (omega arith))
+
+  values_are : (changes : List Change) → values_of (map (λ (change : Change). change.edit) changes) ≡ map (λ (change : Change). change.edit.1) changes
+  values_are [] = refl
+  values_are (change ∷ changes) = ap (λ rows. change.edit.1 ∷ rows) (values_are changes)
+
+  pub table_all : (changes : List Change) (s : ℕ) → All (λ (change : Change). IfSome change.edit.1 P) changes → All P (values_of (table changes s))
+  table_all changes s all =
+      laid_all (map (λ (change : Change). change.edit) (until s changes)) [] (All-nil P)
+      (subst (All (λ row. IfSome row P)) (sym (values_are (until s changes)))
+       (All-map (λ row. IfSome row P) (λ (change : Change). change.edit.1) (until s changes) (All-filter (λ (change : Change). nat_le change.commit s) (λ (change : Change). IfSome change.edit.1 P) changes all)))

@@ -1,0 +1,53 @@
+//! Laws of legal logs, over the row model of `cs_model`: what holds of the state that a legal log leads to, and what a
+//! session that has begun a statement knows of it, whatever the other sessions do meanwhile.
+//!
+//! Each function here does nothing: its contract is a law that is proved. The lemmas below them, by which the core that
+//! runs transactions keeps its own promises, stand in proofs/. It stands on `cs_model`.
+#![tactic(auto)]
+
+ghost use Rattle.std.specs.Prelude.{◌≡◌, ◌+◌, ◌≤◌, ℕ, List, [], ◌∷◌, ◌++◌, length, Bool, ◌==◌, false};
+ghost use Rattle.cs_types.specs.declared.Schema.{Schema};
+ghost use Rattle.cs_model.specs.declared.entry.Bound.{Bound};
+ghost use Rattle.cs_model.specs.declared.entry.Entry.{Entry};
+ghost use Rattle.cs_model.specs.Actors.{actor_of};
+ghost use Rattle.cs_model.specs.Changes.{Table};
+ghost use Rattle.cs_model.specs.State.{State};
+ghost use Rattle.cs_model.specs.Steps.{Legal};
+ghost use Rattle.row_laws.specs.Frames.{SnapIn, IsDrawn};
+ghost use Rattle.row_laws.specs.Laws.{AreOwners, NumberedBelow, DrawnBelow, CommitsAscend};
+ghost use Rattle.row_laws.specs.Started.{IsStarted};
+
+/// A legal log leads to one state: the events alone decide what is committed, open and half done.
+pub fn one_state()
+    ensures { (schema : Schema) (log : List Entry) (a b : State) → Legal schema log a → Legal schema log b → a ≡ b }
+{}
+
+/// No two open transactions own one key, so the first to write a key has it until its transaction ends.
+pub fn one_owner()
+    ensures { (schema : Schema) (log : List Entry) (m : State) → Legal schema log m → AreOwners m }
+{}
+
+/// Numbers of transactions and of commits never pass the length of the log. The numbers of open and of committed
+/// transactions are below the next one to be drawn, and snapshots and the numbers of changes are at most the clock.
+pub fn numbers_within_log()
+    ensures next { (schema : Schema) (log : List Entry) (m : State) → Legal schema log m → m.next ≤ 1 + length log }
+    ensures clock { (schema : Schema) (log : List Entry) (m : State) → Legal schema log m → m.clock ≤ length log }
+    ensures open_txns { (schema : Schema) (log : List Entry) (m : State) (session : ℕ) → Legal schema log m → IsDrawn (m.txns session) m.next }
+    ensures txns { (schema : Schema) (log : List Entry) (m : State) → Legal schema log m → DrawnBelow m }
+    ensures snapshots { (schema : Schema) (log : List Entry) (m : State) (session : ℕ) → Legal schema log m → SnapIn (m.txns session) m.clock }
+    ensures commits { (schema : Schema) (log : List Entry) (m : State) → Legal schema log m → NumberedBelow m }
+{}
+
+/// Commit numbers ascend along the committed changes; those of one commit have its number.
+pub fn commits_ascend()
+    ensures { (schema : Schema) (log : List Entry) (m : State) → Legal schema log m → CommitsAscend m }
+{}
+
+/// What a session has begun stays through the entries of other sessions: its statement is half done, and reads the same
+/// rows, whatever the others begin, commit or end meanwhile.
+pub fn started_stays()
+    ensures {
+        (schema : Schema) (log : List Entry) (entry : Entry) (session : ℕ) (b : Bound) (short : Bool) (rows : Table) → (actor_of entry == session) ≡ false
+        → IsStarted schema log session b short rows → IsStarted schema (log ++ entry ∷ []) session b short rows
+    }
+{}
