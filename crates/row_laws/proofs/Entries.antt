@@ -9,7 +9,6 @@ use Rattle.cs_model.specs.declared.entry.Entry.{Entry}
 use Rattle.cs_model.specs.State.{Half, State, start}
 use Rattle.cs_model.specs.Actors.{actor_of, entries_of, begun_by, is_end, is_begun, has_ended}
 use Rattle.cs_model.specs.Steps.{Leads, Legal}
-use Rattle.row_laws.specs.Frames.{Frames}
 use Rattle.row_laws.proofs.Framed.{framed}
 
 pub entries_push : (n : ℕ) (log : List Entry) (e : Entry) → entries_of n (log ++ e ∷ []) ≡ entries_of n log ++ cond (actor_of e == n) (e ∷ []) []

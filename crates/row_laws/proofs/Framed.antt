@@ -14,7 +14,7 @@ use Rattle.cs_model.specs.declared.entry.Reply.TheVariants as reply
 use Rattle.cs_model.specs.Changes.{Edit}
 use Rattle.cs_model.specs.State.{Txn, Half, State, with, txn_set, half_set}
 use Rattle.cs_model.specs.Answers.{is_of_table}
-use Rattle.cs_model.specs.Steps.{IsStep, IsFinish, pinned, next_opened, or_clock, fixed, txn_opened, staged, is_empty, committed, writes_in, wrote, began, unwound, accepted, replied, commits, gone, settled, ends_txn, rested}
+use Rattle.cs_model.specs.Steps.{IsStep, IsFinish, pinned, next_opened, or_clock, fixed, txn_opened, staged, is_empty, committed, writes_in, wrote, began, unwound, accepted, replied, commits, gone, ends_txn, rested}
 use Rattle.row_laws.specs.Frames.{Acts, Frames, SnapIn, SnapAtMost, IsDrawn, ticked}
 
 pub at_own : {A : Type 0} (f : ℕ → A) (s : ℕ) (x : A) → with f s x s ≡ x

@@ -1,8 +1,7 @@
 -- No two open transactions own one key.
-use Rattle.std.proofs.Common.{zero, suc, ◌≡◌, ◌≢◌, ℕ, ◌+◌, ◌<◌, ◌≤◌, List, [], ◌∷◌, ◌++◌, length, refl, sym, ap, ap₂, subst, ◌∙◌, cond, Bool, true, false, inl, inr, ◌⊎◌, arith, Option, None, Some, Result, Ok, Err, All, Contains, ◌||◌, nat_le, Ordering, Less, Equal, Greater, Global, is_eq}
+use Rattle.std.proofs.Common.{suc, ◌≡◌, ◌≢◌, ℕ, ◌+◌, List, [], ◌∷◌, ◌++◌, refl, sym, ap, ap₂, subst, ◌∙◌, cond, Bool, true, false, inl, inr, ◌⊎◌, arith, Option, None, Some, Result, Ok, Err, All, Contains, ◌||◌, nat_le, Ordering, Less, Equal, Greater, is_eq}
 use Rattle.std.specs.Prelude.{◌==◌}
 use Rattle.std.specs.List.{list_any}
-use Rattle.std.specs.declared.sync.Arc.{Arc}
 use Rattle.std.specs.Ordering.{match_ordering}
 use Rattle.std.specs.Cmp.{Equal-is}
 use Rattle.std.specs.BTreeMap.{insert_entry}
@@ -21,11 +20,11 @@ use Rattle.cs_model.specs.declared.entry.Refusal.TheVariants.{Memory}
 use Rattle.cs_model.specs.declared.entry.Reply.{Reply}
 use Rattle.cs_model.specs.declared.entry.Reply.TheVariants as reply
 use Rattle.cs_model.specs.Keys.{key_cmp, same_key}
-use Rattle.cs_model.specs.Changes.{Edit, Table, Change}
+use Rattle.cs_model.specs.Changes.{Edit, Table}
 use Rattle.cs_model.specs.State.{Txn, Half, State, start, with, txn_set, seen}
 use Rattle.cs_model.specs.Actors.{actor_of}
 use Rattle.cs_model.specs.Answers.{is_of_table, writes}
-use Rattle.cs_model.specs.Obstacles.{owns, IsFree, keys_of, is_present, IsObstacle}
+use Rattle.cs_model.specs.Obstacles.{owns, IsFree, keys_of}
 use Rattle.cs_model.specs.Steps.{IsStep, IsFinish, Leads, Legal, IsReply, IsWriteReply, IsWriteReplyOf, staged, writes_in, edits_in, wrote, began, unwound, accepted, refused, replied, rested, pinned, next_opened, fixed, txn_opened, commits, committed, is_empty, gone, ends_txn}
 use Rattle.row_laws.specs.Laws.{AreOwners}
 use Rattle.row_laws.proofs.Framed.{framed, at_own}

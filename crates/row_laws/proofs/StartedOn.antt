@@ -1,5 +1,5 @@
 -- What a session has begun stays, whatever the others do.
-use Rattle.std.proofs.Common.{◌≡◌, ℕ, ◌+◌, ◌≤◌, List, [], ◌∷◌, ◌++◌, map, filter, refl, sym, ap, subst, ◌∙◌, cond, Bool, true, false, arith, is_some, Option, None, Some, nat_le, Global}
+use Rattle.std.proofs.Common.{◌≡◌, ℕ, ◌+◌, ◌≤◌, List, [], ◌∷◌, ◌++◌, map, refl, sym, ap, subst, ◌∙◌, cond, Bool, true, false, arith, is_some, Option, None, Some, nat_le, Global}
 use Rattle.std.specs.Prelude.{◌==◌}
 use Rattle.std.specs.declared.sync.Arc.{Arc}
 use Rattle.std.proofs.lemmas.List.{append-nil}
@@ -15,7 +15,7 @@ use Rattle.cs_model.specs.Changes.{Edit, Table, Change, laid, until, table}
 use Rattle.cs_model.specs.State.{Txn, State, start, half_set, seen, seen_at}
 use Rattle.cs_model.specs.Answers.{is_of_table}
 use Rattle.cs_model.specs.Steps.{IsStep, Legal, numbered, started, pinned, fixed, txn_opened, or_clock}
-use Rattle.row_laws.specs.Frames.{Frames, SnapIn, SnapAtMost}
+use Rattle.row_laws.specs.Frames.{SnapIn, SnapAtMost}
 use Rattle.row_laws.specs.Started.{reads_rows, seen_in, IsPinnedAt, IsPinned, Starts, Shows, IsStarted}
 use Rattle.row_laws.proofs.Framed.{framed, clock_step, at_own}
 use Rattle.row_laws.proofs.Logs.{leads_split, leads_one, legal_push}

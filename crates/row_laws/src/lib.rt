@@ -5,16 +5,20 @@
 //! runs transactions keeps its own promises, stand in proofs/. It stands on `cs_model`.
 #![tactic(auto)]
 
-ghost use Rattle.std.specs.Prelude.{◌≡◌, ◌+◌, ◌≤◌, ℕ, List, [], ◌∷◌, ◌++◌, length, Bool, ◌==◌, false};
+ghost use Rattle.std.specs.Prelude.{◌≡◌, ◌+◌, ◌*◌, ◌≤◌, ℕ, List, [], ◌∷◌, ◌++◌, length, Contains, Bool, ◌==◌, true, false};
+ghost use Rattle.std.specs.declared.sync.Arc.{Arc};
+ghost use Rattle.std.specs.declared.alloc.Global.{Global};
 ghost use Rattle.cs_types.specs.declared.Schema.{Schema};
 ghost use Rattle.cs_model.specs.declared.entry.Bound.{Bound};
 ghost use Rattle.cs_model.specs.declared.entry.Entry.{Entry};
-ghost use Rattle.cs_model.specs.Actors.{actor_of};
+ghost use Rattle.cs_model.specs.declared.entry.Entry.TheVariants.{Start, Finish, End};
+ghost use Rattle.cs_model.specs.declared.entry.Reply.{Reply};
+ghost use Rattle.cs_model.specs.Actors.{actor_of, entries_of, is_begun, has_ended, owed};
 ghost use Rattle.cs_model.specs.Changes.{Table};
 ghost use Rattle.cs_model.specs.State.{State};
 ghost use Rattle.cs_model.specs.Steps.{Legal};
 ghost use Rattle.row_laws.specs.Frames.{SnapIn, IsDrawn};
-ghost use Rattle.row_laws.specs.Laws.{AreOwners, NumberedBelow, DrawnBelow, CommitsAscend};
+ghost use Rattle.row_laws.specs.Laws.{AreDistinct, AreOwners, NumberedBelow, DrawnBelow, CommitsAscend};
 ghost use Rattle.row_laws.specs.Started.{IsStarted};
 
 /// A legal log leads to one state: the events alone decide what is committed, open and half done.
@@ -50,4 +54,22 @@ pub fn started_stays()
         (schema : Schema) (log : List Entry) (entry : Entry) (session : ℕ) (b : Bound) (short : Bool) (rows : Table) → (actor_of entry == session) ≡ false
         → IsStarted schema log session b short rows → IsStarted schema (log ++ entry ∷ []) session b short rows
     }
+{}
+
+/// The entries that sessions owe: a Start adds its Finish to them, and a Finish and an End take themselves away. So a log
+/// with room for what is owed can take each Finish and each End without more memory.
+pub fn owed_entries()
+    ensures starts {
+        (sessions : List ℕ) (log : List Entry) (session : ℕ) (b : Arc Bound Global) (short : Bool) → AreDistinct sessions → Contains sessions session
+        → is_begun (entries_of session log) ≡ false → owed (log ++ Start session b short ∷ []) sessions ≡ owed log sessions + 1
+    }
+    ensures finishes {
+        (sessions : List ℕ) (log : List Entry) (session : ℕ) (reply : Reply) → AreDistinct sessions → Contains sessions session
+        → is_begun (entries_of session log) ≡ true → owed (log ++ Finish session reply ∷ []) sessions + 1 ≡ owed log sessions
+    }
+    ensures ends {
+        (sessions : List ℕ) (log : List Entry) (session : ℕ) → AreDistinct sessions → Contains sessions session → is_begun (entries_of session log) ≡ false
+        → has_ended (entries_of session log) ≡ false → owed (log ++ End session ∷ []) sessions + 1 ≡ owed log sessions
+    }
+    ensures most { (sessions : List ℕ) (log : List Entry) → owed log sessions ≤ 2 * length sessions }
 {}

@@ -38,13 +38,24 @@ fn count_key(counts: &mut Counts, key: Key) -> Result<(), Memory>
     Ok(())
 }
 
-/// How often each key stands among those of the writes.
-pub fn count_keys(alloc: Global, writes: &[(Key, Option<Row>)]) -> Result<Counts, Memory>
-    ensures { IfOk result (λ counts. (key : Key) → count_in counts key ≡ count_by (λ other. same_key key other) (keys_of writes.now)) }
+/// The keys of writes, in their order.
+pub fn keys_of(alloc: Global, writes: &[(Key, Option<Row>)]) -> Result<Vec<Key>, Memory>
+    ensures { IfOk result (λ keys. keys.items ≡ keys_of writes.now) }
+{
+    let mut keys = Vec::with_capacity(alloc, writes.len())?;
+    for write in writes {
+        keys.push(write.0)?;
+    }
+    Ok(keys)
+}
+
+/// How often each key stands in the list.
+pub fn count_keys(alloc: Global, keys: &[Key]) -> Result<Counts, Memory>
+    ensures { IfOk result (λ counts. (key : Key) → count_in counts key ≡ count_by (λ other. same_key key other) keys.now) }
 {
     let mut counts = BTreeMap::new(alloc);
-    for write in writes {
-        count_key(&mut counts, write.0)?;
+    for key in keys {
+        count_key(&mut counts, *key)?;
     }
     Ok(counts)
 }
@@ -118,31 +129,31 @@ fn least(
     snapshot: u64,
     own: &Own,
     counts: &Option<Counts>,
-    writes: &[(Key, Option<Row>)],
+    keys: &[Key],
 ) -> Option<(Key, Refusal)>
-    ensures { HasLeast (IsObstacle (state_of held.now) session (Some snapshot) (is_taken counts.now (laid (table held.now.changes snapshot) own.now.entries))) (keys_of writes.now) result }
+    ensures { HasLeast (IsObstacle (state_of held.now) session (Some snapshot) (is_taken counts.now (laid (table held.now.changes snapshot) own.now.entries))) keys.now result }
 {
     let mut least = None;
-    for write in writes {
-        let found = obstacle(held, session, snapshot, own, counts, write.0);
-        least = lesser(least, write.0, found);
+    for key in keys {
+        let found = obstacle(held, session, snapshot, own, counts, *key);
+        least = lesser(least, *key, found);
     }
     least
 }
 
-/// The obstacle of the least key that has one, to writes over the table of a snapshot and own writes. The counts of the
-/// keys are those of an INSERT, and None for another write.
+/// The obstacle of the least of these keys that has one, to a write over the table of a snapshot and own writes. The counts of
+/// the keys are those of an INSERT, and None for another write.
 pub fn judge(
     held: &Held,
     session: u32,
     snapshot: u64,
     own: &Own,
     counts: &Option<Counts>,
-    writes: &[(Key, Option<Row>)],
+    keys: &[Key],
 ) -> Option<Refusal>
-    ensures { IsJudged (IsObstacle (state_of held.now) session (Some snapshot) (is_taken counts.now (laid (table held.now.changes snapshot) own.now.entries))) (keys_of writes.now) result }
+    ensures { IsJudged (IsObstacle (state_of held.now) session (Some snapshot) (is_taken counts.now (laid (table held.now.changes snapshot) own.now.entries))) keys.now result }
 {
-    match least(held, session, snapshot, own, counts, writes) {
+    match least(held, session, snapshot, own, counts, keys) {
         Some(least) => Some(least.1),
         None => None,
     }

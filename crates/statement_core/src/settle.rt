@@ -4,7 +4,6 @@ ghost use Rattle.std.specs.BTreeMap.{insert_entry};
 ghost use Rattle.cs_types.specs.declared.Schema.{Schema};
 ghost use Rattle.cs_model.specs.Changes.{Change};
 ghost use Rattle.cs_model.specs.Keys.{key_cmp};
-ghost use Rattle.cs_model.specs.Obstacles.{keys_of};
 ghost use Rattle.cs_model.specs.State.{State, txn_set};
 ghost use Rattle.cs_model.specs.Steps.{is_changed, ends_txn, refused, staged, settled, wrote, began, IsStep};
 ghost use Rattle.cs_model.specs.declared.entry.Bound.TheVariants as bound;
@@ -13,7 +12,7 @@ ghost use Rattle.statement_core.specs.Held.{txn_as, txn_in, state_of, IsWithin};
 ghost use Rattle.statement_core.specs.Settled.{Settles, WriteSettles, Replies, GivesIn, IsDoneAt, IsJudgedIn, AreCountsFor, is_insert, deepened, recorded, committed_in};
 
 use crate::held::{Held, OpenTxn, set_half, set_txn, txn_of};
-use crate::judge::{Counts, count_keys, judge};
+use crate::judge::{Counts, count_keys, judge, keys_of};
 use crate::started::Outcome;
 use change_list::Own;
 use cs_base::{Items, Memory};
@@ -353,12 +352,12 @@ fn is_insert(bound: &Bound) -> bool
 fn counts_for(
     alloc: Global,
     bound: &Bound,
-    writes: &[(Key, Option<Row>)],
+    keys: &[Key],
 ) -> Result<Option<Counts>, Memory>
-    ensures { IfOk result (λ counts. AreCountsFor bound.now (keys_of writes.now) counts) }
+    ensures { IfOk result (λ counts. AreCountsFor bound.now keys.now counts) }
 {
     if is_insert(bound) {
-        Ok(Some(count_keys(alloc, writes)?))
+        Ok(Some(count_keys(alloc, keys)?))
     } else {
         Ok(None)
     }
@@ -381,8 +380,9 @@ fn obstacle_of(
     let Some(snapshot) = txn.snapshot else {
         return Err(Memory);
     };
-    let counts = counts_for(alloc, bound, writes)?;
-    Ok(judge(held, session, snapshot, &txn.own, &counts, writes))
+    let keys = keys_of(alloc, writes)?;
+    let counts = counts_for(alloc, bound, keys.as_slice())?;
+    Ok(judge(held, session, snapshot, &txn.own, &counts, keys.as_slice()))
 }
 
 /// The Finish of a write, whose list of writes is given.

@@ -1,0 +1,4 @@
+pub mod Seats
+pub mod States
+pub mod Least
+pub mod Settled
