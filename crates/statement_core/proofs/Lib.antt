@@ -2,3 +2,4 @@ pub mod Seats
 pub mod States
 pub mod Least
 pub mod Settled
+pub mod Fitting

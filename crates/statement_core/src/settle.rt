@@ -2,7 +2,6 @@
 ghost use Rattle.std.specs.Prelude.{Bool, ◌≡◌, ◌+◌, ◌<◌, ◌^◌, ℕ, IfOk, IfErr, OnOk, OnErr, IsTrue, ◌↔◌, All, false, true, None, Some, is_some, [], if◌then◌else◌};
 ghost use Rattle.std.specs.BTreeMap.{insert_entry};
 ghost use Rattle.cs_types.specs.declared.Schema.{Schema};
-ghost use Rattle.cs_model.specs.Changes.{Change};
 ghost use Rattle.cs_model.specs.Keys.{key_cmp};
 ghost use Rattle.cs_model.specs.State.{State, txn_set};
 ghost use Rattle.cs_model.specs.Steps.{is_changed, ends_txn, refused, staged, settled, wrote, began, IsStep};
@@ -64,7 +63,6 @@ fn refuse(held: &mut Held, session: u32, refusal: Refusal) -> Reply
 /// writes come back.
 fn record(held: &mut Held, txn: u64, own: Own) -> Result<(), Own>
     requires clock { held.old.clock + 1 < 2 ^ 64 }
-    requires numbered { All (λ (change : Change). change.commit < held.old.clock + 1) held.old.changes }
     ensures ok { OnOk result (state_of held.new ≡ recorded (state_of held.old) txn own.entries) }
     ensures err { OnErr result (state_of held.new ≡ state_of held.old) }
     ensures back { IfErr result (λ back. back.entries ≡ own.entries) }
@@ -125,7 +123,6 @@ fn staged(
 /// changed.
 fn settle_txn(held: &mut Held, session: u32, txn: OpenTxn) -> Result<(), Memory>
     requires within { IsWithin held.old session }
-    requires numbered { All (λ (change : Change). change.commit < held.old.clock + 1) held.old.changes }
     ensures ok { OnOk result (state_of held.new ≡ settled (state_of held.old) session (txn_as txn)) }
     ensures err { OnErr result (state_of held.new ≡ state_of held.old) }
 {
@@ -150,7 +147,6 @@ fn write(
     writes: Items<(Key, Option<Row>)>,
 ) -> Result<(), Memory>
     requires within { IsWithin held.old session }
-    requires numbered { All (λ (change : Change). change.commit < held.old.clock + 1) held.old.changes }
     ensures ok { OnOk result (state_of held.new ≡ wrote (state_of held.old) session ((state_of held.old).txns session) writes) }
     ensures err { OnErr result (state_of held.new ≡ state_of held.old) }
 {
@@ -238,7 +234,6 @@ fn begin(alloc: Global, held: &mut Held, session: u32) -> Reply
 /// Commits the session's transaction. Where memory is not there nothing has changed.
 fn commit_txn(held: &mut Held, session: u32) -> Result<(), Memory>
     requires within { IsWithin held.old session }
-    requires numbered { All (λ (change : Change). change.commit < held.old.clock + 1) held.old.changes }
     ensures ok { OnOk result (state_of held.new ≡ committed_in (state_of held.old) session ((state_of held.old).txns session)) }
     ensures err { OnErr result (state_of held.new ≡ state_of held.old) }
 {
@@ -269,7 +264,6 @@ fn commit_txn(held: &mut Held, session: u32) -> Result<(), Memory>
 /// The Finish of a COMMIT.
 fn commit(held: &mut Held, session: u32) -> Reply
     requires within { IsWithin held.old session }
-    requires numbered { All (λ (change : Change). change.commit < held.old.clock + 1) held.old.changes }
     ensures { (schema : Schema) → Settles schema (state_of held.old) session bound.Commit false result (state_of held.new) }
 {
     let Some(txn) = txn_of(held, session) else {
@@ -302,7 +296,6 @@ fn rollback(held: &mut Held, session: u32) -> Reply
 /// of any reply.
 fn plain(alloc: Global, held: &mut Held, session: u32, bound: &Bound) -> Reply
     requires within { IsWithin held.old session }
-    requires numbered { All (λ (change : Change). change.commit < held.old.clock + 1) held.old.changes }
     ensures { (schema : Schema) → Settles schema (state_of held.old) session bound.now false result (state_of held.new) }
 {
     match bound {
@@ -320,7 +313,6 @@ fn plain(alloc: Global, held: &mut Held, session: u32, bound: &Bound) -> Reply
 /// The Finish of a statement whose work gave its reply.
 fn answered(alloc: Global, held: &mut Held, session: u32, reply: Reply) -> Reply
     requires within { IsWithin held.old session }
-    requires numbered { All (λ (change : Change). change.commit < held.old.clock + 1) held.old.changes }
     ensures { Replies (state_of held.old) session reply result (state_of held.new) }
 {
     if let Reply::Refused(refusal) = reply {
@@ -394,7 +386,6 @@ fn wrote(
     writes: Items<(Key, Option<Row>)>,
 ) -> Reply
     requires within { IsWithin held.old session }
-    requires numbered { All (λ (change : Change). change.commit < held.old.clock + 1) held.old.changes }
     ensures { WriteSettles (state_of held.old) session bound.now writes result (state_of held.new) }
 {
     let count = writes.len() as u64;
@@ -417,7 +408,6 @@ fn settle(
     outcome: Outcome,
 ) -> Reply
     requires within { IsWithin held.old session }
-    requires numbered { All (λ (change : Change). change.commit < held.old.clock + 1) held.old.changes }
     ensures { (schema : Schema) (short : Bool) → GivesIn schema (state_of held.old) session bound.now short outcome → Settles schema (state_of held.old) session bound.now short result (state_of held.new) }
 {
     match outcome {
@@ -431,7 +421,6 @@ fn settle(
 /// A Finish, but for its entry.
 pub fn finish(alloc: Global, held: &mut Held, session: u32, outcome: Outcome) -> Reply
     requires within { IsWithin held.old session }
-    requires numbered { All (λ (change : Change). change.commit < held.old.clock + 1) held.old.changes }
     requires half { is_some ((state_of held.old).half session) ≡ true }
     ensures { (schema : Schema) → IsDoneAt schema (state_of held.old) session outcome → IsStep schema (state_of held.old) (Finish session result) (state_of held.new) }
 {

@@ -1,0 +1,234 @@
+-- What an event leaves fits the table, and its reply can be printed.
+use Rattle.std.proofs.Common.{◌≡◌, ℕ, List, [], ◌∷◌, ◌++◌, map, refl, sym, ap, subst, ◌∙◌, inl, inr, ◌⊎◌, Bool, true, false, cond, All, Contains, Option, None, Some, Result, Ok, Err, fold, nat_lt, nat_le, ◌+◌, ◌-◌}
+use Rattle.std.specs.Prelude.{◌==◌}
+use Rattle.std.specs.declared.cmp.Ordering.{Ordering}
+use Rattle.std.specs.declared.cmp.Ordering.TheVariants.{Less, Equal, Greater}
+use Rattle.std.specs.BTreeMap.{insert_entry, is_at}
+use Rattle.std.specs.Map.{remove_entry}
+use Rattle.std.specs.Ordering.{match_ordering}
+use Rattle.std.proofs.lemmas.List.Elements.{All-append, All-map, All-cons, All-nil, All-head, All-tail, All-contains}
+use Rattle.cs_types.specs.declared.Key.{Key}
+use Rattle.cs_types.specs.declared.Value.{Value}
+use Rattle.cs_types.specs.declared.Schema.{Schema}
+use Rattle.cs_model.specs.declared.entry.Bound.{Bound}
+use Rattle.cs_model.specs.declared.entry.Bound.TheVariants as bound
+use Rattle.cs_model.specs.declared.entry.Refusal.{Refusal}
+use Rattle.cs_model.specs.declared.entry.Refusal.TheVariants as refusal
+use Rattle.cs_model.specs.declared.entry.Reply.{Reply}
+use Rattle.cs_model.specs.declared.entry.Reply.TheVariants as reply
+use Rattle.cs_model.specs.Keys.{key_cmp}
+use Rattle.cs_model.specs.Changes.{Edit, Table, Change, edited, edited_by, laid, table, until}
+use Rattle.cs_model.specs.Held.{IsFit, IsFitEntry, IsFitTable, AreFit}
+use Rattle.cs_model.specs.State.{State, Txn, Half, with, txn_set, half_set, seen, seen_at}
+use Rattle.cs_model.specs.Answers.{is_of_table}
+use Rattle.cs_model.specs.Obstacles.{keys_of, IsObstacle, IsJudged}
+use Rattle.cs_model.specs.Steps.{IsReply, IsWritten, began, unwound, settled, commits, wrote, gone, refused, replied, accepted, ends_txn, staged, is_empty, numbered, begin_reply, done_in}
+use Rattle.cs_model.specs.Text.{IsPrintableKey, IsPrintableRefusal, IsPrintableReply}
+use Rattle.statement_core.specs.Fit.{IsReady, IsFitTxn, IsReadyHalf, IsFitState}
+use Rattle.statement_core.specs.Settled.{wrote_or, IsWrittenIn}
+
+module _ (schema : Schema) where
+  -- ---- one session's part
+
+  set_fits : {A : Type 0} (P : A → Type 0) (f : ℕ → A) (i : ℕ) (x : A) → P x → ((s : ℕ) → P (f s)) → (s : ℕ) → P (with f i x s)
+  set_fits P f i x p h s = at (s == i)
+    where
+      at : (t : Bool) → P (cond t x (f s))
+      at true = p
+      at false = h s
+
+  pub fit_txn : (m : State) (i : ℕ) (o : Option Txn) → IsFitState schema m → IsFitTxn schema o → IsFitState schema (txn_set m i o)
+  fit_txn m i o fit p = record { changes = fit.changes; txns = set_fits (IsFitTxn schema) m.txns i o p fit.txns; halves = fit.halves }
+
+  pub fit_half : (m : State) (i : ℕ) (h : Option Half) → IsFitState schema m → IsReadyHalf schema h → IsFitState schema (half_set m i h)
+  fit_half m i h fit p = record { changes = fit.changes; txns = fit.txns; halves = set_fits (IsReadyHalf schema) m.half i h p fit.halves }
+
+  pub fit_gone : (m : State) (i : ℕ) → IsFitState schema m → IsFitState schema (gone m i)
+  fit_gone m i fit = fit_txn m i None fit tt
+
+  -- ---- edits and changes
+
+  fit_numbered : (commit txn : ℕ) (edits : List Edit) → All (IsFit schema) edits → AreFit schema (numbered commit txn edits)
+  fit_numbered commit txn edits fit = All-map (λ (change : Change). IsFit schema change.edit) (λ edit. record { commit = commit; txn = txn; edit = edit }) edits fit
+
+  fit_commits : (m : State) (i : ℕ) (txn : Txn) → IsFitState schema m → All (IsFit schema) txn.own → IsFitState schema (commits m i txn)
+  fit_commits m i txn fit own = at (is_empty txn.own)
+    where
+      at : (t : Bool) → IsFitState schema (cond t (gone m i) (record (gone m i) { changes = m.changes ++ numbered (m.clock + 1) txn.number txn.own; clock = m.clock + 1 }))
+      at true = fit_gone m i fit
+      at false = record {
+        changes = All-append (λ (change : Change). IsFit schema change.edit) m.changes (numbered (m.clock + 1) txn.number txn.own) fit.changes (fit_numbered (m.clock + 1) txn.number txn.own own);
+        txns = (fit_gone m i fit).txns;
+        halves = fit.halves;
+      }
+
+  insert_fits : (own : List Edit) (edit : Edit) → IsFit schema edit → All (IsFit schema) own → All (IsFit schema) (insert_entry key_cmp own edit.0 edit.1)
+  insert_fits [] edit p all = All-cons (IsFit schema) edit [] p all
+  insert_fits (e ∷ es) edit p all = at (key_cmp edit.0 e.0) (insert_fits es edit p (All-tail (IsFit schema) e es all))
+    where
+      at : (r : Ordering) → All (IsFit schema) (insert_entry key_cmp es edit.0 edit.1) → All (IsFit schema) (match_ordering r ((edit.0, edit.1) ∷ e ∷ es) ((e.0, edit.1) ∷ es) (e ∷ insert_entry key_cmp es edit.0 edit.1))
+      at Less rest = All-cons (IsFit schema) edit (e ∷ es) p all
+      at Equal rest = All-cons (IsFit schema) (e.0, edit.1) es ((All-head (IsFit schema) e es all).0, p.1) (All-tail (IsFit schema) e es all)
+      at Greater rest = All-cons (IsFit schema) e (insert_entry key_cmp es edit.0 edit.1) (All-head (IsFit schema) e es all) rest
+
+  fit_staged : (own edits : List Edit) → All (IsFit schema) own → All (IsFit schema) edits → All (IsFit schema) (staged own edits)
+  fit_staged own [] a b = a
+  fit_staged own (edit ∷ edits) a b = fit_staged (insert_entry key_cmp own edit.0 edit.1) edits (insert_fits own edit (All-head (IsFit schema) edit edits b) a) (All-tail (IsFit schema) edit edits b)
+
+  fit_settled : (m : State) (i : ℕ) (txn : Txn) → IsFitState schema m → All (IsFit schema) txn.own → IsFitState schema (settled m i txn)
+  fit_settled m i txn fit own = at (txn.depth == 0)
+    where
+      at : (t : Bool) → IsFitState schema (cond t (commits m i txn) (txn_set m i (Some txn)))
+      at true = fit_commits m i txn fit own
+      at false = fit_txn m i (Some txn) fit own
+
+  fit_wrote : (m : State) (i : ℕ) (o : Option Txn) (edits : List Edit) → IsFitState schema m → IsFitTxn schema o → All (IsFit schema) edits → IsFitState schema (wrote m i o edits)
+  fit_wrote m i None edits fit p e = fit
+  fit_wrote m i (Some txn) edits fit p e = fit_settled m i (record txn { own = staged txn.own edits }) fit (fit_staged txn.own edits p e)
+
+  pub fit_refused : (m : State) (i : ℕ) (refusal : Refusal) → IsFitState schema m → IsFitState schema (refused m i refusal)
+  fit_refused m i refusal fit = at (ends_txn (m.txns i) refusal)
+    where
+      at : (t : Bool) → IsFitState schema (cond t (gone m i) m)
+      at true = fit_gone m i fit
+      at false = fit
+
+  pub fit_wrote_or : (m : State) (i : ℕ) (edits : List Edit) (r : Reply) → IsFitState schema m → All (IsFit schema) edits → IsFitState schema (wrote_or m i edits r)
+  fit_wrote_or m i edits reply.Done fit e = fit_wrote m i (m.txns i) edits fit (fit.txns i) e
+  fit_wrote_or m i edits (reply.Affected count) fit e = fit_wrote m i (m.txns i) edits fit (fit.txns i) e
+  fit_wrote_or m i edits (reply.Rows rows segments) fit e = fit_wrote m i (m.txns i) edits fit (fit.txns i) e
+  fit_wrote_or m i edits (reply.Refused refusal) fit e = fit_refused m i refusal fit
+
+  -- ---- statements that are none of the table
+
+  fit_began : (m : State) (i : ℕ) (o : Option Txn) → IsFitState schema m → IsFitTxn schema o → IsFitState schema (began m i o)
+  fit_began m i None fit p = record { changes = fit.changes; txns = set_fits (IsFitTxn schema) m.txns i _ (All-nil (IsFit schema)) fit.txns; halves = fit.halves }
+  fit_began m i (Some txn) fit p = fit_txn m i _ fit p
+
+  fit_unwound : (m : State) (i : ℕ) (o : Option Txn) → IsFitState schema m → IsFitTxn schema o → IsFitState schema (unwound m i o)
+  fit_unwound m i None fit p = fit
+  fit_unwound m i (Some txn) fit p = at (nat_le txn.depth 1)
+    where
+      at : (t : Bool) → IsFitState schema (cond t (commits m i txn) (txn_set m i (Some (record txn { depth = txn.depth - 1 }))))
+      at true = fit_commits m i txn fit p
+      at false = fit_txn m i _ fit p
+
+  fit_accepted : (m : State) (i : ℕ) (b : Bound) → is_of_table b ≡ false → IsFitState schema m → IsFitState schema (accepted schema m i b)
+  fit_accepted m i bound.Begin e fit = fit_began m i (m.txns i) fit (fit.txns i)
+  fit_accepted m i bound.Commit e fit = fit_unwound m i (m.txns i) fit (fit.txns i)
+  fit_accepted m i bound.Rollback e fit = fit_gone m i fit
+  fit_accepted m i bound.Nothing e fit = fit
+  fit_accepted m i (bound.Insert plan) e fit = absurd (cc e)
+  fit_accepted m i (bound.Update plan) e fit = absurd (cc e)
+  fit_accepted m i (bound.Delete condition) e fit = absurd (cc e)
+  fit_accepted m i (bound.Select query) e fit = absurd (cc e)
+  fit_accepted m i (bound.Refused refusal) e fit = fit
+
+  pub fit_replied : (m : State) (i : ℕ) (b : Bound) (r : Reply) → is_of_table b ≡ false → IsFitState schema m → IsFitState schema (replied schema m i b r)
+  fit_replied m i b reply.Done e fit = fit_accepted m i b e fit
+  fit_replied m i b (reply.Affected count) e fit = fit_accepted m i b e fit
+  fit_replied m i b (reply.Rows rows segments) e fit = fit_accepted m i b e fit
+  fit_replied m i b (reply.Refused refusal) e fit = fit_refused m i refusal fit
+
+  -- ---- replies
+
+  refused_prints : (r : Reply) (refusal : Refusal) → r ≡ reply.Refused refusal → IsPrintableRefusal schema refusal → IsPrintableReply schema r
+  refused_prints r refusal e p = subst (IsPrintableReply schema) (sym e) p
+
+  begin_prints : (o : Option Txn) → IsPrintableReply schema (begin_reply o)
+  begin_prints None = tt
+  begin_prints (Some txn) = at (nat_lt txn.depth 32)
+    where
+      at : (t : Bool) → IsPrintableReply schema (cond t reply.Done (reply.Refused (refusal.Reading 50001 1)))
+      at true = tt
+      at false = tt
+
+  done_prints : (o : Option Txn) (number : ℕ) → IsPrintableReply schema (done_in o number)
+  done_prints None number = tt
+  done_prints (Some txn) number = tt
+
+  plain_prints_at : (m : State) (i : ℕ) (b : Bound) (r : Reply) → is_of_table b ≡ false → IsReady schema b → IsReply schema m i b r → IsPrintableReply schema r
+  plain_prints_at m i bound.Begin r e p h = subst (IsPrintableReply schema) (sym h) (begin_prints (m.txns i))
+  plain_prints_at m i bound.Commit r e p h = subst (IsPrintableReply schema) (sym h) (done_prints (m.txns i) 3902)
+  plain_prints_at m i bound.Rollback r e p h = subst (IsPrintableReply schema) (sym h) (done_prints (m.txns i) 3903)
+  plain_prints_at m i bound.Nothing r e p h = subst (IsPrintableReply schema) (sym h) tt
+  plain_prints_at m i (bound.Insert plan) r e p h = absurd (cc e)
+  plain_prints_at m i (bound.Update plan) r e p h = absurd (cc e)
+  plain_prints_at m i (bound.Delete condition) r e p h = absurd (cc e)
+  plain_prints_at m i (bound.Select query) r e p h = absurd (cc e)
+  plain_prints_at m i (bound.Refused refusal) r e p h = refused_prints r refusal h p
+
+  pub plain_prints : (m : State) (i : ℕ) (b : Bound) (r : Reply) (short : Bool) → is_of_table b ≡ false → IsReady schema b → (r ≡ reply.Refused refusal.Memory) ⊎ ((short ≡ false) × IsReply schema m i b r) → IsPrintableReply schema r
+  plain_prints m i b r short e p (inl h) = refused_prints r refusal.Memory h tt
+  plain_prints m i b r short e p (inr h) = plain_prints_at m i b r e p h.1
+
+  pub given_prints : (given r : Reply) → IsPrintableReply schema given → (r ≡ reply.Refused refusal.Memory) ⊎ (r ≡ given) → IsPrintableReply schema r
+  given_prints given r p (inl h) = refused_prints r refusal.Memory h tt
+  given_prints given r p (inr h) = subst (IsPrintableReply schema) (sym h) p
+
+  keys_fit : (edits : List Edit) → All (IsFit schema) edits → All (IsPrintableKey schema) (keys_of edits)
+  keys_fit [] all = All-nil (IsPrintableKey schema)
+  keys_fit (e ∷ es) all = All-cons (IsPrintableKey schema) e.0 (keys_of es) (All-head (IsFit schema) e es all).0 (keys_fit es (All-tail (IsFit schema) e es all))
+
+  obstacle_prints : (m : State) (i : ℕ) (snapshot : Option ℕ) (present : Key → Bool) (key : Key) (found : Refusal) → IsPrintableKey schema key → IsObstacle m i snapshot present key (Some found) → IsPrintableRefusal schema found
+  obstacle_prints m i snapshot present key (refusal.Locked k txn) p h = subst (IsPrintableKey schema) (sym h.0) p
+  obstacle_prints m i snapshot present key (refusal.Changed k txn commit) p h = subst (IsPrintableKey schema) (sym h.0) p
+  obstacle_prints m i snapshot present key (refusal.Duplicate k) p h = subst (IsPrintableKey schema) (sym h.0) p
+  obstacle_prints m i snapshot present key (refusal.Reading number at) p h = tt
+  obstacle_prints m i snapshot present key (refusal.Valued number row column) p h = tt
+  obstacle_prints m i snapshot present key (refusal.NoTxn number) p h = tt
+  obstacle_prints m i snapshot present key refusal.Memory p h = tt
+
+  written_prints_at : (m : State) (i : ℕ) (o : Option Txn) (b : Bound) (edits : List Edit) (r : Reply) → All (IsFit schema) edits → IsWrittenIn m i o b edits r → IsPrintableReply schema r
+  written_prints_at m i None b edits r fit h = absurd h
+  written_prints_at m i (Some txn) b edits reply.Done fit h = tt
+  written_prints_at m i (Some txn) b edits (reply.Affected count) fit h = tt
+  written_prints_at m i (Some txn) b edits (reply.Rows rows segments) fit h = absurd h
+  written_prints_at m i (Some txn) b edits (reply.Refused found) fit h =
+      obstacle_prints m i txn.snapshot _ h.key found (All-contains (IsPrintableKey schema) (keys_of edits) h.key (keys_fit edits fit) h.listed) h.is
+
+  pub written_prints : (m : State) (i : ℕ) (b : Bound) (edits : List Edit) (r : Reply) → All (IsFit schema) edits → (r ≡ reply.Refused refusal.Memory) ⊎ IsWrittenIn m i (m.txns i) b edits r → IsPrintableReply schema r
+  written_prints m i b edits r fit (inl h) = refused_prints r refusal.Memory h tt
+  written_prints m i b edits r fit (inr h) = written_prints_at m i (m.txns i) b edits r fit h
+
+  -- ---- the rows that a statement reads
+
+  put_fits : (t : Table) (key : Key) (row : List Value) → IsFitEntry schema (key, row) → IsFitTable schema t → IsFitTable schema (insert_entry key_cmp t key row)
+  put_fits [] key row p all = All-cons (IsFitEntry schema) (key, row) [] p all
+  put_fits (e ∷ es) key row p all = at (key_cmp key e.0) (put_fits es key row p (All-tail (IsFitEntry schema) e es all))
+    where
+      at : (r : Ordering) → IsFitTable schema (insert_entry key_cmp es key row) → IsFitTable schema (match_ordering r ((key, row) ∷ e ∷ es) ((e.0, row) ∷ es) (e ∷ insert_entry key_cmp es key row))
+      at Less rest = All-cons (IsFitEntry schema) (key, row) (e ∷ es) p all
+      at Equal rest = All-cons (IsFitEntry schema) (e.0, row) es ((All-head (IsFitEntry schema) e es all).0, p.1) (All-tail (IsFitEntry schema) e es all)
+      at Greater rest = All-cons (IsFitEntry schema) e (insert_entry key_cmp es key row) (All-head (IsFitEntry schema) e es all) rest
+
+  taken_fits : (key : Key) (t : Table) → IsFitTable schema t → IsFitTable schema (remove_entry (is_at (key_cmp key)) t)
+  taken_fits key [] all = all
+  taken_fits key (e ∷ es) all = at (is_at (key_cmp key) e.0) (taken_fits key es (All-tail (IsFitEntry schema) e es all))
+    where
+      at : (t : Bool) → IsFitTable schema (remove_entry (is_at (key_cmp key)) es) → IsFitTable schema (cond t es (e ∷ remove_entry (is_at (key_cmp key)) es))
+      at true rest = All-tail (IsFitEntry schema) e es all
+      at false rest = All-cons (IsFitEntry schema) e (remove_entry (is_at (key_cmp key)) es) (All-head (IsFitEntry schema) e es all) rest
+
+  edit_fits : (t : Table) (key : Key) (row : Option (List Value)) → IsFit schema (key, row) → IsFitTable schema t → IsFitTable schema (edited_by t key row)
+  edit_fits t key None p all = taken_fits key t all
+  edit_fits t key (Some row) p all = put_fits t key row p all
+
+  laid_fits : (t : Table) (edits : List Edit) → All (IsFit schema) edits → IsFitTable schema t → IsFitTable schema (laid t edits)
+  laid_fits t [] e all = all
+  laid_fits t (edit ∷ edits) e all = laid_fits (edited t edit) edits (All-tail (IsFit schema) edit edits e) (edit_fits t edit.0 edit.1 (All-head (IsFit schema) edit edits e) all)
+
+  until_fits : (s : ℕ) (changes : List Change) → AreFit schema changes → All (IsFit schema) (map (λ (change : Change). change.edit) (until s changes))
+  until_fits s [] all = All-nil (IsFit schema)
+  until_fits s (c ∷ cs) all = at (nat_le c.commit s) (until_fits s cs (All-tail (λ (change : Change). IsFit schema change.edit) c cs all))
+    where
+      at : (t : Bool) → All (IsFit schema) (map (λ (change : Change). change.edit) (until s cs)) → All (IsFit schema) (map (λ (change : Change). change.edit) (cond t (c ∷ until s cs) (until s cs)))
+      at true rest = All-cons (IsFit schema) c.edit (map (λ (change : Change). change.edit) (until s cs)) (All-head (λ (change : Change). IsFit schema change.edit) c cs all) rest
+      at false rest = rest
+
+  pub seen_fits : (changes : List Change) (txn : Txn) → AreFit schema changes → All (IsFit schema) txn.own → IsFitTable schema (seen changes txn)
+  seen_fits changes txn all own = at txn.snapshot
+    where
+      at : (s : Option ℕ) → IsFitTable schema (seen_at changes s txn.own)
+      at None = laid_fits [] txn.own own (All-nil (IsFitEntry schema))
+      at (Some s) = laid_fits (table changes s) txn.own own (laid_fits [] (map (λ (change : Change). change.edit) (until s changes)) (until_fits s changes all) (All-nil (IsFitEntry schema)))
