@@ -4,7 +4,6 @@ ghost use Rattle.std.specs.Prelude.{◌≡◌, ◌≤◌, ℕ, List, length, Res
 ghost use Rattle.cs_model.specs.declared.entry.Bound.{Bound};
 ghost use Rattle.tsql_reader.specs.Statements.{IsNoStatement, RefusesStatement, AnswersOnly};
 ghost use Rattle.tsql_faults.specs.declared.fault.Fault.{Fault};
-ghost use Rattle.tsql_binder.specs.Meaning as spec;
 ghost use Rattle.tsql_binder.specs.Meaning.{plan_of, bound_of, bound_or, Means, GivesBound};
 
 use crate::postponed::is_postponed;
