@@ -2,3 +2,4 @@ pub mod Keys
 pub mod Lists
 pub mod Walks
 pub mod Tables
+pub mod Places

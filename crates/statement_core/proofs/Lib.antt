@@ -3,3 +3,4 @@ pub mod States
 pub mod Least
 pub mod Settled
 pub mod Fitting
+pub mod Keeping

@@ -5,9 +5,11 @@ ghost use Rattle.cs_types.specs.declared.Schema.{Schema};
 ghost use Rattle.cs_model.specs.Keys.{key_cmp};
 ghost use Rattle.cs_model.specs.State.{State, txn_set};
 ghost use Rattle.cs_model.specs.Steps.{is_changed, ends_txn, refused, staged, settled, wrote, began, IsStep};
+ghost use Rattle.cs_model.specs.Text.{IsPrintableReply};
 ghost use Rattle.cs_model.specs.declared.entry.Bound.TheVariants as bound;
 ghost use Rattle.cs_model.specs.declared.entry.Entry.TheVariants.{Finish, End};
 ghost use Rattle.statement_core.specs.Held.{txn_as, txn_in, state_of, IsWithin};
+ghost use Rattle.statement_core.specs.Fit.{IsFitState, IsReady};
 ghost use Rattle.statement_core.specs.Settled.{Settles, WriteSettles, Replies, GivesIn, IsDoneAt, IsJudgedIn, AreCountsFor, is_insert, deepened, recorded, committed_in};
 
 use crate::held::{Held, OpenTxn, set_half, set_txn, txn_of};
@@ -408,7 +410,11 @@ fn settle(
     outcome: Outcome,
 ) -> Reply
     requires within { IsWithin held.old session }
-    ensures { (schema : Schema) (short : Bool) → GivesIn schema (state_of held.old) session bound.now short outcome → Settles schema (state_of held.old) session bound.now short result (state_of held.new) }
+    ensures settles { (schema : Schema) (short : Bool) → GivesIn schema (state_of held.old) session bound.now short outcome → Settles schema (state_of held.old) session bound.now short result (state_of held.new) }
+    ensures fits {
+        (schema : Schema) (short : Bool) → GivesIn schema (state_of held.old) session bound.now short outcome → IsFitState schema (state_of held.old) → IsReady schema bound.now
+        → IsFitState schema (state_of held.new) × IsPrintableReply schema result
+    }
 {
     match outcome {
         Outcome::Nothing => plain(alloc, held, session, bound),
@@ -422,7 +428,11 @@ fn settle(
 pub fn finish(alloc: Global, held: &mut Held, session: u32, outcome: Outcome) -> Reply
     requires within { IsWithin held.old session }
     requires half { is_some ((state_of held.old).half session) ≡ true }
-    ensures { (schema : Schema) → IsDoneAt schema (state_of held.old) session outcome → IsStep schema (state_of held.old) (Finish session result) (state_of held.new) }
+    ensures step { (schema : Schema) → IsDoneAt schema (state_of held.old) session outcome → IsStep schema (state_of held.old) (Finish session result) (state_of held.new) }
+    ensures fits {
+        (schema : Schema) → IsDoneAt schema (state_of held.old) session outcome → IsFitState schema (state_of held.old)
+        → IsFitState schema (state_of held.new) × IsPrintableReply schema result
+    }
 {
     match set_half(held, session, None) {
         Some(half) => settle(alloc, held, session, &half.bound, outcome),
