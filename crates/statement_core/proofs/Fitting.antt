@@ -21,7 +21,7 @@ use Rattle.cs_model.specs.Changes.{Edit, Table, Change, edited, edited_by, laid,
 use Rattle.cs_model.specs.Held.{IsFit, IsFitEntry, IsFitTable, AreFit}
 use Rattle.cs_model.specs.State.{State, Txn, Half, with, txn_set, half_set, seen, seen_at}
 use Rattle.cs_model.specs.Answers.{is_of_table}
-use Rattle.cs_model.specs.Obstacles.{keys_of, IsObstacle, IsJudged}
+use Rattle.cs_model.specs.Obstacles.{keys_of, is_present, IsObstacle, IsJudged}
 use Rattle.cs_model.specs.Steps.{IsReply, IsWritten, began, unwound, settled, commits, wrote, gone, refused, replied, accepted, ends_txn, staged, is_empty, numbered, begin_reply, done_in, pinned, started, fixed, txn_opened}
 use Rattle.cs_model.specs.Text.{IsPrintableKey, IsPrintableRefusal, IsPrintableReply}
 use Rattle.statement_core.specs.Fit.{IsReady, IsFitTxn, IsReadyHalf, IsFitState}
@@ -185,7 +185,7 @@ module _ (schema : Schema) where
   written_prints_at m i (Some txn) b edits (reply.Affected count) fit h = tt
   written_prints_at m i (Some txn) b edits (reply.Rows rows segments) fit h = absurd h
   written_prints_at m i (Some txn) b edits (reply.Refused found) fit h =
-      obstacle_prints m i txn.snapshot _ h.key found (All-contains (IsPrintableKey schema) (keys_of edits) h.key (keys_fit edits fit) h.listed) h.is
+      obstacle_prints m i txn.snapshot (is_present b edits (seen m.changes txn)) h.key found (All-contains (IsPrintableKey schema) (keys_of edits) h.key (keys_fit edits fit) h.listed) h.is
 
   pub written_prints : (m : State) (i : ℕ) (b : Bound) (edits : List Edit) (r : Reply) → All (IsFit schema) edits → (r ≡ reply.Refused refusal.Memory) ⊎ IsWrittenIn m i (m.txns i) b edits r → IsPrintableReply schema r
   written_prints m i b edits r fit (inl h) = refused_prints r refusal.Memory h tt

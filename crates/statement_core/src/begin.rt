@@ -71,12 +71,7 @@ fn rows_for(alloc: Global, held: &Held, session: u32, bound: &Bound) -> Result<R
 }
 
 /// The Start of a statement of the table.
-fn start_on_table(
-    alloc: Global,
-    held: &mut Held,
-    session: u32,
-    bound: Arc<Bound>,
-) -> (Rows, bool)
+fn start_on_table(alloc: Global, held: &mut Held, session: u32, bound: Arc<Bound>) -> (Rows, bool)
     requires within { IsWithin held.old session }
     requires table { is_of_table bound.value ≡ true }
     ensures starts { Starts (state_of held.old) session bound.value result.1 result.0.entries (state_of held.new) }

@@ -85,36 +85,18 @@ fn stage(own: &mut Own, key: Key, row: Option<Row>) -> Result<(), Memory>
     Ok(())
 }
 
-/// A copy of what is put at a key.
-fn copied(row: &Option<Row>) -> Result<Option<Row>, Memory>
-    ensures { IfOk result (λ copy. copy ≡ row.now) }
-{
-    match row {
-        Some(row) => Ok(Some(row.copy()?)),
-        None => Ok(None),
-    }
-}
-
 /// A copy of own writes.
-fn copy_of(alloc: Global, own: &Own) -> Result<Own, Memory>
+fn copy_of(own: &Own) -> Result<Own, Memory>
     ensures { IfOk result (λ copy. copy.entries ≡ own.now.entries) }
 {
-    let mut copy = BTreeMap::new(alloc);
-    for (key, row) in own.iter() {
-        stage(&mut copy, *key, copied(row)?)?;
-    }
-    Ok(copy)
+    Ok(own.clone()?)
 }
 
 /// Own writes with more laid over them; the last for a key stands.
-fn staged(
-    alloc: Global,
-    own: &Own,
-    writes: Items<(Key, Option<Row>)>,
-) -> Result<Own, Memory>
+fn staged(own: &Own, writes: Items<(Key, Option<Row>)>) -> Result<Own, Memory>
     ensures { IfOk result (λ after. after.entries ≡ staged own.now.entries writes) }
 {
-    let mut after = copy_of(alloc, own)?;
+    let mut after = copy_of(own)?;
     for (key, row) in writes.into_vec() {
         stage(&mut after, key, row)?;
     }
@@ -142,12 +124,7 @@ fn settle_txn(held: &mut Held, session: u32, txn: OpenTxn) -> Result<(), Memory>
 }
 
 /// Lays writes over the own ones of the session's transaction; an implicit one commits. After `Memory` nothing has changed.
-fn write(
-    alloc: Global,
-    held: &mut Held,
-    session: u32,
-    writes: Items<(Key, Option<Row>)>,
-) -> Result<(), Memory>
+fn write(held: &mut Held, session: u32, writes: Items<(Key, Option<Row>)>) -> Result<(), Memory>
     requires within { IsWithin held.old session }
     ensures ok { OnOk result (state_of held.new ≡ wrote (state_of held.old) session ((state_of held.old).txns session) writes) }
     ensures err { OnErr result (state_of held.new ≡ state_of held.old) }
@@ -155,7 +132,7 @@ fn write(
     let Some(txn) = txn_of(held, session) else {
         return Ok(());
     };
-    let own = staged(alloc, &txn.own, writes)?;
+    let own = staged(&txn.own, writes)?;
     let after = OpenTxn {
         number: txn.number,
         depth: txn.depth,
@@ -320,7 +297,7 @@ fn answered(alloc: Global, held: &mut Held, session: u32, reply: Reply) -> Reply
     if let Reply::Refused(refusal) = reply {
         return refuse(held, session, refusal);
     }
-    match write(alloc, held, session, Items::new(alloc)) {
+    match write(held, session, Items::new(alloc)) {
         Ok(()) => reply,
         Err(_) => refuse(held, session, Refusal::Memory),
     }
@@ -343,11 +320,7 @@ fn is_insert(bound: &Bound) -> bool
 }
 
 /// The counts of the keys of an INSERT, and None for another write.
-fn counts_for(
-    alloc: Global,
-    bound: &Bound,
-    keys: &[Key],
-) -> Result<Option<Counts>, Memory>
+fn counts_for(alloc: Global, bound: &Bound, keys: &[Key]) -> Result<Option<Counts>, Memory>
     ensures { IfOk result (λ counts. AreCountsFor bound.now keys.now counts) }
 {
     if is_insert(bound) {
@@ -393,7 +366,7 @@ fn wrote(
     let count = writes.len() as u64;
     match obstacle_of(alloc, held, session, bound, writes.as_slice()) {
         Ok(Some(refusal)) => refuse(held, session, refusal),
-        Ok(None) => match write(alloc, held, session, writes) {
+        Ok(None) => match write(held, session, writes) {
             Ok(()) => Reply::Affected(count),
             Err(_) => refuse(held, session, Refusal::Memory),
         },
@@ -402,19 +375,11 @@ fn wrote(
 }
 
 /// The Finish of a statement whose work gave this outcome.
-fn settle(
-    alloc: Global,
-    held: &mut Held,
-    session: u32,
-    bound: &Bound,
-    outcome: Outcome,
-) -> Reply
+fn settle(alloc: Global, held: &mut Held, session: u32, bound: &Bound, outcome: Outcome) -> Reply
     requires within { IsWithin held.old session }
     ensures settles { (schema : Schema) (short : Bool) → GivesIn schema (state_of held.old) session bound.now short outcome → Settles schema (state_of held.old) session bound.now short result (state_of held.new) }
-    ensures fits {
-        (schema : Schema) (short : Bool) → GivesIn schema (state_of held.old) session bound.now short outcome → IsFitState schema (state_of held.old) → IsReady schema bound.now
-        → IsFitState schema (state_of held.new) × IsPrintableReply schema result
-    }
+    ensures fits { (schema : Schema) (short : Bool) → GivesIn schema (state_of held.old) session bound.now short outcome → IsFitState schema (state_of held.old) → IsReady schema bound.now
+        → IsFitState schema (state_of held.new) × IsPrintableReply schema result }
 {
     match outcome {
         Outcome::Nothing => plain(alloc, held, session, bound),
@@ -429,10 +394,8 @@ pub fn finish(alloc: Global, held: &mut Held, session: u32, outcome: Outcome) ->
     requires within { IsWithin held.old session }
     requires half { is_some ((state_of held.old).half session) ≡ true }
     ensures step { (schema : Schema) → IsDoneAt schema (state_of held.old) session outcome → IsStep schema (state_of held.old) (Finish session result) (state_of held.new) }
-    ensures fits {
-        (schema : Schema) → IsDoneAt schema (state_of held.old) session outcome → IsFitState schema (state_of held.old)
-        → IsFitState schema (state_of held.new) × IsPrintableReply schema result
-    }
+    ensures fits { (schema : Schema) → IsDoneAt schema (state_of held.old) session outcome → IsFitState schema (state_of held.old)
+        → IsFitState schema (state_of held.new) × IsPrintableReply schema result }
 {
     match set_half(held, session, None) {
         Some(half) => settle(alloc, held, session, &half.bound, outcome),
