@@ -13,7 +13,7 @@ use cs_types::{Loose, Row, Schema, loose_of};
 use tsql_trees::Times;
 
 /// What a row's cell in a column stands for; NULL past the columns.
-pub fn loose_at(schema: &Schema, row: &Row, column: usize) -> Result<Loose, Memory>
+fn loose_at(schema: &Schema, row: &Row, column: usize) -> Result<Loose, Memory>
     ensures { IfOk result (λ loose. loose ≡ cells.loose_at schema.now row.now column) }
 {
     match schema.columns.get(column) {

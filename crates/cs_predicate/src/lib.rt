@@ -17,7 +17,7 @@ mod side;
 #[cfg(test)]
 mod tests;
 
-pub use expression::{compute, loose_at};
+pub use expression::compute;
 pub use laws::{like_is_tested, quotient_is_cut};
 pub use logic::Truth;
 pub use pattern::is_like;

@@ -1,5 +1,5 @@
 -- The faults of what a SELECT shows, groups by and orders by.
-use Rattle.std.specs.Prelude.{ℕ, List, [], ◌++◌, Bool, true, false, not, ◌&&◌, is_some, Option, None, Some}
+use Rattle.std.specs.Prelude.{ℕ, List, [], ◌++◌, Bool, true, not, ◌&&◌, is_some, Option, None, Some}
 use Rattle.std.specs.List.{flat_map, list_any}
 use Rattle.cs_types.specs.declared.ColumnType.{ColumnType}
 use Rattle.cs_types.specs.declared.Schema.{Schema}
@@ -11,6 +11,7 @@ use Rattle.tsql_trees.specs.declared.statement.ItemsTree.TheVariants as shown
 use Rattle.tsql_trees.specs.declared.statement.ItemTree.{ItemTree}
 use Rattle.tsql_trees.specs.declared.statement.ItemTree.TheVariants as items
 use Rattle.tsql_trees.specs.declared.statement.OitemTree.{OitemTree}
+use Rattle.tsql_names.specs.Shown.{has_aggregate}
 use Rattle.tsql_faults.specs.declared.fault.Fault.{Fault}
 use Rattle.tsql_faults.specs.declared.family.Family.TheVariants as families
 use Rattle.tsql_faults.specs.Least.{fault_if}
@@ -21,15 +22,6 @@ use Rattle.tsql_faults.specs.Values.{is_decimal}
 abbrev pub group_names : Option (List NameTree) → List NameTree
 group_names None = []
 group_names (Some names) = names
-
-abbrev pub is_aggregate : ItemTree → Bool
-is_aggregate (items.Name name) = false
-is_aggregate (items.CountAll at) = true
-is_aggregate (items.Aggregate at aggregate name) = true
-
-abbrev pub has_aggregate : ItemsTree → Bool
-has_aggregate (shown.All at) = false
-has_aggregate (shown.List list) = list_any is_aggregate list
 
 -- a query with GROUP BY or an aggregate
 abbrev pub is_grouping : Option (List NameTree) → ItemsTree → Bool

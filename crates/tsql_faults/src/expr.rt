@@ -1,6 +1,6 @@
 //! Expressions whose value goes to a column.
 
-ghost use Rattle.std.specs.Prelude.{◌≡◌, List};
+ghost use Rattle.std.specs.Prelude.{◌≡◌};
 ghost use Rattle.tsql_faults.specs.Least.{least};
 ghost use Rattle.tsql_faults.specs.Values as spec;
 ghost use Rattle.tsql_faults.specs.Values.{is_integer, is_decimal, name_faults, number_faults, text_faults, within_expr, within_term, within_primary, wanted, setting_of, result_faults, expr_faults};
@@ -49,6 +49,7 @@ pub fn place_of(expr: &ExprTree) -> u32
     }
 }
 
+/// Whether there is a type and it is of whole numbers: `tinyint`, `smallint`, `int` or `bigint`.
 pub fn is_integer(kind: Option<ColumnType>) -> bool
     ensures { result ≡ is_integer kind }
 {
@@ -59,6 +60,7 @@ pub fn is_integer(kind: Option<ColumnType>) -> bool
     }
 }
 
+/// Whether there is a type and it is a `decimal`.
 pub fn is_decimal(kind: Option<ColumnType>) -> bool
     ensures { result ≡ is_decimal kind }
 {

@@ -1,10 +1,9 @@
 //! What a SELECT shows, groups by and orders by.
 
 ghost use Rattle.std.specs.Prelude.{◌≡◌};
-ghost use Rattle.std.specs.List.{flat_map, list_any};
+ghost use Rattle.std.specs.List.{flat_map};
 ghost use Rattle.tsql_faults.specs.Least.{least};
-ghost use Rattle.tsql_faults.specs.Families.{unknown_column};
-ghost use Rattle.tsql_faults.specs.Queries.{group_names, is_aggregate, has_aggregate, is_grouping, name_faults, aggregate_faults, item_faults, lacks_column, items_faults, order_item_faults, order_faults, query_faults};
+ghost use Rattle.tsql_faults.specs.Queries.{group_names, is_grouping, name_faults, aggregate_faults, item_faults, lacks_column, items_faults, order_item_faults, order_faults, query_faults};
 
 use crate::column::no_column_fault;
 use crate::expr::is_decimal;
@@ -15,6 +14,7 @@ use crate::fault::{
 use crate::setting::{kind_of, named_in, unknown_column};
 use cs_base::Items;
 use cs_types::{ColumnType, Schema};
+use tsql_names::has_aggregate;
 use tsql_trees::{Aggregate, ItemTree, ItemsTree, NameTree, NamesTree, OitemTree};
 
 /// The grouping columns.
@@ -24,30 +24,6 @@ fn group_names(groups: &Option<NamesTree>) -> &[NameTree]
     match groups {
         Some(names) => names.as_slice(),
         None => &[],
-    }
-}
-
-fn is_aggregate(item: &ItemTree) -> bool
-    ensures { result ≡ is_aggregate item.now }
-{
-    match item {
-        ItemTree::Name(_) => false,
-        _ => true,
-    }
-}
-
-fn any_aggregate(items: &[ItemTree]) -> bool
-    ensures { result ≡ list_any is_aggregate items.now }
-{
-    items.iter().any(|item| is_aggregate(item))
-}
-
-fn has_aggregate(items: &ItemsTree) -> bool
-    ensures { result ≡ has_aggregate items.now }
-{
-    match items {
-        ItemsTree::All { .. } => false,
-        ItemsTree::List(list) => any_aggregate(list.as_slice()),
     }
 }
 

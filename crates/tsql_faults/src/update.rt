@@ -3,7 +3,7 @@
 ghost use Rattle.std.specs.Prelude.{◌≡◌};
 ghost use Rattle.std.specs.List.{flat_map};
 ghost use Rattle.tsql_faults.specs.Least.{least};
-ghost use Rattle.tsql_faults.specs.Updates.{is_number, is_key, value_faults, set_faults, sets_faults};
+ghost use Rattle.tsql_faults.specs.Updates.{is_key, value_faults, set_faults, sets_faults};
 
 use crate::column::twice_fault;
 use crate::expr::expr_fault;

@@ -1,5 +1,5 @@
-//! Names and literals of statements over a schema: the column that a name means, a table's name, and the values of text
-//! and number literals.
+//! Names and literals of statements over a schema: the column that a name means, a table's name, the values of text and
+//! number literals, and whether a SELECT shows an aggregate.
 //!
 //! Its one contract: each call gives exactly what the definitions in specs/ say. Only `series_schema` takes memory. It
 //! stands on `cs_types` and on `tsql_trees`.
@@ -7,6 +7,8 @@
 
 mod literal;
 mod name;
+mod shown;
 
 pub use literal::{date_literal, number_literal, signed_digits, trimmed};
 pub use name::{column_named, is_same_name, series_schema, table_name};
+pub use shown::has_aggregate;
