@@ -1,5 +1,5 @@
 -- The least snapshot of the sessions below a bound.
-use Rattle.std.proofs.Common.{◌≡◌, ℕ, ◌+◌, ◌<◌, ◌≤◌, min, List, length, refl, sym, ap, ◌∙◌, subst, arith, inl, inr, cond, slice_get, Option, Some, None, IfSome}
+use Rattle.std.proofs.Common.{◌≡◌, ℕ, ◌+◌, ◌<◌, ◌≤◌, min, List, length, refl, sym, ap, ◌∙◌, subst, arith, inl, inr, Option, Some, None, IfSome}
 use Rattle.std.specs.Option.{IsSomeAnd, unwrap_or}
 use Rattle.std.proofs.lemmas.Bool.{cases_lt}
 use Rattle.std.proofs.lemmas.Option.{slice_get_past}
