@@ -2,3 +2,4 @@ pub mod Lines
 pub mod Next
 pub mod Scripts
 pub mod Schedule
+pub mod Reading

@@ -11,7 +11,7 @@ use Rattle.cs_model.specs.Text.{actor_of}
 use Rattle.tsql_binder.specs.Meaning.{Means}
 use Rattle.script_reader.specs.declared.script.Script.{Script}
 use Rattle.script_reader.specs.declared.script.Step.{Step}
-use Rattle.script_reader.specs.declared.script.Step.TheVariants.{Whole}
+use Rattle.script_reader.specs.declared.script.Step.TheVariants.{Whole, Begun, Finished}
 use Rattle.script_reader.specs.Scripts.{session_of}
 
 -- what a statement is bound to: what its text means, or a refusal for want of memory
@@ -27,6 +27,8 @@ abbrev pub IsPiece : Schema → List Entry → Step → List Entry → Type 0
 IsPiece schema before (Whole session text) piece =
     (bound : Bound) × (short : Bool) × (moves : List Entry) × (reply : Reply)
     × (piece ≡ Start session bound short ∷ moves ++ Finish session reply ∷ []) × IsBound schema text bound × AreMoves bound moves
+IsPiece schema before (Begun session text) piece = (bound : Bound) × (short : Bool) × (piece ≡ Start session bound short ∷ []) × IsBound schema text bound
+IsPiece schema before (Finished session) piece = (reply : Reply) × (piece ≡ Finish session reply ∷ [])
 
 -- the entries behind those before are a piece for each line, in order
 abbrev pub ArePieces : Schema → List Entry → List Step → List Entry → Type 0
@@ -53,6 +55,9 @@ AreTurns schema session [] entries = entries ≡ End session ∷ []
 AreTurns schema session (Whole s text ∷ lines) entries =
     (bound : Bound) × (short : Bool) × (reply : Reply) × (others : List Entry)
     × (entries ≡ Start session bound short ∷ Finish session reply ∷ others) × IsBound schema text bound × AreTurns schema session lines others
+AreTurns schema session (Begun s text ∷ lines) entries =
+    (bound : Bound) × (short : Bool) × (others : List Entry) × (entries ≡ Start session bound short ∷ others) × IsBound schema text bound × AreTurns schema session lines others
+AreTurns schema session (Finished s ∷ lines) entries = (reply : Reply) × (others : List Entry) × (entries ≡ Finish session reply ∷ others) × AreTurns schema session lines others
 
 -- each session of the script has its statements' events once and in order, and then its End; no other session has one
 pub record Turns (script : Script) (log : List Entry) : Type 0 where
