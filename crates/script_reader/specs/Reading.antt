@@ -7,7 +7,7 @@ use Rattle.script_reader.specs.declared.read.Reading.{Reading}
 use Rattle.script_reader.specs.declared.script.Step.{Step}
 use Rattle.script_reader.specs.declared.script.ScriptRefusal.{ScriptRefusal}
 use Rattle.script_reader.specs.declared.script.ScriptRefusal.TheVariants.{Bad, Memory}
-use Rattle.script_reader.specs.Scripts.{half_done, session_of, setups, steps_of, AreGood, IsBad}
+use Rattle.script_reader.specs.Scripts.{half_done, session_of, setups, steps_of, AreGood, IsGood, IsBad}
 
 -- each session's place says whether it has a statement half done behind these steps
 abbrev pub AreMarked : List Bool → List Step → Type 0
@@ -17,7 +17,7 @@ AreMarked marks steps = (length marks ≡ 65) × ((session : ℕ) → session < 
 pub record IsOnlyTable (text : List ℕ) (schema : Schema) : Type 0 where
   pub table : IsTable text schema
   pub only : (other : Schema) → IsTable text other → schema ≡ other
-  pub schema : IsSchema schema
+  pub valid : IsSchema schema
 
 -- the table that the lines set up
 abbrev pub IsSetUp : List (List ℕ) → Option Schema → Type 0
@@ -36,10 +36,10 @@ pub record IsRead (lines : List (List ℕ)) (reading : Reading) : Type 0 where
 
 -- why the n-th line, behind these, is refused
 abbrev pub RefusesLine : List (List ℕ) → List ℕ → ℕ → ScriptRefusal → Type 0
-RefusesLine before line n (Bad at reason number) = (at ≡ n) × IsBad before line reason number
+RefusesLine before line n (Bad at reason number) = (at ≡ n) × IsBad before line reason number × (IsGood before line → ⊥)
 RefusesLine before line n Memory = Unit {0}
 
--- the error of a setup statement that is refused
+-- the error of a setup statement in the n-th line that is refused
 abbrev pub RefusesSetup : List ℕ → ℕ → ScriptRefusal → Type 0
-RefusesSetup text n (Bad line reason number) = (line ≡ n) × (reason ≡ 8) × ((at : ℕ) × IsNoTable text number at)
+RefusesSetup text n (Bad line reason number) = (line ≡ n) × (reason ≡ 8) × ((at : ℕ) × IsNoTable text number at) × ((schema : Schema) → IsTable text schema → ⊥)
 RefusesSetup text n Memory = Unit {0}

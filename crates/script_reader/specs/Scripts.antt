@@ -140,14 +140,14 @@ pub record IsScript (bytes : List ℕ) (script : Script) : Type 0 where
 -- why a line is bad behind the lines before it, and the error number of a refused setup statement (reason 8), else 0
 pub data IsBad (before : List (List ℕ)) (line : List ℕ) : ℕ → ℕ → Type 0 where
   by_reason : {reason : ℕ} → reason_behind before line ≡ Some reason → IsBad before line reason 0
-  by_setup : {text : List ℕ} {number at : ℕ} → reason_behind before line ≡ None → form_of line ≡ Setup text → IsNoTable text number at → IsBad before line 8 number
+  by_setup : (text : List ℕ) (at : ℕ) {number : ℕ} → reason_behind before line ≡ None → form_of line ≡ Setup text → IsNoTable text number at → IsBad before line 8 number
 
 -- the first bad line of these bytes, counted from 1, and why it is bad. The line after the last is bad where no line is a
 -- setup line (reason 2), or a statement is left half done (reason 7)
 pub data IsBadLine (bytes : List ℕ) : ℕ → ℕ → ℕ → Type 0 where
-  bad_line : {before others : List (List ℕ)} {line : List ℕ} {reason number : ℕ} → lines bytes ≡ before ++ line ∷ others → AreGood [] before → IsBad before line reason number → IsBadLine bytes (length before + 1) reason number
+  bad_line : (before others : List (List ℕ)) (line : List ℕ) {reason number : ℕ} → lines bytes ≡ before ++ line ∷ others → AreGood [] before → IsBad before line reason number → IsBadLine bytes (length before + 1) reason number
   no_setup : AreGood [] (lines bytes) → setups (lines bytes) ≡ [] → IsBadLine bytes (length (lines bytes) + 1) 2 0
-  left_half_done : {session : ℕ} → AreGood [] (lines bytes) → half_done session (steps_of (lines bytes)) ≡ true → IsBadLine bytes (length (lines bytes) + 1) 7 0
+  left_half_done : (session : ℕ) → AreGood [] (lines bytes) → half_done session (steps_of (lines bytes)) ≡ true → IsBadLine bytes (length (lines bytes) + 1) 7 0
 
 -- a refusal is the first bad line, and want of memory may come anywhere
 abbrev pub RefusesScript : List ℕ → ScriptRefusal → Type 0

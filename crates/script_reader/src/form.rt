@@ -4,8 +4,7 @@ ghost use Rattle.std.specs.List.{list_all, prefix_len, take_while};
 ghost use Rattle.std.specs.Option.{option_map};
 ghost use Rattle.cs_types.specs.Calendar.{is_digit, digits_value};
 ghost use Rattle.script_reader.specs.Lines as spec;
-ghost use Rattle.script_reader.specs.Lines.{is_blank, unblanked, stripped, is_number, session_form, numbered_form, with_blanks, form_of};
-ghost use Rattle.script_reader.specs.declared.form.Form.TheVariants.{Setup};
+ghost use Rattle.script_reader.specs.Lines.{is_blank, unblanked, stripped, is_number, session_form, numbered_form, form_of};
 
 use crate::script::Step;
 use cs_base::{Items, Memory};

@@ -218,16 +218,21 @@ pub fn read_script(alloc: Global, bytes: &[u8]) -> Result<Script, ScriptRefusal>
     ensures runs { IfOk result (λ script. IsRunnable script) }
 {
     let (reading, end) = read_lines(alloc, bytes)?;
-    let Some(schema) = reading.schema else {
+    let Reading {
+        schema,
+        lines,
+        half_done,
+    } = reading;
+    let Some(schema) = schema else {
         return Err(bad(end, SETUP));
     };
-    if reading.half_done.contains(&true) {
+    if half_done.contains(&true) {
         return Err(bad(end, UNPAIRED));
     }
-    let sessions = sessions(alloc, reading.lines.as_slice())?;
+    let sessions = sessions(alloc, lines.as_slice())?;
     Ok(Script {
         schema,
-        lines: reading.lines,
+        lines,
         sessions,
     })
 }
