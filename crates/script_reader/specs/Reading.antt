@@ -3,11 +3,27 @@ use Rattle.std.specs.Prelude.{◌≡◌, ℕ, ◌+◌, ◌≤◌, ◌<◌, List,
 use Rattle.cs_types.specs.declared.Schema.{Schema}
 use Rattle.cs_types.specs.Schemas.{IsSchema}
 use Rattle.tsql_table.specs.Tables.{IsTable, IsNoTable}
+use Rattle.script_reader.specs.declared.form.Form.{Form}
+use Rattle.script_reader.specs.declared.form.Form.TheVariants.{Skipped, Setup, Ask, Other}
 use Rattle.script_reader.specs.declared.read.Reading.{Reading}
 use Rattle.script_reader.specs.declared.script.Step.{Step}
 use Rattle.script_reader.specs.declared.script.ScriptRefusal.{ScriptRefusal}
 use Rattle.script_reader.specs.declared.script.ScriptRefusal.TheVariants.{Bad, Memory}
-use Rattle.script_reader.specs.Scripts.{half_done, session_of, setups, steps_of, AreGood, IsGood, IsBad}
+use Rattle.script_reader.specs.Scripts.{half_done, session_of, text_of, setups, steps_of, AreGood, IsGood, IsBad}
+
+-- each text of the form has at most so many bytes
+abbrev pub IsShort : ℕ → Form → Type 0
+IsShort most (Setup text) = length text ≤ most
+IsShort most (Ask step) = length (text_of step) ≤ most
+IsShort most Skipped = Unit {0}
+IsShort most Other = Unit {0}
+
+-- the session of the form's step has a place
+abbrev pub IsPlaced : Form → Type 0
+IsPlaced (Ask step) = session_of step < 65
+IsPlaced (Setup text) = Unit {0}
+IsPlaced Skipped = Unit {0}
+IsPlaced Other = Unit {0}
 
 -- each session's place says whether it has a statement half done behind these steps
 abbrev pub AreMarked : List Bool → List Step → Type 0

@@ -149,11 +149,10 @@ fn setup_form(alloc: Global, rest: &[u8]) -> Result<Form, Memory>
     }
 }
 
-/// The form of a line, with copies of its texts. `Memory` comes where there is no room for them.
-pub fn form_of(alloc: Global, line: &[u8]) -> Result<Form, Memory>
-    ensures { IfOk result (λ form. form ≡ form_of line.now) }
+/// The form of a line without blanks at its ends.
+fn bare_form(alloc: Global, line: &[u8]) -> Result<Form, Memory>
+    ensures { IfOk result (λ form. form ≡ spec.bare_form line.now) }
 {
-    let line = stripped(line);
     if line.is_empty() || line.starts_with(b"--") {
         return Ok(Form::Skipped);
     }
@@ -164,4 +163,12 @@ pub fn form_of(alloc: Global, line: &[u8]) -> Result<Form, Memory>
         Some(rest) => numbered_form(alloc, rest),
         None => Ok(Form::Other),
     }
+}
+
+/// The form of a line, with copies of its texts. `Memory` comes where there is no room for them.
+#[tactic(auto, unfolding(crate::specs::Lines::form_of))]
+pub fn form_of(alloc: Global, line: &[u8]) -> Result<Form, Memory>
+    ensures { IfOk result (λ form. form ≡ form_of line.now) }
+{
+    bare_form(alloc, stripped(line))
 }

@@ -1,12 +1,12 @@
 // Reads a script.
-ghost use Rattle.std.specs.Prelude.{◌≡◌, ◌≤◌, ◌<◌, ◌+◌, ℕ, List, [], ◌∷◌, ◌++◌, length, All, IfOk, IfErr, OnOk, MatchResult, slice_index_or, false};
+ghost use Rattle.std.specs.Prelude.{◌≡◌, ◌≤◌, ◌<◌, ◌+◌, ℕ, List, [], ◌∷◌, ◌++◌, length, All, IfOk, IfErr, OnOk, MatchResult, slice_index_or, false, None, Some};
 ghost use Rattle.cs_types.specs.declared.Schema.{Schema};
 ghost use Rattle.script_reader.specs.declared.script.Script.{Script};
 ghost use Rattle.script_reader.specs.declared.script.Step.{Step};
-ghost use Rattle.script_reader.specs.Lines.{lines};
+ghost use Rattle.script_reader.specs.Lines.{lines, form_of};
 ghost use Rattle.script_reader.specs.Scripts as spec;
-ghost use Rattle.script_reader.specs.Scripts.{session_of, sessions_of, is_named, setups, steps_of, IsScript, RefusesScript, IsRunnable};
-ghost use Rattle.script_reader.specs.Reading.{AreMarked, IsOnlyTable, IsRead, RefusesLine, RefusesSetup};
+ghost use Rattle.script_reader.specs.Scripts.{session_of, sessions_of, is_named, setups, steps_of, reason_behind, IsScript, RefusesScript, IsRunnable};
+ghost use Rattle.script_reader.specs.Reading.{IsShort, IsPlaced, AreMarked, IsOnlyTable, IsRead, RefusesLine, RefusesSetup};
 
 use crate::form::{Form, form_of};
 use crate::line::line_reason;
@@ -58,7 +58,7 @@ impl Reading {
         ensures lines { OnOk result (self.new.lines ≡ self.old.lines ++ step ∷ []) }
         ensures marked { AreMarked self.old.half_done self.old.lines → OnOk result (AreMarked self.new.half_done self.new.lines) }
     {
-        self.half_done[step.session() as usize] = matches!(step, Step::Begun { .. });
+        self.half_done[step.session() as usize] = is_begun(&step);
         self.lines.push(step)
     }
 
@@ -76,7 +76,8 @@ impl Reading {
 
     /// Why a step is bad behind those so far.
     fn step_reason(&self, step: &Step) -> Option<u32>
-        ensures { AreMarked self.now.half_done self.now.lines → result ≡ spec.step_reason self.now.lines step.now }
+        ensures reason { AreMarked self.now.half_done self.now.lines → result ≡ spec.step_reason self.now.lines step.now }
+        ensures placed { result ≡ None → session_of step.now < 65 }
     {
         let session = step.session();
         if session < 1 || MOST_SESSION < session {
@@ -90,7 +91,8 @@ impl Reading {
 
     /// Why a line of this form is bad behind those so far.
     fn form_reason(&self, form: &Form) -> Option<u32>
-        ensures { (before : List (List ℕ)) → IsRead before self.now → result ≡ spec.form_reason (setups before) (steps_of before) form.now }
+        ensures reason { (before : List (List ℕ)) → IsRead before self.now → result ≡ spec.form_reason (setups before) (steps_of before) form.now }
+        ensures placed { result ≡ None → IsPlaced form.now }
     {
         match form {
             Form::Other => Some(NO_FORM),
@@ -98,6 +100,22 @@ impl Reading {
             Form::Setup(_) => self.schema.is_some().then_some(SETUP),
             Form::Ask(_) if self.schema.is_none() => Some(SETUP),
             Form::Ask(step) => self.step_reason(step),
+        }
+    }
+
+    /// Adds what a line of this form says, whose number it is given.
+    fn add(&mut self, alloc: Global, number: u64, form: Form) -> Result<(), ScriptRefusal>
+        requires short { IsShort 65_536 form }
+        requires placed { IsPlaced form }
+        ensures { (before : List (List ℕ)) (line : List ℕ) → IsRead before self.old → reason_behind before line ≡ None → form_of line ≡ form → MatchResult result (λ _. IsRead (before ++ line ∷ []) self.new) (λ e. RefusesLine before line number e) }
+    {
+        match form {
+            Form::Setup(text) => {
+                self.schema = Some(schema_of(alloc, number, text.as_slice())?);
+                Ok(())
+            }
+            Form::Ask(step) => Ok(self.push(step)?),
+            Form::Skipped | Form::Other => Ok(()),
         }
     }
 
@@ -109,16 +127,18 @@ impl Reading {
             return Err(bad(number, reason));
         }
         let form = form_of(alloc, line)?;
-        if let Some(reason) = self.form_reason(&form) {
-            return Err(bad(number, reason));
+        match self.form_reason(&form) {
+            Some(reason) => Err(bad(number, reason)),
+            None => self.add(alloc, number, form),
         }
-        match form {
-            Form::Setup(text) => self.schema = Some(schema_of(alloc, number, text.as_slice())?),
-            Form::Ask(step) => self.push(step)?,
-            Form::Skipped | Form::Other => {}
-        }
-        Ok(())
     }
+}
+
+/// Whether a step starts a statement alone.
+fn is_begun(step: &Step) -> bool
+    ensures { result ≡ spec.is_begun (Some step.now) }
+{
+    matches!(step, Step::Begun { .. })
 }
 
 /// A line that is bad for a reason but a refused setup statement.
@@ -152,6 +172,7 @@ fn schema_of(alloc: Global, line: u64, text: &[u8]) -> Result<Schema, ScriptRefu
 /// What the lines of a script say, and the number of the line after the last.
 fn read_lines(alloc: Global, bytes: &[u8]) -> Result<(Reading, u64), ScriptRefusal>
     ensures found { IfOk result (λ x. IsRead (lines bytes.now) x.0 × (x.1 ≡ length (lines bytes.now) + 1)) }
+    ensures only { (other : Script) → IsScript bytes.now other → IfErr result (λ e. e ≡ ScriptRefusal.Memory) }
     ensures refused { IfErr result (λ e. RefusesScript bytes.now e) }
 {
     let mut reading = Reading {
