@@ -1,12 +1,12 @@
 -- The forms of lines: their texts are no longer than the line.
-use Rattle.std.proofs.Common.{◌≡◌, ℕ, ◌+◌, ◌≤◌, List, [], ◌∷◌, length, take, drop, reverse, refl, sym, ap, cond, Bool, true, false, arith}
+use Rattle.std.proofs.Common.{◌≡◌, ℕ, ◌+◌, ◌≤◌, List, [], ◌∷◌, length, take, drop, reverse, refl, cond, Bool, true, false, arith}
 use Rattle.std.proofs.Math.Numerals.{one-add}
 use Rattle.std.proofs.lemmas.List.{length-drop, length-reverse}
 use Rattle.std.specs.Prelude.{Option, None, Some, codes, nat_eq, nat_lt, ◌||◌, ◌==◌}
 use Rattle.std.specs.List.{list_all, prefix_len, take_while, starts_with}
 use Rattle.std.specs.Option.{option_map_or}
 use Rattle.cs_types.specs.Calendar.{is_digit, digits_value}
-use Rattle.script_reader.specs.declared.script.Step.TheVariants.{Whole, Begun, Finished}
+use Rattle.script_reader.specs.declared.script.Step.TheVariants.{Whole, Begun}
 use Rattle.script_reader.specs.declared.form.Form.{Form}
 use Rattle.script_reader.specs.declared.form.Form.TheVariants.{Skipped, Setup, Ask, Other}
 use Rattle.script_reader.specs.Lines.{is_line_byte, line_reason, is_blank, unblanked, stripped, behind, some_text, blanked_text, finish_form, session_form, is_number, numbered_form, setup_form, bare_form, form_of}

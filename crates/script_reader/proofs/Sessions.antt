@@ -2,10 +2,9 @@
 use Rattle.std.proofs.Common.{◌≡◌, ℕ, zero, suc, ◌+◌, ◌-◌, ◌<◌, ◌≤◌, List, [], ◌∷◌, ◌++◌, length, get_or, set, take, refl, sym, ap, subst, ◌∙◌, cond, Bool, true, false, ◌||◌, arith, get_or-set_other, get_or-set_same}
 use Rattle.std.proofs.Math.Bool.{or-true}
 use Rattle.std.proofs.lemmas.Bool.{eqb-true, eqb-false, eq-eqb}
-use Rattle.std.proofs.lemmas.List.{append-nil}
-use Rattle.std.proofs.lemmas.List.Elements.{filter-append, Contains-append_right, All-contains_itself}
+use Rattle.std.proofs.lemmas.List.Elements.{filter-append, Contains-append_right}
 use Rattle.std.proofs.lemmas.List.Folds.{list_any_more, list_any-from_Any}
-use Rattle.std.specs.Prelude.{◌==◌, filter, Contains, All}
+use Rattle.std.specs.Prelude.{◌==◌, filter, Contains}
 use Rattle.script_reader.specs.declared.script.Step.{Step}
 use Rattle.script_reader.specs.Scripts.{session_of, numbers, is_named, sessions_of}
 

@@ -1,9 +1,9 @@
 -- A script that was read whole, and why one was not.
-use Rattle.std.proofs.Common.{◌≡◌, ℕ, suc, ◌+◌, ◌<◌, ◌≤◌, List, [], ◌∷◌, ◌++◌, length, get_or, refl, sym, ap, subst, ◌∙◌, cond, Bool, true, false, ◌&&◌, not, arith, append_assoc}
+use Rattle.std.proofs.Common.{◌≡◌, ℕ, ◌+◌, ◌<◌, ◌≤◌, List, [], ◌∷◌, ◌++◌, length, get_or, refl, sym, ap, subst, ◌∙◌, cond, Bool, true, false, ◌&&◌, not, arith, append_assoc}
 use Rattle.std.proofs.lemmas.Bool.{leb-true, ne_eqb}
 use Rattle.std.proofs.lemmas.List.{append-nil}
 use Rattle.std.proofs.lemmas.List.Elements.{All-nil, All-cons, All-weaker, All-contains_itself}
-use Rattle.std.specs.Prelude.{Option, None, Some, Result, Ok, Err, MatchResult, ◌==◌, nat_le, All, Contains}
+use Rattle.std.specs.Prelude.{Option, None, Some, Result, Ok, Err, MatchResult, nat_le, All, Contains}
 use Rattle.std.specs.List.{cons_option}
 use Rattle.std.specs.Result.{IsErrAnd, IfErr}
 use Rattle.cs_types.specs.declared.Schema.{Schema}
@@ -17,7 +17,7 @@ use Rattle.script_reader.specs.declared.script.Step.{Step}
 use Rattle.script_reader.specs.declared.script.ScriptRefusal.{ScriptRefusal}
 use Rattle.script_reader.specs.declared.script.ScriptRefusal.TheVariants.{Bad, Memory}
 use Rattle.script_reader.specs.Lines.{lines, line_reason, form_of}
-use Rattle.script_reader.specs.Scripts.{session_of, text_of, sessions_of, half_done, may_follow, ArePaired, setups, step_in, steps_of, is_session, step_reason, form_reason, reason_behind, IsGood, AreGood, IsBad, IsScript, IsBadLine, bad_line, no_setup, left_half_done, RefusesScript, IsRunnable}
+use Rattle.script_reader.specs.Scripts.{session_of, text_of, sessions_of, half_done, may_follow, ArePaired, setups, step_in, steps_of, is_session, step_reason, form_reason, IsGood, AreGood, IsScript, IsBadLine, bad_line, no_setup, left_half_done, RefusesScript, IsRunnable}
 use Rattle.script_reader.specs.Reading.{IsShort, AreMarked, IsOnlyTable, IsSetUp, IsRead, RefusesLine}
 use Rattle.script_reader.proofs.Behind.{good_at, steps_push, form_good, step_good, option_or_none}
 use Rattle.script_reader.proofs.Forms.{form_short}
@@ -81,10 +81,11 @@ paired_of before (line ∷ lines) steps e g end = at (form_of line) refl (λ mor
     at Skipped is all end = all steps (e ∙ sym (steps_push before line ∙ ap (λ form. steps_of before ++ cons_option (step_in form) []) is ∙ append-nil (steps_of before))) end
     at (Setup text) is all end = all steps (e ∙ sym (steps_push before line ∙ ap (λ form. steps_of before ++ cons_option (step_in form) []) is ∙ append-nil (steps_of before))) end
     at Other is all end = all steps (e ∙ sym (steps_push before line ∙ ap (λ form. steps_of before ++ cons_option (step_in form) []) is ∙ append-nil (steps_of before))) end
-    at (Ask step) is all end =
-        (ap (λ xs. may_follow xs step) e ∙ (fine_of before line step g.0 is).1,
-        all (steps ++ step ∷ []) (ap (λ xs. xs ++ step ∷ []) e ∙ sym (steps_push before line ∙ ap (λ form. steps_of before ++ cons_option (step_in form) []) is))
-        (λ session. subst (λ xs. half_done session xs ≡ false) (sym (append_assoc steps (step ∷ []) (steps_of lines))) (end session)))
+    at (Ask step) is all end = (
+      ap (λ xs. may_follow xs step) e ∙ (fine_of before line step g.0 is).1,
+      all (steps ++ step ∷ []) (ap (λ xs. xs ++ step ∷ []) e ∙ sym (steps_push before line ∙ ap (λ form. steps_of before ++ cons_option (step_in form) []) is))
+          (λ session. subst (λ xs. half_done session xs ≡ false) (sym (append_assoc steps (step ∷ []) (steps_of lines))) (end session)),
+    )
 
 -- ---- a script
 

@@ -1,10 +1,9 @@
 -- The lines of a script, and the form that each of them has.
-use Rattle.std.specs.Prelude.{ℕ, List, [], ◌∷◌, map, ◌==◌, length, reverse, take, drop, codes, nat_eq, nat_lt, nat_le, Bool, false, not, ◌||◌, ◌&&◌, if◌then◌else◌, Option, None, Some}
+use Rattle.std.specs.Prelude.{ℕ, List, [], ◌∷◌, map, ◌==◌, length, reverse, drop, codes, nat_eq, nat_lt, nat_le, Bool, false, not, ◌||◌, ◌&&◌, if◌then◌else◌, Option, None, Some}
 use Rattle.std.specs.List.{list_all, starts_with, prefix_len, take_while}
 use Rattle.std.specs.Option.{option_map_or}
 use Rattle.cs_types.specs.Calendar.{is_digit, digits_value}
 use Rattle.cs_types.specs.Kinds.{is_text_byte}
-use Rattle.script_reader.specs.declared.script.Step.{Step}
 use Rattle.script_reader.specs.declared.script.Step.TheVariants.{Whole, Begun, Finished}
 use Rattle.script_reader.specs.declared.form.Form.{Form}
 use Rattle.script_reader.specs.declared.form.Form.TheVariants.{Skipped, Setup, Ask, Other}

@@ -120,7 +120,10 @@ fn session_form(alloc: Global, session: u32, rest: &[u8]) -> Result<Form, Memory
     ensures { IfOk result (λ form. form ≡ session_form session rest.now) }
 {
     let step = match rest {
-        [b'>', text @ ..] => text_of(alloc, unblanked(text))?.map(|text| Step::Begun { session, text }),
+        [b'>', text @ ..] => text_of(alloc, unblanked(text))?.map(|text| Step::Begun {
+            session,
+            text,
+        }),
         [b'<'] => Some(Step::Finished { session }),
         [b'<', ..] => None,
         _ => blanked_text(alloc, rest)?.map(|text| Step::Whole { session, text }),

@@ -11,6 +11,8 @@ mod line;
 mod lines;
 mod read;
 mod script;
+#[cfg(test)]
+mod tests;
 
 pub use read::read_script;
 pub use script::{Script, ScriptRefusal, Step};

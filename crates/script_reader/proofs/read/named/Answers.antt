@@ -1,6 +1,5 @@
-use Rattle.std.proofs.Common.{◌≡◌, sym, refl, ap, ◌∙◌, ℕ, false, arith}
+use Rattle.std.proofs.Common.{sym, false}
 use Rattle.std.proofs.lemmas.List.{get_or-replicate, length-replicate, length-set}
-use Rattle.script_reader.specs.Scripts.{session_of}
 use Rattle.script_reader.proofs.Sessions.{named_more}
 use Rattle.script_reader.proofs.read.named.Goals as goal
 

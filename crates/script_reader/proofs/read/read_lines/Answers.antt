@@ -1,7 +1,6 @@
-use Rattle.std.proofs.Common.{◌≡◌, ◌+◌, sym, refl, ap, ◌∙◌, subst, [], ℕ, false, arith, length}
+use Rattle.std.proofs.Common.{sym, refl, ◌∙◌, [], false, arith}
 use Rattle.std.proofs.lemmas.List.{get_or-replicate, length-replicate}
 use Rattle.script_reader.specs.Lines.{lines}
-use Rattle.script_reader.specs.Scripts.{half_done}
 use Rattle.script_reader.proofs.Halves.{half_empty}
 use Rattle.script_reader.proofs.Whole.{refused_at, refused_only, handed}
 use Rattle.script_reader.proofs.read.read_lines.Goals as goal

@@ -1,7 +1,6 @@
-use Rattle.std.proofs.Common.{◌≡◌, ℕ, List, sym, refl, ap, ◌∙◌, subst, All, ◌<◌, arith, Bool, true, false, get_or}
+use Rattle.std.proofs.Common.{◌≡◌, refl, arith, Bool, true, false, get_or}
 use mathlib.Core.Bool.{beq}
 use Rattle.script_reader.specs.Lines.{lines}
-use Rattle.script_reader.specs.Scripts.{session_of}
 use Rattle.script_reader.proofs.Whole.{handed_only, refused_none, refused_half, placed_of, found_script, found_only, valid_schema, runs_of}
 use Rattle.script_reader.proofs.read.read_script.Goals as goal
 

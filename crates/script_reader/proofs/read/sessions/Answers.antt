@@ -1,4 +1,4 @@
-use Rattle.std.proofs.Common.{◌≡◌, sym, refl, ap, ◌∙◌, true, false, arith}
+use Rattle.std.proofs.Common.{sym, ◌∙◌, true, false, arith}
 use Rattle.std.proofs.lemmas.List.{append-nil}
 use Rattle.script_reader.specs.Scripts.{is_named}
 use Rattle.script_reader.proofs.Sessions.{sessions_more, sessions_all}

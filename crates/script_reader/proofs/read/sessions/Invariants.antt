@@ -1,4 +1,4 @@
-use Rattle.std.proofs.Common.{◌≡◌, ◌-◌, ◌≤◌}
+use Rattle.std.proofs.Common.{◌≡◌, ◌-◌}
 use Rattle.std.specs.Prelude.{filter}
 use Rattle.script_reader.specs.Scripts.{is_named, numbers}
 use Rattle.script_reader.proofs.read.sessions.Given as goal

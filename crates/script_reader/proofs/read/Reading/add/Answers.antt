@@ -1,7 +1,4 @@
-use Rattle.std.proofs.Common.{◌≡◌, sym, refl, ap, ◌∙◌, subst, List, ℕ}
-use Rattle.std.specs.Prelude.{None}
-use Rattle.script_reader.specs.declared.form.Form.TheVariants.{Skipped, Setup, Ask, Other}
-use Rattle.script_reader.specs.Reading.{RefusesSetup}
+use Rattle.std.proofs.Common.{refl, ◌∙◌}
 use Rattle.script_reader.proofs.Behind.{quiet_read, setup_read, step_read, refused_text, handed_line}
 use Rattle.script_reader.proofs.read.Reading.add.Goals as goal
 

@@ -1,6 +1,4 @@
-use Rattle.std.proofs.Common.{◌≡◌, sym, refl, ap, ◌∙◌, subst}
-use Rattle.std.specs.Prelude.{None}
-use Rattle.script_reader.specs.Reading.{IsShort}
+use Rattle.std.proofs.Common.{sym, ◌∙◌}
 use Rattle.script_reader.proofs.Forms.{form_short}
 use Rattle.script_reader.proofs.Behind.{refused_line, refused_form}
 use Rattle.script_reader.proofs.read.Reading.read.Goals as goal
