@@ -1,8 +1,11 @@
 // The form of a line.
-ghost use Rattle.std.specs.Prelude.{◌≡◌, ◌≤◌, ◌<◌, ◌^◌, length, IfOk, IfSome, IsTrue, true, List, ℕ, reverse, codes, if◌then◌else◌, Some, None};
+ghost use Rattle.std.specs.Prelude.{◌≡◌, ◌⊎◌, ◌≤◌, ◌<◌, ◌^◌, length, IfOk, IfSome, IsTrue, true, List, ℕ, reverse, codes, if◌then◌else◌, Some, None};
 ghost use Rattle.std.specs.List.{list_all, prefix_len, take_while};
 ghost use Rattle.std.specs.Option.{option_map};
 ghost use Rattle.cs_types.specs.Calendar.{is_digit, digits_value};
+ghost use Rattle.script_reader.specs.declared.form.Form.{Form};
+ghost use Rattle.script_reader.specs.declared.form.Form.TheVariants.{Other};
+ghost use Rattle.script_reader.specs.Grammar.{IsOfForm};
 ghost use Rattle.script_reader.specs.Lines as spec;
 ghost use Rattle.script_reader.specs.Lines.{is_blank, unblanked, stripped, is_number, session_form, numbered_form, form_of};
 
@@ -171,7 +174,11 @@ fn bare_form(alloc: Global, line: &[u8]) -> Result<Form, Memory>
 /// The form of a line, with copies of its texts. `Memory` comes where there is no room for them.
 #[tactic(auto, unfolding(crate::specs::Lines::form_of))]
 pub fn form_of(alloc: Global, line: &[u8]) -> Result<Form, Memory>
-    ensures { IfOk result (λ form. form ≡ form_of line.now) }
+    ensures form { IfOk result (λ form. form ≡ form_of line.now) }
+    // That form is the grammar's, or there is none.
+    ensures sound { (form_of line.now ≡ Other) ⊎ IsOfForm (stripped line.now) (form_of line.now) }
+    // A line of a form of the grammar has that form, and no other.
+    ensures whole { (form : Form) → IsOfForm (stripped line.now) form → form_of line.now ≡ form }
 {
     bare_form(alloc, stripped(line))
 }
