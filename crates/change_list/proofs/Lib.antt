@@ -3,3 +3,4 @@ pub mod Lists
 pub mod Walks
 pub mod Tables
 pub mod Places
+pub mod Rows

@@ -1,20 +1,18 @@
 -- Tables: what edits make of them, and when two of them are one.
-use Rattle.std.proofs.Common.{◌≡◌, ℕ, suc, ◌<◌, length, List, [], ◌∷◌, ◌++◌, map, filter, refl, sym, ap, ◌∙◌, subst, cond, Bool, true, false, ◌||◌, All, arith}
-use Rattle.std.specs.Prelude.{Option, None, Some, unwrap_or, is_some, IfSome, nat_le}
+use Rattle.std.proofs.Common.{◌≡◌, ℕ, List, [], ◌∷◌, ◌++◌, map, filter, refl, sym, ap, ◌∙◌, subst, cond, Bool, true, false, ◌||◌}
+use Rattle.std.specs.Prelude.{Option, None, Some, unwrap_or, is_some}
 use Rattle.std.specs.List.{list_any, AllByRecursion}
 use Rattle.std.specs.Ordering.{match_ordering, ordering_reverse, eq_by_cmp, is_eq}
 use Rattle.std.specs.declared.cmp.Ordering.{Ordering}
 use Rattle.std.specs.declared.cmp.Ordering.TheVariants.{Less, Equal, Greater}
 use Rattle.std.specs.BTreeMap.{is_at, insert_entry}
-use Rattle.std.specs.Map.{keys_of, values_of, lookup}
+use Rattle.std.specs.Map.{keys_of, lookup}
 use Rattle.std.specs.List.Sorted.{IsStrictlySortedBy}
 use Rattle.std.proofs.lemmas.Cmp.{eq_by_cmp_equiv, tied_itself}
 use Rattle.std.proofs.lemmas.List.{append-nil, append_assoc}
-use Rattle.std.proofs.lemmas.List.Elements.{All-nil, All-map, All-filter}
 use Rattle.std.proofs.lemmas.Map.{lookup-none}
 use Rattle.std.proofs.lemmas.Map.Entries.{none_past_head, none_below_head}
 use Rattle.std.proofs.lemmas.Map.Keys.{sorted_tail, IsDistinct-from_sorted}
-use Rattle.std.proofs.lemmas.Map.Views.{All-values-insert_entry, All-map-remove_entry}
 use Rattle.std.proofs.lemmas.Option.{none-some, same_Some}
 use Rattle.cs_types.specs.declared.Key.{Key}
 use Rattle.cs_types.specs.declared.Value.{Value}
@@ -192,24 +190,3 @@ any_key q (e ∷ es) = by (same_key q e.0) (any_key q es)
     by : (b : Bool) → list_any (same_key q) (keys_of es) ≡ is_some (at q es) → (b || list_any (same_key q) (keys_of es)) ≡ is_some (cond b (Some e.1) (at q es))
     by true rest = refl
     by false rest = rest
-
--- ---- what holds of each row that is written holds of each row that is there
-
-module _ (P : List Value → Type 0) where
-  edited_all : (t : Table) (key : Key) (row : Option (List Value)) → All P (values_of t) → IfSome row P → All P (values_of (edited t (key, row)))
-  edited_all t key None all h = All-map-remove_entry (is_at (key_cmp key)) (λ (e : Key × List Value). e.1) P t all
-  edited_all t key (Some row) all h = All-values-insert_entry key_cmp key row P t all h
-
-  pub laid_all : (edits : List Edit) (t : Table) → All P (values_of t) → All (λ row. IfSome row P) (values_of edits) → All P (values_of (laid t edits))
-  laid_all [] t all each = all
-  laid_all (edit ∷ edits) t all each = laid_all edits (edited t edit) (edited_all t edit.0 edit.1 all (each 0 edit.1 (omega arith))) (λ k d lt. each (suc k) d (omega arith))
-
-  values_are : (changes : List Change) → values_of (map (λ (change : Change). change.edit) changes) ≡ map (λ (change : Change). change.edit.1) changes
-  values_are [] = refl
-  values_are (change ∷ changes) = ap (λ rows. change.edit.1 ∷ rows) (values_are changes)
-
-  pub table_all : (changes : List Change) (s : ℕ) → All (λ (change : Change). IfSome change.edit.1 P) changes → All P (values_of (table changes s))
-  table_all changes s all =
-      laid_all (map (λ (change : Change). change.edit) (until s changes)) [] (All-nil P)
-      (subst (All (λ row. IfSome row P)) (sym (values_are (until s changes)))
-      (All-map (λ row. IfSome row P) (λ (change : Change). change.edit.1) (until s changes) (All-filter (λ (change : Change). nat_le change.commit s) (λ (change : Change). IfSome change.edit.1 P) changes all)))
