@@ -116,11 +116,11 @@ const SCRIPTS: [(&str, Status, &str); 21] = [
         Status::Done,
         "1 s1.1 >\n2 s1.1 < error 102 at 15\n3 s1.2 >\n4 s1.2 < error 208 at 15\n5 s1.3 >\n6 s1.3 < error 207 at 11\n7 s1.4 >\n8 s1.4 < error 213 at 22\n9 s1.5 >\n10 s1.5 < error 207 at 19\n11 s1.6 >\n12 s1.6 < error 109 at 29\n13 s1.7 >\n14 s1.7 < error 110 at 31\n15 s1.8 >\n16 s1.8 < error 50001 at 19\n17 s1.9 >\n18 s1.9 < error 206 at 26\n19 s1.10 >\n20 s1.10 < error 50001 at 26\n21 s1 end\n",
     ),
-    // Forms that come later, before all other refusals of binding.
+    // Transactions and settings, and forms that come later, before all other refusals of binding.
     (
-        "setup CREATE TABLE t (k bigint NOT NULL PRIMARY KEY, v int)\ns1 BEGIN TRAN\ns1 COMMIT\ns1 ROLLBACK\ns1 SET STATISTICS IO ON\ns1 SET LOCK_TIMEOUT 0\ns1 SELECT x FROM sys.column_store_segments WHERE 1 = 1\ns1 ALTER INDEX ALL ON t REORGANIZE\n",
+        "setup CREATE TABLE t (k bigint NOT NULL PRIMARY KEY, v int)\ns1 BEGIN TRAN\ns1 COMMIT\ns1 ROLLBACK\ns1 SET STATISTICS IO ON\ns1 SET LOCK_TIMEOUT 0.0\ns1 SET LOCK_TIMEOUT 5\ns1 SELECT x FROM sys.column_store_segments WHERE 1 = 1\ns1 ALTER INDEX ALL ON t REORGANIZE\n",
         Status::Done,
-        "1 s1.1 >\n2 s1.1 < error 50001 at 1\n3 s1.2 >\n4 s1.2 < error 50001 at 1\n5 s1.3 >\n6 s1.3 < error 50001 at 1\n7 s1.4 >\n8 s1.4 < error 50001 at 1\n9 s1.5 >\n10 s1.5 < error 50001 at 1\n11 s1.6 >\n12 s1.6 < error 50001 at 1\n13 s1.7 >\n14 s1.7 < error 50001 at 1\n15 s1 end\n",
+        "1 s1.1 >\n2 s1.1 < ok\n3 s1.2 >\n4 s1.2 < ok\n5 s1.3 >\n6 s1.3 < error 3903\n7 s1.4 >\n8 s1.4 < error 50001 at 1\n9 s1.5 >\n10 s1.5 < ok\n11 s1.6 >\n12 s1.6 < error 50001 at 18\n13 s1.7 >\n14 s1.7 < error 50001 at 1\n15 s1.8 >\n16 s1.8 < error 50001 at 1\n17 s1 end\n",
     ),
     // The numbers with nine digits, and a negative one.
     (

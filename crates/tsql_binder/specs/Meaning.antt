@@ -1,8 +1,8 @@
 -- What the text of a statement means over a schema: its tree's bound form, or its first refusal.
-use Rattle.std.specs.Prelude.{◌≡◌, ◌⊎◌, ℕ, List, Bool, true, false, Option, None, Some, Result, Ok, Err, if◌then◌else◌}
+use Rattle.std.specs.Prelude.{◌≡◌, ◌⊎◌, ℕ, List, Option, None, Some, Result, Ok, Err, if◌then◌else◌}
 use Rattle.cs_types.specs.declared.Schema.{Schema}
 use Rattle.cs_model.specs.declared.entry.Bound.{Bound}
-use Rattle.cs_model.specs.declared.entry.Bound.TheVariants.{Insert, Update, Delete, Select, Refused}
+use Rattle.cs_model.specs.declared.entry.Bound.TheVariants.{Begin, Commit, Rollback, Nothing, Insert, Update, Delete, Select, Refused}
 use Rattle.cs_model.specs.declared.entry.Refusal.TheVariants.{Reading}
 use Rattle.tsql_trees.specs.declared.statement.Statement.{Statement}
 use Rattle.tsql_trees.specs.declared.statement.Statement.TheVariants as statements
@@ -23,19 +23,18 @@ later = fault 50001 1
 abbrev pub refused : Fault → Bound
 refused f = Refused (Reading f.number f.at)
 
--- the bound form of a statement that is built and has no fault
+-- the bound form of a statement without a fault; the forms that come later have none yet
 abbrev pub plan_of : Schema → Statement → Bound
-plan_of schema statements.Begin = refused later
-plan_of schema statements.Commit = refused later
-plan_of schema statements.Rollback = refused later
-plan_of schema statements.SetSnapshot = refused later
-plan_of schema (statements.SetStatistics on) = refused later
-plan_of schema (statements.SetLockTimeout number) = refused later
-plan_of schema (statements.AlterIndex index table compress) = refused later
+plan_of schema statements.Begin = Begin
+plan_of schema statements.Commit = Commit
+plan_of schema statements.Rollback = Rollback
+plan_of schema statements.SetSnapshot = Nothing
+plan_of schema (statements.SetLockTimeout number) = Nothing
 plan_of schema (statements.Insert table names source) = Insert (insert_plan schema names source)
 plan_of schema (statements.Update table sets filter) = Update (update_plan schema sets filter)
 plan_of schema (statements.Delete table filter) = Delete (filter_of schema filter)
 plan_of schema (statements.Select items table filter groups order) = Select (query schema items filter groups order)
+plan_of schema other = refused later
 
 abbrev pub unless : Option Fault → Bound → Result Bound Fault
 unless None bound = Ok bound

@@ -1,5 +1,5 @@
--- The forms of statements that come later: each is refused by 50001 at 1, before anything else that binding refuses. As a
--- form is built its line here goes.
+-- The forms of statements that come later: each is refused by 50001 at 1, before anything else that binding refuses. When a
+-- form is built its line becomes false.
 use Rattle.std.specs.Prelude.{ℕ, List, [], ◌∷◌, codes, Bool, true, false, ◌&&◌, Option, None, Some}
 use Rattle.std.specs.List.{list_any}
 use Rattle.tsql_trees.specs.declared.leaf.NameTree.{NameTree}
@@ -26,12 +26,12 @@ is_report table = names_report table.first table.second
 -- ---- the table
 
 abbrev pub is_postponed : Statement → Bool
-is_postponed statements.Begin = true
-is_postponed statements.Commit = true
-is_postponed statements.Rollback = true
-is_postponed statements.SetSnapshot = true
+is_postponed statements.Begin = false
+is_postponed statements.Commit = false
+is_postponed statements.Rollback = false
+is_postponed statements.SetSnapshot = false
 is_postponed (statements.SetStatistics on) = true
-is_postponed (statements.SetLockTimeout number) = true
+is_postponed (statements.SetLockTimeout number) = false
 is_postponed (statements.AlterIndex index table compress) = true
 is_postponed (statements.Insert table names source) = false
 is_postponed (statements.Update table sets filter) = false

@@ -34,8 +34,8 @@ pub fn is_postponed(statement: &Statement) -> bool
     ensures { result ≡ spec.is_postponed statement.now }
 {
     match statement {
-        Statement::Insert { .. } | Statement::Update { .. } | Statement::Delete { .. } => false,
+        Statement::SetStatistics { .. } | Statement::AlterIndex { .. } => true,
         Statement::Select { table, .. } => is_report(table),
-        _ => true,
+        _ => false,
     }
 }

@@ -4,7 +4,6 @@ ghost use Rattle.std.specs.Prelude.{◌≡◌, ◌≤◌, ℕ, List, length, Res
 ghost use Rattle.cs_model.specs.declared.entry.Bound.{Bound};
 ghost use Rattle.tsql_reader.specs.Statements.{IsNoStatement, RefusesStatement, AnswersOnly};
 ghost use Rattle.tsql_faults.specs.declared.fault.Fault.{Fault};
-ghost use Rattle.tsql_binder.specs.Meaning as spec;
 ghost use Rattle.tsql_binder.specs.Meaning.{plan_of, bound_of, bound_or, Means, GivesBound};
 
 use crate::postponed::is_postponed;
@@ -13,22 +12,26 @@ use cs_base::Memory;
 use cs_model::{Bound, Refusal};
 use cs_types::Schema;
 use std::alloc::Global;
-use tsql_faults::first_fault;
+use tsql_faults::{Fault, first_fault};
 use tsql_plans::{filter_of, insert_plan, query, update_plan};
 use tsql_reader::{ReadRefusal, read_statement};
 use tsql_trees::Statement;
 
-/// The refusal of a form that comes later.
-const LATER: BindRefusal = BindRefusal::At {
+/// What a form that comes later is refused for.
+const LATER: Fault = Fault {
     number: 50_001,
     at: 1,
 };
 
-/// The bound form of a statement that is built and has no fault.
+/// The bound form of a statement without a fault.
 fn plan_of(alloc: Global, schema: &Schema, statement: &Statement) -> Result<Bound, Memory>
     ensures { IfOk result (λ bound. bound ≡ plan_of schema.now statement.now) }
 {
     match statement {
+        Statement::Begin => Ok(Bound::Begin),
+        Statement::Commit => Ok(Bound::Commit),
+        Statement::Rollback => Ok(Bound::Rollback),
+        Statement::SetSnapshot | Statement::SetLockTimeout { .. } => Ok(Bound::Nothing),
         Statement::Insert { names, source, .. } => Ok(Bound::Insert(insert_plan(
             alloc,
             schema,
@@ -60,7 +63,8 @@ fn plan_of(alloc: Global, schema: &Schema, statement: &Statement) -> Result<Boun
             groups.as_ref(),
             order.as_ref(),
         )?)),
-        _ => Ok(refused(50_001, 1)),
+        // The forms that come later.
+        _ => Ok(refused(LATER.number, LATER.at)),
     }
 }
 
@@ -76,10 +80,12 @@ fn refused(number: u32, at: u32) -> Bound
 pub fn bind(alloc: Global, schema: &Schema, statement: &Statement) -> Result<Bound, BindRefusal>
     ensures { GivesBound (bound_of schema.now statement.now) result }
 {
-    if is_postponed(statement) {
-        return Err(LATER);
-    }
-    match first_fault(schema, statement) {
+    let fault = if is_postponed(statement) {
+        Some(LATER)
+    } else {
+        first_fault(schema, statement)
+    };
+    match fault {
         Some(fault) => Err(BindRefusal::At {
             number: fault.number,
             at: fault.at,

@@ -1,6 +1,6 @@
 -- What an INSERT, an UPDATE and a SELECT are bound to.
-use Rattle.std.specs.Prelude.{ℕ, List, [], ◌∷◌, map, Bool, true, false, ◌||◌, Option, None, Some}
-use Rattle.std.specs.List.{zip, list_any}
+use Rattle.std.specs.Prelude.{ℕ, List, [], ◌∷◌, map, Bool, ◌||◌, Option, None, Some}
+use Rattle.std.specs.List.{zip}
 use Rattle.std.specs.Option.{is_some}
 use Rattle.cs_types.specs.declared.Schema.{Schema}
 use Rattle.tsql_trees.specs.declared.leaf.NameTree.{NameTree}
@@ -23,6 +23,7 @@ use Rattle.cs_plans.specs.declared.plan.Query.{Query}
 use Rattle.cs_plans.specs.declared.plan.Item.{Item}
 use Rattle.cs_plans.specs.declared.plan.Item.TheVariants as items
 use Rattle.tsql_names.specs.Names.{series_schema}
+use Rattle.tsql_names.specs.Shown.{has_aggregate}
 use Rattle.tsql_plans.specs.Literals.{column_of, columns_of, all_columns, series_end}
 use Rattle.tsql_plans.specs.Exprs.{value_for}
 use Rattle.tsql_plans.specs.Preds.{filter_of}
@@ -72,15 +73,6 @@ item_of schema (trees.Aggregate place aggregate name) = aggregate_of aggregate (
 abbrev pub items_of : Schema → ItemsTree → List Item
 items_of schema (shown.All place) = map items.Column (all_columns schema)
 items_of schema (shown.List list) = map (item_of schema) list
-
-abbrev pub is_aggregate : ItemTree → Bool
-is_aggregate (trees.Name name) = false
-is_aggregate (trees.CountAll place) = true
-is_aggregate (trees.Aggregate place aggregate name) = true
-
-abbrev pub has_aggregate : ItemsTree → Bool
-has_aggregate (shown.All place) = false
-has_aggregate (shown.List list) = list_any is_aggregate list
 
 -- the columns of GROUP BY
 abbrev pub groups_of : Schema → Option (List NameTree) → List ℕ

@@ -1,10 +1,9 @@
 //! What a SELECT asks for.
 
 ghost use Rattle.std.specs.Prelude.{◌≡◌, map, IfOk};
-ghost use Rattle.std.specs.List.{list_any};
 ghost use Rattle.std.specs.Option.{option_copied};
 ghost use Rattle.tsql_plans.specs.Literals.{all_columns};
-ghost use Rattle.tsql_plans.specs.Plans.{aggregate_of, item_of, items_of, is_aggregate, has_aggregate, groups_of, oitem_of, order_of, query};
+ghost use Rattle.tsql_plans.specs.Plans.{aggregate_of, item_of, items_of, groups_of, oitem_of, order_of, query};
 
 use crate::literal::{all_columns, column_of, columns_of};
 use crate::pred::filter_of;
@@ -12,6 +11,7 @@ use cs_base::{Items, Memory};
 use cs_plans::{Item, Query};
 use cs_types::Schema;
 use std::alloc::Global;
+use tsql_names::has_aggregate;
 use tsql_trees::{Aggregate, ItemTree, ItemsTree, NamesTree, OitemTree, PredTree};
 
 fn aggregate_of(aggregate: Aggregate, column: usize) -> Item
@@ -68,30 +68,6 @@ fn items_of(alloc: Global, schema: &Schema, tree: &ItemsTree) -> Result<Items<It
     match tree {
         ItemsTree::All { .. } => all_items(alloc, schema),
         ItemsTree::List(list) => listed_items(alloc, schema, list.as_slice()),
-    }
-}
-
-fn is_aggregate(tree: &ItemTree) -> bool
-    ensures { result ≡ is_aggregate tree.now }
-{
-    match tree {
-        ItemTree::Name(_) => false,
-        ItemTree::CountAll { .. } | ItemTree::Aggregate { .. } => true,
-    }
-}
-
-fn any_aggregate(items: &[ItemTree]) -> bool
-    ensures { result ≡ list_any is_aggregate items.now }
-{
-    items.iter().any(|item| is_aggregate(item))
-}
-
-fn has_aggregate(tree: &ItemsTree) -> bool
-    ensures { result ≡ has_aggregate tree.now }
-{
-    match tree {
-        ItemsTree::All { .. } => false,
-        ItemsTree::List(list) => any_aggregate(list.as_slice()),
     }
 }
 
