@@ -1,5 +1,5 @@
 -- What an event leaves fits the table, and its reply can be printed.
-use Rattle.std.proofs.Common.{◌≡◌, ℕ, List, [], ◌∷◌, ◌++◌, map, refl, sym, ap, subst, ◌∙◌, inl, inr, ◌⊎◌, Bool, true, false, cond, All, Contains, Option, None, Some, Result, Ok, Err, fold, nat_lt, nat_le, ◌+◌, ◌-◌}
+use Rattle.std.proofs.Common.{◌≡◌, ℕ, List, [], ◌∷◌, ◌++◌, map, sym, subst, inl, inr, ◌⊎◌, Bool, true, false, cond, All, Option, None, Some, nat_lt, nat_le, ◌+◌, ◌-◌}
 use Rattle.std.specs.Prelude.{◌==◌}
 use Rattle.std.specs.declared.cmp.Ordering.{Ordering}
 use Rattle.std.specs.declared.cmp.Ordering.TheVariants.{Less, Equal, Greater}
@@ -21,8 +21,8 @@ use Rattle.cs_model.specs.Changes.{Edit, Table, Change, edited, edited_by, laid,
 use Rattle.cs_model.specs.Held.{IsFit, IsFitEntry, IsFitTable, AreFit}
 use Rattle.cs_model.specs.State.{State, Txn, Half, with, txn_set, half_set, seen, seen_at}
 use Rattle.cs_model.specs.Answers.{is_of_table}
-use Rattle.cs_model.specs.Obstacles.{keys_of, is_present, IsObstacle, IsJudged}
-use Rattle.cs_model.specs.Steps.{IsReply, IsWritten, began, unwound, settled, commits, wrote, gone, refused, replied, accepted, ends_txn, staged, is_empty, numbered, begin_reply, done_in, pinned, started, fixed, txn_opened}
+use Rattle.cs_model.specs.Obstacles.{keys_of, is_present, IsObstacle}
+use Rattle.cs_model.specs.Steps.{IsReply, began, unwound, settled, commits, wrote, gone, refused, replied, accepted, ends_txn, staged, is_empty, numbered, begin_reply, done_in, pinned, started, fixed, txn_opened}
 use Rattle.cs_model.specs.Text.{IsPrintableKey, IsPrintableRefusal, IsPrintableReply}
 use Rattle.statement_core.specs.Fit.{IsReady, IsFitTxn, IsReadyHalf, IsFitState}
 use Rattle.statement_core.specs.Settled.{wrote_or, IsWrittenIn, IsRead}

@@ -1,5 +1,5 @@
 -- An event keeps what the core's type keeps.
-use Rattle.std.proofs.Common.{◌≡◌, ℕ, ◌+◌, ◌^◌, ◌<◌, ◌≤◌, List, [], ◌∷◌, ◌++◌, length, refl, sym, ap, subst, ◌∙◌, arith, All, Contains, None, Option, is_some, true, false}
+use Rattle.std.proofs.Common.{◌≡◌, ℕ, ◌+◌, ◌^◌, ◌<◌, ◌≤◌, List, [], ◌∷◌, ◌++◌, length, sym, subst, arith, All, Contains, None, false}
 use Rattle.std.proofs.lemmas.List.{length-append}
 use Rattle.std.proofs.lemmas.List.Elements.{All-contains, All-nil, All-push}
 use Rattle.cs_types.specs.declared.Schema.{Schema}
@@ -15,12 +15,10 @@ use Rattle.row_laws.proofs.Logs.{legal_push}
 use Rattle.row_laws.proofs.Numbers.{small}
 use Rattle.row_laws.proofs.Room.{owed_first}
 use Rattle.statement_core.specs.declared.held.Held.{Held}
-use Rattle.statement_core.specs.declared.held.OpenTxn.{OpenTxn}
-use Rattle.statement_core.specs.declared.held.HalfDone.{HalfDone}
 use Rattle.statement_core.specs.declared.started.Outcome.{Outcome}
 use Rattle.statement_core.specs.Seats.{seat}
 use Rattle.statement_core.specs.Held.{state_of, txn_in, half_in, IsWithin}
-use Rattle.statement_core.specs.Fit.{IsFitState, IsFitTxn, IsReadyHalf}
+use Rattle.statement_core.specs.Fit.{IsFitState}
 use Rattle.statement_core.specs.Cores.{IsCore, IsDone}
 use Rattle.statement_core.specs.Settled.{IsDoneAt}
 

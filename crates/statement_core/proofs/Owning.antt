@@ -1,5 +1,5 @@
 -- Whether a key is among own writes.
-use Rattle.std.proofs.Common.{◌≡◌, List, [], ◌∷◌, refl, cond, Bool, true, false, Option, None, Some, is_some, ◌||◌}
+use Rattle.std.proofs.Common.{◌≡◌, List, [], ◌∷◌, refl, cond, Bool, true, false, Some, is_some, ◌||◌}
 use Rattle.std.specs.List.{list_any}
 use Rattle.std.specs.BTreeMap.{is_at}
 use Rattle.std.specs.Map.{lookup}

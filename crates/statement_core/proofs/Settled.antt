@@ -1,6 +1,6 @@
 -- What a Finish leaves.
-use Rattle.std.proofs.Common.{◌≡◌, ℕ, ◌≤◌, List, [], refl, sym, ap, subst, ◌∙◌, inl, inr, ◌⊎◌, Bool, true, false, cond, All, Option, None, Some, Result, Ok, Err}
-use Rattle.std.specs.Prelude.{◌||◌, nat_lt, count_by}
+use Rattle.std.proofs.Common.{◌≡◌, ℕ, List, [], refl, sym, ap, subst, ◌∙◌, inl, inr, ◌⊎◌, Bool, true, false, Option, None, Some, Result, Ok, Err}
+use Rattle.std.specs.Prelude.{◌||◌, nat_lt}
 use Rattle.std.specs.BTreeMap.{BTreeMap}
 use Rattle.std.specs.Map.{values_of}
 use Rattle.cs_types.specs.declared.Key.{Key}
@@ -12,16 +12,15 @@ use Rattle.cs_model.specs.declared.entry.Refusal.{Refusal}
 use Rattle.cs_model.specs.declared.entry.Refusal.TheVariants.{Memory}
 use Rattle.cs_model.specs.declared.entry.Reply.{Reply}
 use Rattle.cs_model.specs.declared.entry.Reply.TheVariants as reply
-use Rattle.cs_model.specs.Changes.{Edit, Table, Change, table, laid}
-use Rattle.cs_model.specs.Keys.{same_key}
+use Rattle.cs_model.specs.Changes.{Edit, Table, table, laid}
 use Rattle.cs_model.specs.State.{State, Txn, Half, seen, seen_at, half_set}
 use Rattle.cs_model.specs.Answers.{is_of_table, writes}
-use Rattle.cs_model.specs.Obstacles.{has_row, stands_twice, keys_of, is_present, IsObstacle, IsJudged}
+use Rattle.cs_model.specs.Obstacles.{has_row, keys_of, is_present, IsObstacle, IsJudged}
 use Rattle.cs_model.specs.Steps.{IsReply, IsWriteReply, IsWriteReplyOf, IsAnswerIn, IsAnswer, IsFinish, edits_in, writes_in, replied, accepted, wrote, refused, rested}
 use Rattle.row_laws.specs.Started.{Shows, IsPinned, seen_in, reads_rows}
 use Rattle.statement_core.specs.declared.started.Outcome.{Outcome}
 use Rattle.statement_core.specs.declared.started.Outcome.TheVariants as outcome
-use Rattle.statement_core.specs.Least.{is_taken, count_in}
+use Rattle.statement_core.specs.Least.{is_taken}
 use Rattle.statement_core.specs.Outcomes.{is_write, IsValued, IsDecided, GivesOn}
 use Rattle.statement_core.specs.Settled.{Settles, WriteSettles, Replies, GivesIn, IsDoneAt, IsWrittenIn, IsJudgedIn, AreCountsFor, wrote_or}
 

@@ -1,9 +1,6 @@
 -- States, field by field.
-use Rattle.std.proofs.Common.{◌≡◌, ℕ, refl, sym, ap, ◌∙◌, cond, Bool, true, false, Option, None, Some}
-use Rattle.cs_model.specs.State.{State, Txn, Half, with, txn_set, half_set}
-use Rattle.cs_model.specs.Changes.{Edit}
-use Rattle.cs_model.specs.Steps.{is_empty, gone, commits}
-use Rattle.statement_core.specs.Settled.{recorded}
+use Rattle.std.proofs.Common.{◌≡◌, ℕ, refl, Option}
+use Rattle.cs_model.specs.State.{State, Txn, txn_set}
 use Rattle.statement_core.proofs.Placing.{with_twice, with_same}
 
 pub same_state : (m n : State) → m.changes ≡ n.changes → m.clock ≡ n.clock → m.txns ≡ n.txns → m.half ≡ n.half → m.statistics ≡ n.statistics → m.next ≡ n.next → m ≡ n

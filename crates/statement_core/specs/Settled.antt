@@ -1,5 +1,5 @@
 -- What a Finish leaves, once the statement is no longer half done.
-use Rattle.std.specs.Prelude.{◌≡◌, ◌≤◌, ◌⊎◌, ℕ, ◌+◌, ◌++◌, List, [], count_by, Bool, true, false, if◌then◌else◌, Option, None, Some}
+use Rattle.std.specs.Prelude.{◌≡◌, ◌⊎◌, ℕ, ◌+◌, ◌++◌, List, [], count_by, Bool, true, false, if◌then◌else◌, Option, None, Some}
 use Rattle.std.specs.BTreeMap.{BTreeMap}
 use Rattle.cs_types.specs.declared.Key.{Key}
 use Rattle.cs_types.specs.declared.Schema.{Schema}

@@ -1,4 +1,4 @@
-use Rattle.std.proofs.Common.{◌≡◌, ◌≢◌, ◌⊎◌, ℕ, ◌<◌, ◌≤◌, ap, ◌∙◌, inl, inr, false, arith, length}
+use Rattle.std.proofs.Common.{◌≡◌, ◌≢◌, ◌⊎◌, ℕ, ◌<◌, ◌≤◌, ap, inl, inr, false, arith, length}
 use Rattle.cs_model.specs.Obstacles.{owns}
 use Rattle.statement_core.specs.Held.{txns_of, txn_in}
 use Rattle.statement_core.proofs.Placing.{past_seats, below_or}

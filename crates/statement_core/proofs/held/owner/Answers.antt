@@ -1,4 +1,4 @@
-use Rattle.std.proofs.Common.{◌≡◌, ◌∙◌, sym, ap, subst, refl, Option, Some}
+use Rattle.std.proofs.Common.{◌∙◌, sym, ap, subst, refl, Option}
 use Rattle.cs_model.specs.Obstacles.{owns, IsOwner}
 use Rattle.statement_core.specs.declared.held.OpenTxn.{OpenTxn}
 use Rattle.statement_core.specs.Held.{txn_in}

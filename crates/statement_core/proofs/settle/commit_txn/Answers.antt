@@ -1,6 +1,6 @@
-use Rattle.std.proofs.Common.{◌≡◌, ap, sym, ◌∙◌, None, Some}
+use Rattle.std.proofs.Common.{◌≡◌, ap, ◌∙◌, None, Some}
 use Rattle.cs_model.specs.State.{Txn, txn_set}
-use Rattle.statement_core.specs.Held.{state_of, txn_in}
+use Rattle.statement_core.specs.Held.{state_of}
 use Rattle.statement_core.proofs.States.{txn_twice, txn_same}
 use Rattle.statement_core.proofs.settle.commit_txn.Goals as goal
 

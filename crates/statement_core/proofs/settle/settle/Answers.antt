@@ -1,4 +1,4 @@
-use Rattle.std.proofs.Common.{sym, subst, refl, [], All}
+use Rattle.std.proofs.Common.{sym, subst, []}
 use Rattle.std.proofs.lemmas.List.Elements.{All-nil}
 use Rattle.std.specs.Prelude.{false}
 use Rattle.cs_model.specs.declared.entry.Refusal.TheVariants.{Memory}
@@ -7,7 +7,6 @@ use Rattle.cs_model.specs.Text.{IsPrintableReply}
 use Rattle.statement_core.specs.Fit.{IsFitState}
 use Rattle.statement_core.specs.Held.{state_of}
 use Rattle.statement_core.specs.Settled.{GivesIn}
-use Rattle.statement_core.proofs.Settled.{answered_settles, written_settles, at_short, memory_settles}
 use Rattle.statement_core.proofs.Fitting.{fit_replied, plain_prints, fit_wrote_or, given_prints, written_prints, fit_refused}
 use Rattle.statement_core.proofs.settle.settle.Goals as goal
 

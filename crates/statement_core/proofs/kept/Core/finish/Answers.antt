@@ -1,4 +1,4 @@
-use Rattle.std.proofs.Common.{arith, ap, ◌∙◌, is_some}
+use Rattle.std.proofs.Common.{arith, ap, is_some}
 use Rattle.cs_model.specs.declared.entry.Entry.TheVariants.{Finish}
 use Rattle.row_laws.proofs.Room.{room_finish}
 use Rattle.row_laws.proofs.StartedOn.{shows_begun}

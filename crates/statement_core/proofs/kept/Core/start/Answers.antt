@@ -1,5 +1,4 @@
-use Rattle.std.proofs.Common.{◌≡◌, ◌∙◌, ◌++◌, ◌∷◌, [], ap, arith, refl, sym, subst}
-use Rattle.cs_types.specs.declared.Schema.{Schema}
+use Rattle.std.proofs.Common.{◌∙◌, ◌++◌, ◌∷◌, [], ap, arith, refl, sym, subst}
 use Rattle.cs_model.specs.declared.entry.Entry.TheVariants.{Start}
 use Rattle.row_laws.specs.Started.{Starts, IsStarted}
 use Rattle.row_laws.proofs.Entries.{rests_is}
