@@ -1,5 +1,5 @@
 -- What holds of each write holds of each row that is there.
-use Rattle.std.proofs.Common.{◌≡◌, ℕ, suc, ◌<◌, ◌⊎◌, inl, inr, List, [], ◌∷◌, length, map, refl, subst, cond, Bool, true, false, All, Contains, arith}
+use Rattle.std.proofs.Common.{◌≡◌, ℕ, suc, ◌⊎◌, inl, inr, List, [], ◌∷◌, map, refl, subst, cond, Bool, true, false, All, Contains, arith}
 use Rattle.std.specs.Prelude.{Option, None, Some, nat_le}
 use Rattle.std.specs.declared.cmp.Ordering.{Ordering}
 use Rattle.std.specs.declared.cmp.Ordering.TheVariants.{Less, Equal, Greater}

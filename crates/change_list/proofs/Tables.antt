@@ -1,5 +1,5 @@
 -- Tables: what edits make of them, and when two of them are one.
-use Rattle.std.proofs.Common.{◌≡◌, ℕ, List, [], ◌∷◌, ◌++◌, map, filter, refl, sym, ap, ◌∙◌, subst, cond, Bool, true, false, ◌||◌}
+use Rattle.std.proofs.Common.{◌≡◌, List, [], ◌∷◌, ◌++◌, map, refl, sym, ap, ◌∙◌, subst, cond, Bool, true, false, ◌||◌}
 use Rattle.std.specs.Prelude.{Option, None, Some, unwrap_or, is_some}
 use Rattle.std.specs.List.{list_any, AllByRecursion}
 use Rattle.std.specs.Ordering.{match_ordering, ordering_reverse, eq_by_cmp, is_eq}
@@ -17,7 +17,7 @@ use Rattle.std.proofs.lemmas.Option.{none-some, same_Some}
 use Rattle.cs_types.specs.declared.Key.{Key}
 use Rattle.cs_types.specs.declared.Value.{Value}
 use Rattle.cs_model.specs.Keys.{key_cmp, same_key}
-use Rattle.cs_model.specs.Changes.{Edit, Table, Change, edited, laid, until, table}
+use Rattle.cs_model.specs.Changes.{Edit, Table, Change, edited, laid, until}
 use Rattle.cs_model.specs.Steps.{numbered}
 use Rattle.cs_model.proofs.Tables.{table_ascends, edited_is}
 use Rattle.change_list.proofs.Keys.{key_total, exact_key, one_key}

@@ -1,5 +1,5 @@
 -- What the places lead to: each key's last change, and the last one that passes a test.
-use Rattle.std.proofs.Common.{◌≡◌, ℕ, zero, suc, ◌<◌, ◌≤◌, ◌⊎◌, inl, inr, List, [], ◌∷◌, ◌++◌, length, map, take, filter, fold, refl, sym, ap, ◌∙◌, subst, arith, cond, Bool, true, false}
+use Rattle.std.proofs.Common.{◌≡◌, ℕ, zero, suc, ◌<◌, ◌≤◌, inl, inr, List, [], ◌∷◌, ◌++◌, length, take, filter, fold, refl, sym, ap, ◌∙◌, subst, arith, cond, Bool, true, false}
 use Rattle.std.specs.Prelude.{Option, None, Some, slice_get, nat_le}
 use Rattle.std.specs.Option.{option_to_list}
 use Rattle.std.specs.BTreeMap.{BTreeMap, is_at}
@@ -7,7 +7,6 @@ use Rattle.std.specs.Map.{lookup}
 use Rattle.std.proofs.lemmas.Bool.{cases_lt}
 use Rattle.std.proofs.lemmas.Option.{same_Some, none-some, slice_get_within}
 use Rattle.cs_types.specs.declared.Key.{Key}
-use Rattle.cs_types.specs.declared.Value.{Value}
 use Rattle.cs_model.specs.Keys.{key_cmp, same_key}
 use Rattle.cs_model.specs.Changes.{Change, table, last_change, newest, made}
 use Rattle.cs_model.proofs.Tables.{row_is}

@@ -1,6 +1,5 @@
-use Rattle.std.proofs.Common.{◌≡◌, ◌∙◌, sym, ap, List}
-use Rattle.std.specs.Prelude.{is_some, unwrap_or, Option}
-use Rattle.cs_types.specs.declared.Value.{Value}
+use Rattle.std.proofs.Common.{◌∙◌, sym, ap}
+use Rattle.std.specs.Prelude.{is_some, unwrap_or}
 use Rattle.cs_model.specs.Changes.{table}
 use Rattle.cs_model.proofs.Tables.{table_ascends}
 use Rattle.change_list.proofs.Tables.{laid_is, at}

@@ -1,4 +1,4 @@
-use Rattle.std.proofs.Common.{◌≡◌, length, rules, sym, ◌∙◌}
+use Rattle.std.proofs.Common.{◌≡◌, length, rules, ◌∙◌}
 use Rattle.change_list.specs.declared.list.Kept.{Kept}
 use Rattle.change_list.proofs.Walks.{IsIndex-push, AreLinked-push}
 use Rattle.change_list.proofs.list.add.Goals as goal
