@@ -1,7 +1,6 @@
 //! The groups of a query, each with its tallies, found by their cells.
 
-ghost use Rattle.std.specs.Prelude.{◌≡◌, [], IfOk, OnOk, map};
-ghost use Rattle.batch_aggregate.specs.Answers.{group_order};
+ghost use Rattle.std.specs.Prelude.{◌≡◌, [], IfOk, OnOk};
 ghost use Rattle.batch_aggregate.specs.Groups as groups;
 ghost use Rattle.batch_aggregate.specs.Order.{comes_before, in_order, row_cmp};
 ghost use Rattle.batch_aggregate.specs.Standing.{entries_of, with_entry};

@@ -10,7 +10,7 @@ use crate::entries::{Entries, add_row, no_rows};
 use crate::refusal::AnswerRefusal;
 use crate::shown::{grouped_answer, plain_answer};
 use cs_base::{Items, Memory};
-use cs_plans::Query;
+use cs_plans::{Pred, Query};
 use cs_predicate::{Truth, truth};
 use cs_types::{Loose, Row, Schema};
 use std::alloc::Global;
@@ -26,11 +26,11 @@ pub struct Partial<'a> {
     alloc: Global,
 }
 
-/// Whether the filter of a query keeps a row.
-fn keeps(schema: &Schema, query: &Query, row: &Row) -> bool
-    ensures { result ≡ answers.keeps schema.now query.now.filter row.now }
+/// Whether a condition keeps a row of a schema: it is True there, or there is no condition.
+pub fn keeps(schema: &Schema, condition: &Option<Pred>, row: &Row) -> bool
+    ensures { result ≡ answers.keeps schema.now condition.now row.now }
 {
-    match &query.filter {
+    match condition {
         Some(pred) => truth(pred, row, schema) == Truth::True,
         None => true,
     }
@@ -58,7 +58,7 @@ impl<'a> Partial<'a> {
         ensures query { self.new.query.now ≡ self.old.query.now }
         ensures added { (rows : List (List Value)) → StandsFor self.old rows → OnOk result (StandsFor self.new (rows ++ row.now ∷ [])) }
     {
-        if !keeps(self.schema, self.query, row) {
+        if !keeps(self.schema, &self.query.filter, row) {
             return Ok(());
         }
         if self.query.grouped {

@@ -1,8 +1,7 @@
 //! What is counted of the rows of a group for one item.
 
-ghost use Rattle.std.specs.Prelude.{◌≡◌, ◌+◌, if◌then◌else◌, [], IfOk, OnOk, map, Some, None, Ok, Err, slice_get};
+ghost use Rattle.std.specs.Prelude.{◌≡◌, IfOk, OnOk, map};
 ghost use Rattle.cs_types.specs.Rows.{number_in};
-ghost use Rattle.cs_predicate.specs.Cells.{loose_in};
 ghost use Rattle.batch_aggregate.specs.Items as spec;
 ghost use Rattle.batch_aggregate.specs.Standing.{no_tally, with_cell, with_row};
 
