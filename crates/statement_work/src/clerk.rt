@@ -2,7 +2,6 @@
 
 ghost use Rattle.std.specs.Prelude.{◌≡◌, false, true, All, IfOk};
 ghost use Rattle.cs_types.specs.declared.Schema.{Schema};
-ghost use Rattle.cs_types.specs.Schemas.{IsSchema};
 ghost use Rattle.cs_model.specs.declared.entry.Bound.{Bound};
 ghost use Rattle.cs_model.specs.declared.entry.Bound.TheVariants as bound;
 ghost use Rattle.cs_model.specs.Answers.{writes};
