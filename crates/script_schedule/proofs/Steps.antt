@@ -121,3 +121,7 @@ on_ok P Q (Err e) f h = h
 pub on_err : {T E : Type 0} (P Q : Type 0) (r : Result T E) → (P → Q) → OnErr r P → OnErr r Q
 on_err P Q (Ok x) f h = h
 on_err P Q (Err e) f h = f h
+
+pub at_err : {T E : Type 0} (P : Type 0) (r : Result T E) → P → OnErr r P
+at_err P (Ok x) h = tt
+at_err P (Err e) h = h

@@ -156,7 +156,7 @@ module _ (script : Script) (can : IsRunnable script) (session : ℕ) where
       last false h = refl
 
   -- the entries that are left behind these steps, if no other step comes
-  left : Bool → List Entry
+  abbrev left : Bool → List Entry
   left true = Finish session Done ∷ End session ∷ []
   left false = End session ∷ []
 

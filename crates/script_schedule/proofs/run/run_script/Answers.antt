@@ -2,9 +2,9 @@ use Rattle.std.proofs.Common.{◌∙◌, sym, subst}
 use Rattle.cs_types.specs.Schemas.{IsSchema}
 use Rattle.row_laws.specs.Laws.{AreDistinct}
 use Rattle.statement_core.specs.Seats.{seat}
-use Rattle.script_schedule.specs.Running.{AreRunnable}
+use Rattle.script_schedule.specs.Running.{AreRunnable, IsFrontRun}
 use Rattle.script_schedule.proofs.Sessions.{sessions_distinct}
-use Rattle.script_schedule.proofs.Steps.{all_rest, runnable_of, scheduled_of, front_of}
+use Rattle.script_schedule.proofs.Steps.{all_rest, runnable_of, scheduled_of, front_of, at_err}
 use Rattle.script_schedule.proofs.run.run_script.Goals as goal
 
 pub run_steps-requires : goal.run_steps-requires
@@ -29,8 +29,9 @@ returns-clause-scheduled g c =
     c.requires.schema c.as_slice.ensures c.as_slice-2.ensures c.in_ok-run_steps.ensures.ran c.end_sessions.ensures.log
 
 pub returns-in_err-waiting-clause-front : goal.returns-in_err-waiting-clause-front
-returns-in_err-waiting-clause-front g c = (0, c.requires.empty)
+returns-in_err-waiting-clause-front g c = at_err (IsFrontRun c.args.script.now.schema c.args.script.now.lines c.args.core.now.log) c.from_residual.result (0, c.requires.empty)
 
 pub returns-in_err-run_steps-clause-front : goal.returns-in_err-run_steps-clause-front
 returns-in_err-run_steps-clause-front g c =
-    front_of c.args.script.now c.args.core.now.schema c.as_slice.result.now c.run_steps.new.core.log c.requires.schema c.as_slice.ensures c.in_err-run_steps.ensures.front
+    at_err (IsFrontRun c.args.script.now.schema c.args.script.now.lines c.run_steps.new.core.log) c.from_residual-in_err-run_steps.result
+    (front_of c.args.script.now c.args.core.now.schema c.as_slice.result.now c.run_steps.new.core.log c.requires.schema c.as_slice.ensures c.in_err-run_steps.ensures.front)

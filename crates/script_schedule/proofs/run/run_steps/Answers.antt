@@ -3,8 +3,8 @@ use Rattle.cs_types.specs.Schemas.{IsSchema}
 use Rattle.script_reader.specs.Scripts.{session_of}
 use Rattle.script_reader.specs.Schedule.{ArePieces}
 use Rattle.statement_core.specs.Seats.{seat}
-use Rattle.script_schedule.specs.Running.{Waits}
-use Rattle.script_schedule.proofs.Steps.{running_first, next_at, step_more}
+use Rattle.script_schedule.specs.Running.{Waits, IsFrontRun}
+use Rattle.script_schedule.proofs.Steps.{running_first, next_at, step_more, at_err}
 use Rattle.script_schedule.proofs.run.run_steps.Goals as goal
 
 pub loop-step-init : goal.loop-step-init
@@ -40,4 +40,5 @@ loop-step-preserved g c =
 
 pub returns-in_err-run_step-clause-front : goal.returns-in_err-run_step-clause-front
 returns-in_err-run_step-clause-front g c =
+    at_err (IsFrontRun c.args.core.now.schema c.args.steps.now c.run_step.new.core.log) c.from_residual.result
     (c.loop-step.step-index, subst (λ log. ArePieces c.args.core.now.schema (take c.loop-step.step-index c.args.steps.now) log) (sym c.in_err-run_step.ensures.err) c.loop-step.invariant.running.pieces)
