@@ -1,5 +1,5 @@
 // Runs the steps of a script.
-ghost use Rattle.std.specs.Prelude.{◌≡◌, ◌≤◌, ◌<◌, ◌++◌, ◌∷◌, [], ℕ, List, All, map, length, Contains, OnOk, OnErr, IfOk, true, false, None};
+ghost use Rattle.std.specs.Prelude.{◌≡◌, ◌≤◌, ◌<◌, ◌++◌, ◌∷◌, [], ℕ, List, map, length, Contains, OnOk, OnErr, true, false};
 ghost use Rattle.cs_types.specs.Schemas.{IsSchema};
 ghost use Rattle.cs_model.specs.declared.entry.Entry.{Entry};
 ghost use Rattle.cs_model.specs.declared.entry.Entry.TheVariants.{End};
@@ -7,9 +7,9 @@ ghost use Rattle.cs_model.specs.Actors.{entries_of, is_begun, has_ended};
 ghost use Rattle.row_laws.specs.Laws.{AreDistinct};
 ghost use Rattle.script_reader.specs.Schedule.{IsBound, IsStart, IsFinishOf, IsPiece, Scheduled};
 ghost use Rattle.script_reader.specs.Scripts.{session_of, text_of, IsRunnable};
+ghost use Rattle.statement_core.specs.Fit.{IsReady};
 ghost use Rattle.statement_core.specs.Seats.{seat};
 ghost use Rattle.script_schedule.specs.Running.{Waits, Running, AreRunnable, IsFrontRun, finishes};
-ghost use Rattle.statement_core.specs.Fit.{IsReady};
 ghost use Rattle.script_schedule.specs.Logs.{IsLogOf, IsFrontLogOf};
 
 use cs_base::Memory;
