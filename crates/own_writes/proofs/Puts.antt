@@ -24,10 +24,10 @@ key_is a b e = let n = int_cmp-IsAntisymmetric a.0 b.0 e in λ i. record { 0 = n
 tied : (a b : Key) → a ≡ b → key_cmp a b ≡ Equal
 tied a b e = subst (λ (k : Key). key_cmp a k ≡ Equal) e (tied_itself key_total a)
 
-greater : (a b : Key) → key_cmp b a ≡ Less → key_cmp a b ≡ Greater
+pub greater : (a b : Key) → key_cmp b a ≡ Less → key_cmp a b ≡ Greater
 greater a b e = key_total.antisymm a b ∙ ap ordering_reverse e
 
-less : (a b : Key) → key_cmp b a ≡ Greater → key_cmp a b ≡ Less
+pub less : (a b : Key) → key_cmp b a ≡ Greater → key_cmp a b ≡ Less
 less a b e = key_total.antisymm a b ∙ ap ordering_reverse e
 
 sorted : (writes : List Write) → Ascend writes → IsSortedBy (λ (a b : Write). is_lt (key_cmp a.key b.key)) writes
@@ -52,10 +52,10 @@ module _ (writes : List Write) (up : Ascend writes) (key : Key) where
 abbrev pub Rises : Write → Write → Type 0
 Rises a b = key_cmp a.key b.key ≡ Less
 
-tail : (v : Write) (vs : List Write) → Ascend (v ∷ vs) → Ascend vs
+pub tail : (v : Write) (vs : List Write) → Ascend (v ∷ vs) → Ascend vs
 tail v vs up i j d l there = up (suc i) (suc j) d (omega arith) (omega arith)
 
-head : (v : Write) (vs : List Write) → Ascend (v ∷ vs) → All (λ (w : Write). key_cmp v.key w.key ≡ Less) vs
+pub head : (v : Write) (vs : List Write) → Ascend (v ∷ vs) → All (λ (w : Write). key_cmp v.key w.key ≡ Less) vs
 head v vs up k d l = up 0 (suc k) d (omega arith) (omega arith)
 
 -- where the key has a write, it is replaced
@@ -86,7 +86,7 @@ all_cons : (P : Write → Type 0) (v : Write) (vs : List Write) → P v → All 
 all_cons P v vs p ps zero d l = p
 all_cons P v vs p ps (suc k) d l = ps k d (omega arith)
 
-all_tail : (P : Write → Type 0) (v : Write) (vs : List Write) → All P (v ∷ vs) → All P vs
+pub all_tail : (P : Write → Type 0) (v : Write) (vs : List Write) → All P (v ∷ vs) → All P vs
 all_tail P v vs ps k d l = ps (suc k) d (omega arith)
 
 all_none : (P : Write → Type 0) → All P []

@@ -1,9 +1,9 @@
 -- Writes in the order of their keys.
-use Rattle.std.specs.Prelude.{◌≡◌, ◌≢◌, ℕ, ◌<◌, ◌≤◌, List, [], ◌∷◌, length, fold, slice_index_or, All, AllPairs, Option, None, Some}
+use Rattle.std.specs.Prelude.{◌≡◌, ◌≢◌, ℕ, ◌<◌, ◌≤◌, List, [], ◌∷◌, length, fold, slice_index_or, All, AllPairs, Bool, false, if◌then◌else◌, Option, None, Some}
 use Rattle.std.specs.declared.cmp.Ordering.{Ordering}
 use Rattle.std.specs.declared.cmp.Ordering.TheVariants.{Less, Equal, Greater}
 use Rattle.std.specs.List.{HoldsAt}
-use Rattle.std.specs.Ordering.{int_cmp, match_ordering}
+use Rattle.std.specs.Ordering.{int_cmp, is_eq, is_lt, match_ordering}
 use Rattle.cs_types.specs.declared.Key.{Key}
 use Rattle.own_writes.specs.declared.write.Write.{Write}
 
@@ -23,6 +23,20 @@ put (other ∷ writes) write = match_ordering (key_cmp write.key other.key) (wri
 -- the own writes with more laid over them; the last for a key stands
 abbrev pub staged : List Write → List Write → List Write
 staged own writes = fold put own writes
+
+-- the first write has a smaller key; the first write is of the key
+abbrev pub is_front_below : List Write → Key → Bool
+is_front_below [] key = false
+is_front_below (write ∷ writes) key = is_lt (key_cmp write.key key)
+
+abbrev pub is_front_of : List Write → Key → Bool
+is_front_of [] key = false
+is_front_of (write ∷ writes) key = is_eq (key_cmp write.key key)
+
+-- without the first write, where it is of the key
+abbrev pub without_front : List Write → Key → List Write
+without_front [] key = []
+without_front (write ∷ writes) key = if is_eq (key_cmp write.key key) then writes else write ∷ writes
 
 -- the key's write stands at this place
 pub record IsFoundAt (writes : List Write) (key : Key) (i : ℕ) : Type 0 where

@@ -6,6 +6,7 @@
 #![tactic(auto)]
 
 mod list;
+mod merge;
 mod own;
 mod write;
 

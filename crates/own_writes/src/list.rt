@@ -2,11 +2,13 @@
 ghost use Rattle.std.specs.Prelude.{◌≡◌, ◌+◌, ◌<◌, ◌≤◌, IfOk, IfErr, OnOk, OnErr, vec_len, vec_capacity, length};
 ghost use Rattle.own_writes.specs.Writes.{Ascend, IsFoundAt, IsGapFor, IsPlaceOf, put, staged};
 
+use crate::merge::lay_all;
 use crate::write::Write;
 use cs_base::Memory;
 use cs_types::Key;
 use std::alloc::Global;
 use std::marker::Model;
+use std::mem;
 
 /// Writes in the order of their keys, one for each key. Contracts see the list of them.
 #[derive(Debug, Drop)]
@@ -56,9 +58,27 @@ impl Writes {
         ensures ok { OnOk result (self.new ≡ staged self.old writes.items) }
         ensures err { OnErr result (self.new ≡ self.old) }
     {
-        self.items.reserve(writes.len())?;
-        put_all(&mut self.items, writes);
+        if is_put_each(&self.items, &writes) {
+            self.items.reserve(writes.len())?;
+            put_all(&mut self.items, writes);
+        } else {
+            let alloc = *self.items.allocator();
+            let room = Vec::with_capacity(alloc, self.items.len() + writes.len())?;
+            let own = mem::replace(&mut self.items, room);
+            lay_all(&mut self.items, own, writes);
+        }
         Ok(())
+    }
+}
+
+/// So many writes are put each in its place.
+const FEW: usize = 8;
+
+/// Whether it is faster to put each write in its place than to go over the whole list: they are few, or they follow it.
+fn is_put_each(own: &[Write], writes: &[Write]) -> bool {
+    match (own.last(), writes.first()) {
+        (Some(last), Some(first)) => writes.len() <= FEW || last.key < first.key,
+        _ => true,
     }
 }
 
@@ -82,7 +102,7 @@ pub fn search(items: &[Write], key: Key) -> Result<usize, usize>
 }
 
 /// Puts a write in its place. There is room for it.
-fn put_one(items: &mut Vec<Write>, write: Write)
+pub fn put_one(items: &mut Vec<Write>, write: Write)
     requires order { Ascend items.old.items }
     requires room { vec_len items.old < vec_capacity items.old }
     ensures items { items.new.items ≡ put items.old.items write }
