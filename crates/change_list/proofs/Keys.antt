@@ -1,5 +1,5 @@
 -- Keys: their order tells all of them apart.
-use Rattle.std.proofs.Common.{◌≡◌, true, ap}
+use Rattle.std.proofs.Common.{◌≡◌, true}
 use Rattle.std.specs.Cmp.{IsTotalOrder, Equal-is}
 use Rattle.std.proofs.lemmas.Cmp.{int_cmp_total, on_total}
 use Rattle.std.proofs.lemmas.Map.Lookups.{CmpEqualImpliesEq, exact_signed}

@@ -2,3 +2,5 @@ pub mod Keys
 pub mod Lists
 pub mod Walks
 pub mod Tables
+pub mod Places
+pub mod Rows

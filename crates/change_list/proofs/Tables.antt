@@ -1,26 +1,26 @@
 -- Tables: what edits make of them, and when two of them are one.
-use Rattle.std.proofs.Common.{◌≡◌, ℕ, suc, ◌<◌, length, List, [], ◌∷◌, ◌++◌, map, filter, refl, sym, ap, ◌∙◌, subst, cond, Bool, true, false, ◌||◌, All, arith}
-use Rattle.std.specs.Prelude.{Option, None, Some, unwrap_or, is_some, IfSome, nat_le}
+use Rattle.std.proofs.Common.{◌≡◌, List, [], ◌∷◌, ◌++◌, map, refl, sym, ap, ◌∙◌, subst, cond, Bool, true, false, ◌||◌}
+use Rattle.std.specs.Prelude.{Option, None, Some, unwrap_or, is_some}
 use Rattle.std.specs.List.{list_any, AllByRecursion}
-use Rattle.std.specs.Ordering.{match_ordering, ordering_reverse, eq_by_cmp}
-use Rattle.std.specs.declared.cmp.Ordering.TheVariants.{Less, Greater}
-use Rattle.std.specs.BTreeMap.{BTreeMap, is_at, insert_entry}
-use Rattle.std.specs.Map.{keys_of, values_of, lookup}
+use Rattle.std.specs.Ordering.{match_ordering, ordering_reverse, eq_by_cmp, is_eq}
+use Rattle.std.specs.declared.cmp.Ordering.{Ordering}
+use Rattle.std.specs.declared.cmp.Ordering.TheVariants.{Less, Equal, Greater}
+use Rattle.std.specs.BTreeMap.{is_at, insert_entry}
+use Rattle.std.specs.Map.{keys_of, lookup}
 use Rattle.std.specs.List.Sorted.{IsStrictlySortedBy}
-use Rattle.std.proofs.lemmas.Cmp.{eq_by_cmp_equiv}
+use Rattle.std.proofs.lemmas.Cmp.{eq_by_cmp_equiv, tied_itself}
 use Rattle.std.proofs.lemmas.List.{append-nil, append_assoc}
-use Rattle.std.proofs.lemmas.List.Elements.{All-nil, All-map, All-filter}
 use Rattle.std.proofs.lemmas.Map.{lookup-none}
-use Rattle.std.proofs.lemmas.Map.Entries.{none_past_head}
+use Rattle.std.proofs.lemmas.Map.Entries.{none_past_head, none_below_head}
 use Rattle.std.proofs.lemmas.Map.Keys.{sorted_tail, IsDistinct-from_sorted}
-use Rattle.std.proofs.lemmas.Map.Views.{All-values-insert_entry, All-map-remove_entry}
+use Rattle.std.proofs.lemmas.Option.{none-some, same_Some}
 use Rattle.cs_types.specs.declared.Key.{Key}
 use Rattle.cs_types.specs.declared.Value.{Value}
 use Rattle.cs_model.specs.Keys.{key_cmp, same_key}
-use Rattle.cs_model.specs.Changes.{Edit, Table, Change, edited, laid, until, table}
+use Rattle.cs_model.specs.Changes.{Edit, Table, Change, edited, laid, until}
 use Rattle.cs_model.specs.Steps.{numbered}
 use Rattle.cs_model.proofs.Tables.{table_ascends, edited_is}
-use Rattle.change_list.proofs.Keys.{key_total, one_key}
+use Rattle.change_list.proofs.Keys.{key_total, exact_key, one_key}
 
 abbrev pub Ascends : {X : Type 0} → List (Key × X) → Type 0
 Ascends es = IsStrictlySortedBy key_cmp (keys_of es)
@@ -78,6 +78,11 @@ edited_ascends t edit sorted =
 edited_key : (key : Key) (t : Table) (edit : Edit) → Ascends t → at key (edited t edit) ≡ cond (same_key key edit.0) edit.1 (at key t)
 edited_key key t edit sorted = edited_is key edit.0 edit.1 t sorted
 
+-- no later key is one that the first is
+past : {X : Type 0} (q : Key) (e : Key × X) (es : List (Key × X)) → Ascends (e ∷ es) → same_key q e.0 ≡ true → at q es ≡ None
+past q e es up s =
+    lookup-none (is_at (key_cmp q)) es (none_past_head {eq = eq_by_cmp key_cmp} (eq_by_cmp_equiv key_total) q e es (IsDistinct-from_sorted key_cmp (keys_of (e ∷ es)) up) s)
+
 pub laid_is : (key : Key) (edits : List Edit) (t : Table) → Ascends t → Ascends edits → at key (laid t edits) ≡ unwrap_or (at key edits) (at key t)
 laid_is key [] t sorted apart = refl
 laid_is key (edit ∷ edits) t sorted apart =
@@ -85,10 +90,7 @@ laid_is key (edit ∷ edits) t sorted apart =
     ∙ ap (unwrap_or (at key edits)) (edited_key key t edit sorted) ∙ by (same_key key edit.0) refl
   where
     by : (b : Bool) → same_key key edit.0 ≡ b → unwrap_or (at key edits) (cond b edit.1 (at key t)) ≡ unwrap_or (cond b (Some edit.1) (at key edits)) (at key t)
-    by true e =
-        ap (λ o. unwrap_or o edit.1)
-        (lookup-none (is_at (key_cmp key)) edits
-         (none_past_head {eq = eq_by_cmp key_cmp} (eq_by_cmp_equiv key_total) key edit edits (IsDistinct-from_sorted key_cmp (keys_of (edit ∷ edits)) apart) e))
+    by true e = ap (λ o. unwrap_or o edit.1) (past key edit edits apart e)
     by false e = refl
 
 -- ---- the rows of a table at a list of keys
@@ -146,31 +148,45 @@ module _ (t : Table) where
       by true e = comes_right q keys [] (laid_ascends []) e refl
       by false e = stays_right q keys [] (laid_ascends []) (sym (none q e))
 
+-- two tables with the same rows are one
+here : (e : Key × List Value) (es : Table) → at e.0 (e ∷ es) ≡ Some e.1
+here e es = ap (λ r. cond (is_eq r) (Some e.1) (at e.0 es)) (tied_itself key_total e.0)
+
+below : (q : Key) (e : Key × List Value) (es : Table) → Ascends (e ∷ es) → key_cmp q e.0 ≡ Less → at q (e ∷ es) ≡ None
+below q e es up less = lookup-none (is_at (key_cmp q)) (e ∷ es) (none_below_head key_total q e es up less)
+
+tails : (e f : Key × List Value) (es fs : Table) → Ascends (e ∷ es) → Ascends (f ∷ fs) → e.0 ≡ f.0 → ((q : Key) → at q (e ∷ es) ≡ at q (f ∷ fs)) → (q : Key) → at q es ≡ at q fs
+tails e f es fs up up' is rows q = by (same_key q e.0) refl
+  where
+    by : (b : Bool) → same_key q e.0 ≡ b → at q es ≡ at q fs
+    by true s = past q e es up s ∙ sym (past q f fs up' (ap (same_key q) (sym is) ∙ s))
+    by false s = sym (ap (λ b. cond b (Some e.1) (at q es)) s) ∙ rows q ∙ ap (λ b. cond b (Some f.1) (at q fs)) (ap (same_key q) (sym is) ∙ s)
+
+joined : (e f : Key × List Value) (es fs : Table) → Ascends (e ∷ es) → Ascends (f ∷ fs) → ((q : Key) → at q (e ∷ es) ≡ at q (f ∷ fs)) → (((q : Key) → at q es ≡ at q fs) → es ≡ fs)
+    → (r : Ordering) → key_cmp e.0 f.0 ≡ r → e ∷ es ≡ f ∷ fs
+joined e f es fs up up' rows rest Less r = absurd (none-some e.1 (sym (below e.0 f fs up' r) ∙ sym (rows e.0) ∙ here e es))
+joined e f es fs up up' rows rest Equal r =
+    let is : e.0 ≡ f.0 = exact_key e.0 f.0 r in
+    let row : e.1 ≡ f.1 = same_Some e.1 f.1 (sym (here e es) ∙ rows e.0 ∙ ap (λ q. at q (f ∷ fs)) is ∙ here f fs) in
+    let others = rest (tails e f es fs up up' is rows) in
+    λ i. (is i, row i) ∷ others i
+joined e f es fs up up' rows rest Greater r =
+    absurd (none-some f.1 (sym (below f.0 e es up (key_total.antisymm f.0 e.0 ∙ ap ordering_reverse r)) ∙ rows f.0 ∙ here f fs))
+
+same_tables : (s t : Table) → Ascends s → Ascends t → ((q : Key) → at q s ≡ at q t) → s ≡ t
+same_tables [] [] up up' rows = refl
+same_tables [] (f ∷ fs) up up' rows = absurd (none-some f.1 (rows f.0 ∙ here f fs))
+same_tables (e ∷ es) [] up up' rows = absurd (none-some e.1 (sym (rows e.0) ∙ here e es))
+same_tables (e ∷ es) (f ∷ fs) up up' rows =
+    joined e f es fs up up' rows (same_tables es fs (sorted_tail key_cmp e.0 (keys_of es) up) (sorted_tail key_cmp f.0 (keys_of fs) up')) (key_cmp e.0 f.0) refl
+
+pub rows_whole : (t : Table) (keys : List Key) → Ascends t → ((q : Key) → list_any (same_key q) keys ≡ false → at q t ≡ None) → laid [] (rows_of t keys) ≡ t
+rows_whole t keys up none = same_tables (laid [] (rows_of t keys)) t (laid_ascends (rows_of t keys)) up (all_right t keys none)
+
 pub any_key : {X : Type 0} (q : Key) (es : List (Key × X)) → list_any (same_key q) (keys_of es) ≡ is_some (at q es)
 any_key q [] = refl
-any_key q (e ∷ es) = by (same_key q e.0)
+any_key q (e ∷ es) = by (same_key q e.0) (any_key q es)
   where
-    by : (b : Bool) → (b || list_any (same_key q) (keys_of es)) ≡ is_some (cond b (Some e.1) (at q es))
-    by true = refl
-    by false = any_key q es
-
--- ---- what holds of each row that is written holds of each row that is there
-
-module _ (P : List Value → Type 0) where
-  edited_all : (t : Table) (key : Key) (row : Option (List Value)) → All P (values_of t) → IfSome row P → All P (values_of (edited t (key, row)))
-  edited_all t key None all h = All-map-remove_entry (is_at (key_cmp key)) (λ (e : Key × List Value). e.1) P t all
-  edited_all t key (Some row) all h = All-values-insert_entry key_cmp key row P t all h
-
-  pub laid_all : (edits : List Edit) (t : Table) → All P (values_of t) → All (λ row. IfSome row P) (values_of edits) → All P (values_of (laid t edits))
-  laid_all [] t all each = all
-  laid_all (edit ∷ edits) t all each = laid_all edits (edited t edit) (edited_all t edit.0 edit.1 all (each 0 edit.1 (omega arith))) (λ k d lt. each (suc k) d (omega arith))
-
-  values_are : (changes : List Change) → values_of (map (λ (change : Change). change.edit) changes) ≡ map (λ (change : Change). change.edit.1) changes
-  values_are [] = refl
-  values_are (change ∷ changes) = ap (λ rows. change.edit.1 ∷ rows) (values_are changes)
-
-  pub table_all : (changes : List Change) (s : ℕ) → All (λ (change : Change). IfSome change.edit.1 P) changes → All P (values_of (table changes s))
-  table_all changes s all =
-      laid_all (map (λ (change : Change). change.edit) (until s changes)) [] (All-nil P)
-      (subst (All (λ row. IfSome row P)) (sym (values_are (until s changes)))
-       (All-map (λ row. IfSome row P) (λ (change : Change). change.edit.1) (until s changes) (All-filter (λ (change : Change). nat_le change.commit s) (λ (change : Change). IfSome change.edit.1 P) changes all)))
+    by : (b : Bool) → list_any (same_key q) (keys_of es) ≡ is_some (at q es) → (b || list_any (same_key q) (keys_of es)) ≡ is_some (cond b (Some e.1) (at q es))
+    by true rest = refl
+    by false rest = rest

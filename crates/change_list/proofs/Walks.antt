@@ -1,5 +1,5 @@
 -- What the places lead to: each key's last change, and the last one that passes a test.
-use Rattle.std.proofs.Common.{◌≡◌, ℕ, zero, suc, ◌<◌, ◌≤◌, List, [], ◌∷◌, ◌++◌, length, map, take, filter, fold, refl, sym, ap, ◌∙◌, subst, arith, cond, Bool, true, false}
+use Rattle.std.proofs.Common.{◌≡◌, ℕ, zero, suc, ◌<◌, ◌≤◌, inl, inr, List, [], ◌∷◌, ◌++◌, length, take, filter, fold, refl, sym, ap, ◌∙◌, subst, arith, cond, Bool, true, false}
 use Rattle.std.specs.Prelude.{Option, None, Some, slice_get, nat_le}
 use Rattle.std.specs.Option.{option_to_list}
 use Rattle.std.specs.BTreeMap.{BTreeMap, is_at}
@@ -7,7 +7,6 @@ use Rattle.std.specs.Map.{lookup}
 use Rattle.std.proofs.lemmas.Bool.{cases_lt}
 use Rattle.std.proofs.lemmas.Option.{same_Some, none-some, slice_get_within}
 use Rattle.cs_types.specs.declared.Key.{Key}
-use Rattle.cs_types.specs.declared.Value.{Value}
 use Rattle.cs_model.specs.Keys.{key_cmp, same_key}
 use Rattle.cs_model.specs.Changes.{Change, table, last_change, newest, made}
 use Rattle.cs_model.proofs.Tables.{row_is}
@@ -157,26 +156,28 @@ pub walk_begins : (key : Key) (s : ℕ) (list : List Kept) (at : Option ℕ) →
 walk_begins key s list at e = (length list, e, seen_all key (is_until s) list)
 
 pub walk_within : (key : Key) (s : ℕ) (list : List Kept) (place : ℕ) (at : Option ℕ) → at ≡ Some place → IsWalk key s list at → place < length list
-walk_within key s list place at e w = within key list w.0 place (sym w.1.0 ∙ e)
+walk_within key s list place at e w = within key list w.0 place (sym w.1 ∙ e)
 
 pub walk_ends : (key : Key) (s : ℕ) (list : List Kept) (at : Option ℕ) → at ≡ None → IsWalk key s list at → None ≡ lookup (is_at (key_cmp key)) (table (changes_of list) s)
 walk_ends key s list at e w =
-    sym (row_is (changes_of list) s key ∙ ap made (sym w.1.1 ∙ walk_none key (is_until s) list w.0 (sym w.1.0 ∙ e)))
+    sym (row_is (changes_of list) s key ∙ ap made (sym w.2 ∙ walk_none key (is_until s) list w.0 (sym w.1 ∙ e)))
 
 pub walk_finds : (key : Key) (s : ℕ) (list : List Kept) (at : Option ℕ) (place : ℕ) (kept : Kept) → at ≡ Some place → slice_get list place ≡ Some kept → nat_le kept.commit s ≡ true → IsWalk key s list at
     → kept.row ≡ lookup (is_at (key_cmp key)) (table (changes_of list) s)
 walk_finds key s list at place kept e g t w =
     sym
     (row_is (changes_of list) s key
-     ∙ ap made
-       (sym w.1.1 ∙ walk key (is_until s) list w.0 place kept (sym w.1.0 ∙ e) g ∙ ap (λ b. cond b (Some (change_of kept)) (seen key (is_until s) list place)) t))
+    ∙ ap made
+    (sym w.2 ∙ walk key (is_until s) list w.0 place kept (sym w.1 ∙ e) g ∙ ap (λ b. cond b (Some (change_of kept)) (seen key (is_until s) list place)) t))
 
 pub walk_goes_on : (key : Key) (s : ℕ) (list : List Kept) (at : Option ℕ) (place : ℕ) (kept : Kept) → at ≡ Some place → slice_get list place ≡ Some kept → nat_le kept.commit s ≡ false → AreLinked list → IsWalk key s list at
     → IsWalk key s list kept.previous
 walk_goes_on key s list at place kept e g t are w =
-    let is : key ≡ kept.key = one_key key kept.key (ap (is_of key) (sym g) ∙ (placed key list w.0 place (sym w.1.0 ∙ e)).1) in
-    (place, are place kept g ∙ ap (λ k. last_place k list place) (sym is),
-     ap (λ b. cond b (Some (change_of kept)) (seen key (is_until s) list place)) (sym t) ∙ sym (walk key (is_until s) list w.0 place kept (sym w.1.0 ∙ e) g) ∙ w.1.1)
+    let is : key ≡ kept.key = one_key key kept.key (ap (is_of key) (sym g) ∙ (placed key list w.0 place (sym w.1 ∙ e)).1) in (
+      place,
+      are place kept g ∙ ap (λ k. last_place k list place) (sym is),
+      ap (λ b. cond b (Some (change_of kept)) (seen key (is_until s) list place)) (sym t) ∙ sym (walk key (is_until s) list w.0 place kept (sym w.1 ∙ e) g) ∙ w.2,
+    )
 
 -- the walk goes to lower places
 abbrev pub steps_left : Option ℕ → ℕ

@@ -111,6 +111,10 @@ ghost use Rattle.cs_model.specs.Obstacles.{has_row};
 pub fn has_row_over(changes: &Changes, own: &Own, key: Key, s: u64) -> bool
     ensures { result ≡ has_row (laid (table changes.now s) own.now.entries) key }
 {
+    // a transaction that has written nothing reads its snapshot alone
+    if own.len() == 0 {
+        return changes.has_row_at(key, s);
+    }
     match own.get(&key) {
         Some(row) => row.is_some(),
         None => changes.has_row_at(key, s),

@@ -13,6 +13,9 @@ mod list;
 mod overlay;
 
 pub use changes::{Changes, has_row_over};
-pub use laws::laid_by_edits;
+pub use laws::{laid_by_edits, rows_by_edits};
 pub use list::Own;
 pub use overlay::{Rows, lay};
+
+#[cfg(test)]
+mod tests;

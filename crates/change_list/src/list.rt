@@ -87,14 +87,7 @@ fn renew(index: &mut Index, key: Key, place: usize) -> Option<usize>
 }
 
 /// Adds a change, for which there is room.
-fn add(
-    list: &mut Vec<Kept>,
-    index: &mut Index,
-    commit: u64,
-    txn: u64,
-    key: Key,
-    row: Option<Row>,
-)
+fn add(list: &mut Vec<Kept>, index: &mut Index, commit: u64, txn: u64, key: Key, row: Option<Row>)
     requires room { vec_len list.old < vec_capacity list.old }
     requires key { IsSome (get key_cmp index.old key) }
     requires indexed { IsIndex index.old list.old.items }

@@ -6,7 +6,7 @@ use Rattle.cs_model.specs.declared.entry.Entry.{Entry}
 use Rattle.cs_model.specs.Text.{text}
 use Rattle.script_reader.specs.declared.script.Script.{Script}
 use Rattle.script_reader.specs.Scripts.{IsScript, IsBadLine}
-use Rattle.statement_core.specs.Logs.{IsLogOf, IsFrontLogOf}
+use Rattle.script_schedule.specs.Logs.{IsLogOf, IsFrontLogOf}
 use Rattle.columnstore.specs.declared.status.Status.{Status}
 use Rattle.columnstore.specs.declared.status.Status.TheVariants as status
 

@@ -1,15 +1,20 @@
 // What is to be written for an input.
-ghost use Rattle.std.specs.Prelude.{◌≡◌, ◌++◌, IfOk, OnOk};
+ghost use Rattle.std.specs.Prelude.{◌≡◌, ◌++◌, List, IfOk, OnOk};
+ghost use Rattle.cs_model.specs.declared.entry.Entry.{Entry};
+ghost use Rattle.cs_model.specs.Text.{text};
 ghost use Rattle.script_reader.specs.declared.script.Script.{Script};
-ghost use Rattle.script_reader.specs.Scripts.{IsScript};
+ghost use Rattle.script_reader.specs.Scripts.{IsScript, IsRunnable};
+ghost use Rattle.script_schedule.specs.Logs.{IsLogOf};
 ghost use Rattle.columnstore.specs.Outcome.{IsAnswered, setup_error_text, bad_line_text};
 
 use crate::status::Status;
 use cs_base::Memory;
 use cs_model::print_log;
 use cs_types::Line;
-use script_reader::{ScriptRefusal, read_script};
-use statement_core::run_schedule;
+use script_reader::{Script, ScriptRefusal, read_script};
+use script_schedule::run_schedule;
+use statement_core::Core;
+use statement_work::Clerk;
 use std::alloc::Global;
 
 /// Adds the number of a refused setup statement.
@@ -37,6 +42,17 @@ fn bad_line(alloc: Global, line: u64, reason: u32, number: u32) -> Result<Line, 
     Ok(text)
 }
 
+/// The text of the log of a run of a script.
+fn run(alloc: Global, script: &Script) -> Result<Line, Memory>
+    requires { IsRunnable script.now }
+    ensures { IfOk result (λ line. (log : List Entry) × IsLogOf script.now log × (line ≡ text script.now.schema log)) }
+{
+    let schema = script.schema.copy()?;
+    let mut core = Core::new(alloc, schema, script.sessions.as_slice())?;
+    run_schedule(alloc, &mut core, script, &Clerk)?;
+    print_log(alloc, core.schema(), core.log())
+}
+
 /// The whole text that is to be written for an input, and the status that goes with it.
 pub fn answer(alloc: Global, bytes: &[u8]) -> Result<(Status, Line), Memory>
     ensures answered { IfOk result (λ a. IsAnswered bytes.now a.0 a.1) }
@@ -45,8 +61,7 @@ pub fn answer(alloc: Global, bytes: &[u8]) -> Result<(Status, Line), Memory>
 {
     match read_script(alloc, bytes) {
         Ok(script) => {
-            let log = run_schedule(alloc, &script)?;
-            let text = print_log(alloc, &script.schema, log.as_slice())?;
+            let text = run(alloc, &script)?;
             Ok((Status::Done, text))
         }
         Err(

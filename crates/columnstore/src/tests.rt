@@ -1,8 +1,21 @@
-// The program over a source and a sink in memory. The expected texts are worked by hand.
+// The program over a source and a sink in memory. The expected texts are worked by hand or by a plain model of the
+// language, and none is the program's own.
+mod conditions;
+mod decimals;
+mod extremes;
+mod groups;
+mod orders;
+mod patterns;
+mod ranges;
+mod sums;
+mod truths;
+mod writes;
+
 use crate::status::Status;
 use crate::top::columnstore;
 use cs_outside::{MemorySink, MemorySource};
 use std::alloc::Global;
+use std::process::Abort;
 use std::test::Fail;
 
 /// The setup line of the table t.
@@ -26,7 +39,7 @@ fn run(
 ) -> Result<(Status, Vec<u8>), Fail> {
     let words = vec![in alloc; String::from_str(alloc, word)?]?;
     let mut source = MemorySource::new(input.to_vec(alloc)?, vec![in alloc; failing_read]?);
-    let mut sink = MemorySink::new(alloc, 4_000, vec![in alloc; failing_write]?)?;
+    let mut sink = MemorySink::new(alloc, 40_000, vec![in alloc; failing_write]?)?;
     let status = columnstore(alloc, words.as_slice(), &mut source, &mut sink);
     Ok((status, sink.held().to_vec(alloc)?))
 }
@@ -248,6 +261,71 @@ fn refuses_a_script_that_is_too_long(rt: HostRuntime) -> Result<(), Fail> {
         )?;
         assert_eq!(rt; ended, status);
         assert_eq!(rt; held.as_slice(), text.as_bytes());
+    }
+    Ok(())
+}
+
+/// A setup line, and statements that run one after the other, each with its reply.
+type Case = (&'static str, &'static [(&'static str, &'static str)]);
+
+/// Conditions, queries and writes over the values of every type.
+const CASES: [Case; 23] = [
+    conditions::COMPARISONS,
+    conditions::TYPES,
+    conditions::BETWEENS,
+    conditions::LISTS,
+    ranges::RANGES,
+    ranges::NULLS,
+    patterns::PATTERNS,
+    truths::TRUTHS,
+    truths::CHAINS,
+    decimals::SCALES,
+    decimals::ROUNDING,
+    decimals::WIDE,
+    sums::SUMS,
+    sums::PLACES,
+    sums::AVERAGES,
+    extremes::EXTREMES,
+    groups::GROUPS,
+    groups::ORDERS,
+    orders::SORTED,
+    orders::DAYS,
+    writes::UPDATES,
+    writes::DELETES,
+    writes::CHANGES,
+];
+
+/// Runs the setup line and the statements as one script, and compares the log with the one that the replies make.
+fn check_replies(
+    rt: &impl Abort,
+    alloc: Global,
+    setup: &str,
+    cases: &[(&str, &str)],
+) -> Result<(), Fail> {
+    let mut script = format!(in alloc; "{setup}\n")?;
+    let mut log = String::new(alloc);
+    let mut event = 1u64;
+    let mut place = 1u64;
+    for (statement, reply) in cases {
+        let second = event.saturating_add(1);
+        script.push_str(format!(in alloc; "s1 {statement}\n")?.as_str())?;
+        log.push_str(format!(in alloc;
+            "{event} s1.{place} >\n{second} s1.{place} < {reply}\n"
+        )?.as_str())?;
+        event = second.saturating_add(1);
+        place = place.saturating_add(1);
+    }
+    log.push_str(format!(in alloc; "{event} s1 end\n")?.as_str())?;
+    let (status, held) = run(alloc, "replay", script.as_bytes(), 0, 0)?;
+    assert_eq!(rt; status, Status::Done);
+    assert_eq!(rt; held.as_slice(), log.as_bytes(), "{setup}");
+    Ok(())
+}
+
+#[test]
+fn replies(rt: HostRuntime) -> Result<(), Fail> {
+    for (setup, cases) in CASES {
+        check_replies(&rt, rt.alloc(), setup, cases)?;
     }
     Ok(())
 }

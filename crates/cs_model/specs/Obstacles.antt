@@ -1,5 +1,5 @@
 -- Why a write is refused: its least key that has an obstacle.
-use Rattle.std.specs.Prelude.{◌≡◌, ℕ, ◌≢◌, ◌⊎◌, ◌==◌, List, map, nat_lt, count_by, All, Contains, Bool, true, false, ◌||◌, is_some, Option, None, Some}
+use Rattle.std.specs.Prelude.{◌≡◌, ℕ, ◌≢◌, ◌⊎◌, List, map, nat_lt, count_by, All, Contains, Bool, true, false, ◌||◌, is_some, Option, None, Some}
 use Rattle.std.specs.List.{list_any}
 use Rattle.std.specs.declared.cmp.Ordering.TheVariants.{Greater}
 use Rattle.std.specs.BTreeMap.{is_at}

@@ -98,9 +98,9 @@ numbered_step : (m : State) (e : Entry) (after : State) → Frames m e after →
 numbered_step m e after f p =
     let ge = (clock_step m e after f).1 in
     let old : All (λ (change : Change). change.commit ≤ after.clock) m.changes =
-        All-weaker (λ (change : Change). change.commit ≤ m.clock) (λ (change : Change). change.commit ≤ after.clock) (λ change le. omega (arith, ge, le)) m.changes p in
+    All-weaker (λ (change : Change). change.commit ≤ m.clock) (λ (change : Change). change.commit ≤ after.clock) (λ change le. omega (arith, ge, le)) m.changes p in
     let new : All (λ (change : Change). change.commit ≤ after.clock) (numbered (m.clock + 1) f.txn f.own) =
-        subst (λ c. All (λ (change : Change). change.commit ≤ c) (numbered (m.clock + 1) f.txn f.own)) (sym f.clock) (late m.clock f.txn f.own) in
+    subst (λ c. All (λ (change : Change). change.commit ≤ c) (numbered (m.clock + 1) f.txn f.own)) (sym f.clock) (late m.clock f.txn f.own) in
     subst (All (λ (change : Change). change.commit ≤ after.clock)) (sym f.changes) (All-append (λ (change : Change). change.commit ≤ after.clock) m.changes (numbered (m.clock + 1) f.txn f.own) old new)
 
 no_change : (P : Change → Type 0) → All P []
@@ -124,9 +124,9 @@ all_drawn m e after f p =
     let ge = f.later in
     let mine = p.open_txns (actor_of e) in
     let old : All (λ (change : Change). change.txn < after.next) m.changes =
-        All-weaker (λ (change : Change). change.txn < m.next) (λ (change : Change). change.txn < after.next) (λ change lt. omega (arith, ge, lt)) m.changes p.changes in
+    All-weaker (λ (change : Change). change.txn < m.next) (λ (change : Change). change.txn < after.next) (λ change lt. omega (arith, ge, lt)) m.changes p.changes in
     let new : All (λ (change : Change). change.txn < after.next) (numbered (m.clock + 1) f.txn f.own) =
-        writers after.next (m.clock + 1) f.txn f.own (λ e. let lt = f.writer mine e in omega (arith, ge, lt)) in
+    writers after.next (m.clock + 1) f.txn f.own (λ e. let lt = f.writer mine e in omega (arith, ge, lt)) in
     record {
       open_txns = λ s. drawn_step s m e after f (p.open_txns s);
       changes = subst (All (λ (change : Change). change.txn < after.next)) (sym f.changes) (All-append (λ (change : Change). change.txn < after.next) m.changes (numbered (m.clock + 1) f.txn f.own) old new);

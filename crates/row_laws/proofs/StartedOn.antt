@@ -2,7 +2,7 @@
 use Rattle.std.proofs.Common.{◌≡◌, ℕ, ◌+◌, ◌≤◌, List, [], ◌∷◌, ◌++◌, map, refl, sym, ap, subst, ◌∙◌, cond, Bool, true, false, arith, is_some, Option, None, Some, nat_le, Global}
 use Rattle.std.specs.Prelude.{◌==◌}
 use Rattle.std.specs.declared.sync.Arc.{Arc}
-use Rattle.std.proofs.lemmas.List.{append-nil}
+use Rattle.std.proofs.lemmas.List.{append-nil, append_assoc}
 use Rattle.std.proofs.lemmas.List.Elements.{filter-append}
 use Rattle.std.proofs.lemmas.Bool.Decides.{nat_tests}
 use Rattle.cs_types.specs.declared.Schema.{Schema}
@@ -83,6 +83,16 @@ started_on schema log e s b short rows ne k = λ m l.
     let sp = leads_split schema start m log (e ∷ []) l in
     let last = sp.2 in
     subst (λ z. Shows z s b short rows) (sym last.2) (shows_step schema sp.0 e last.0 s b short rows last.1 ne (k sp.0 sp.1))
+
+-- and through all entries of others
+pub started_through : (schema : Schema) (log rest : List Entry) (s : ℕ) (b : Bound) (short : Bool) (rows : Table) → entries_of s rest ≡ [] → IsStarted schema log s b short rows → IsStarted schema (log ++ rest) s b short rows
+started_through schema log [] s b short rows none k = subst (λ l. IsStarted schema l s b short rows) (sym (append-nil log)) k
+started_through schema log (e ∷ rest) s b short rows none k = at (actor_of e == s) refl none (λ none k. started_through schema (log ++ e ∷ []) rest s b short rows none k)
+  where
+    at : (t : Bool) → (actor_of e == s) ≡ t → cond t (e ∷ entries_of s rest) (entries_of s rest) ≡ []
+        → (entries_of s rest ≡ [] → IsStarted schema (log ++ e ∷ []) s b short rows → IsStarted schema ((log ++ e ∷ []) ++ rest) s b short rows) → IsStarted schema (log ++ e ∷ rest) s b short rows
+    at true t none ih = absurd (cc none)
+    at false t none ih = subst (λ l. IsStarted schema l s b short rows) (append_assoc log (e ∷ []) rest) (ih none (started_on schema log e s b short rows t k))
 
 pub shows_begun : (schema : Schema) (log : List Entry) (m : State) (s : ℕ) (b : Bound) (short : Bool) (rows : Table) → Legal schema log m → Shows m s b short rows → is_begun (entries_of s log) ≡ true
 shows_begun schema log m s b short rows l k = sym (begun_is schema log m s l) ∙ ap is_some k.half

@@ -1,66 +1,187 @@
--- A script that was read, and why one was not.
-use Rattle.std.proofs.Common.{◌≡◌, ℕ, List, [], ◌∷◌, refl, sym, ap, subst, ◌∙◌}
-use Rattle.std.specs.Prelude.{Result, Ok, Err, IfErr, MatchResult}
-use Rattle.std.specs.Result.{IsErrAnd}
+-- A script that was read whole, and why one was not.
+use Rattle.std.proofs.Common.{◌≡◌, ℕ, ◌+◌, ◌<◌, ◌≤◌, List, [], ◌∷◌, ◌++◌, length, get_or, refl, sym, ap, subst, ◌∙◌, cond, Bool, true, false, ◌&&◌, not, arith, append_assoc}
+use Rattle.std.proofs.lemmas.Bool.{leb-true, ne_eqb}
+use Rattle.std.proofs.lemmas.List.{append-nil}
+use Rattle.std.proofs.lemmas.List.Elements.{All-nil, All-cons, All-weaker, All-contains_itself}
+use Rattle.std.specs.Prelude.{Option, None, Some, Result, Ok, Err, MatchResult, nat_le, All, Contains}
+use Rattle.std.specs.List.{cons_option}
+use Rattle.std.specs.Result.{IsErrAnd, IfErr}
 use Rattle.cs_types.specs.declared.Schema.{Schema}
+use Rattle.cs_types.specs.Schemas.{IsSchema}
 use Rattle.tsql_table.specs.Tables.{IsTable}
+use Rattle.script_reader.specs.declared.form.Form.{Form}
+use Rattle.script_reader.specs.declared.form.Form.TheVariants.{Skipped, Setup, Ask, Other}
+use Rattle.script_reader.specs.declared.read.Reading.{Reading}
 use Rattle.script_reader.specs.declared.script.Script.{Script}
 use Rattle.script_reader.specs.declared.script.Step.{Step}
 use Rattle.script_reader.specs.declared.script.ScriptRefusal.{ScriptRefusal}
 use Rattle.script_reader.specs.declared.script.ScriptRefusal.TheVariants.{Bad, Memory}
-use Rattle.script_reader.specs.Lines.{lines}
-use Rattle.script_reader.specs.Scripts.{setup_of, steps_from, sessions_of, IsScript, IsBadLine, no_line, no_setup, refused_setup, bad_step, RefusesScript, RefusesSetup, RefusesSteps}
+use Rattle.script_reader.specs.Lines.{lines, line_reason, form_of}
+use Rattle.script_reader.specs.Scripts.{session_of, text_of, sessions_of, half_done, may_follow, ArePaired, setups, step_in, steps_of, is_session, step_reason, form_reason, IsGood, AreGood, IsScript, IsBadLine, bad_line, no_setup, left_half_done, RefusesScript, IsRunnable}
+use Rattle.script_reader.specs.Reading.{IsShort, AreMarked, IsOnlyTable, IsSetUp, IsRead, RefusesLine}
+use Rattle.script_reader.proofs.Behind.{good_at, steps_push, form_good, step_good, option_or_none}
+use Rattle.script_reader.proofs.Forms.{form_short}
+use Rattle.script_reader.proofs.Halves.{half_none}
+use Rattle.script_reader.proofs.Sessions.{session_among}
 
-pub refused_none : (bytes : List ℕ) (e : ScriptRefusal) → e ≡ Bad 1 2 0 → [] ≡ lines bytes → RefusesScript bytes e
-refused_none bytes e is cut = subst (RefusesScript bytes) (sym is) (no_line (sym cut))
+-- ---- the steps of good lines
 
-module _ (bytes first : List ℕ) (others : List (List ℕ)) (cut : first ∷ others ≡ lines bytes) where
-  pub refused_first : (reason : ℕ) (e : ScriptRefusal) → e ≡ Bad 1 reason 0 → setup_of first ≡ Err reason → RefusesScript bytes e
-  refused_first reason e is bad = subst (RefusesScript bytes) (sym is) (no_setup (sym cut) bad)
+module _ (P : Step → Type 0) (one : (before : List (List ℕ)) (line : List ℕ) (step : Step) → IsGood before line → form_of line ≡ Ask step → P step) where
+  good_steps : (before lines : List (List ℕ)) → AreGood before lines → All P (steps_of lines)
+  good_steps before [] g = All-nil P
+  good_steps before (line ∷ lines) g = at (form_of line) refl (good_steps (before ++ line ∷ []) lines g.1)
+    where
+      at : (form : Form) → form_of line ≡ form → All P (steps_of lines) → All P (cons_option (step_in form) (steps_of lines))
+      at Skipped is all = all
+      at (Setup text) is all = all
+      at Other is all = all
+      at (Ask step) is all = All-cons P step (steps_of lines) (one before line step g.0 is) all
 
-  -- another script of the same bytes begins with the same lines
-  same_first : (other : Script) (o : IsScript bytes other) → o.first ≡ first
-  same_first other o = let both = cut ∙ o.cut in cc
+step_fine : (steps : List Step) (step : Step) → step_reason steps step ≡ None → (is_session (session_of step) ≡ true) × (may_follow steps step ≡ true)
+step_fine steps step e = at (is_session (session_of step)) (may_follow steps step) refl refl e
+  where
+    at : (s m : Bool) → is_session (session_of step) ≡ s → may_follow steps step ≡ m → cond {A = Option ℕ} (not s) (Some 4) (cond {A = Option ℕ} m None (Some 7)) ≡ None → (is_session (session_of step) ≡ true) × (may_follow steps step ≡ true)
+    at true true s m e = (s, m)
+    at true false s m e = absurd (cc)
+    at false m s f e = absurd (cc)
 
-  same_others : (other : Script) (o : IsScript bytes other) → o.others ≡ others
-  same_others other o = let both = cut ∙ o.cut in cc
+fine_of : (before : List (List ℕ)) (line : List ℕ) (step : Step) → IsGood before line → form_of line ≡ Ask step → (is_session (session_of step) ≡ true) × (may_follow (steps_of before) step ≡ true)
+fine_of before line step g is = step_fine (steps_of before) step (step_good (setups before) (steps_of before) step (form_good before line (Ask step) g.0 is))
 
-  module _ (text : List ℕ) (setup : setup_of first ≡ Ok text) where
-    same_text : (other : Script) (o : IsScript bytes other) → o.text ≡ text
-    same_text other o = let one = sym o.setup ∙ ap setup_of (same_first other o) ∙ setup in cc
+both_true : (a b : Bool) → (a && b) ≡ true → (a ≡ true) × (b ≡ true)
+both_true true true e = (refl, refl)
+both_true true false e = absurd (cc)
+both_true false b e = absurd (cc)
 
-    pub other_table : (other : Script) → IsScript bytes other → IsTable text other.schema
-    other_table other o = subst (λ t. IsTable t other.schema) (same_text other o) o.table
+InRange : Step → Type 0
+InRange step = (1 ≤ session_of step) × (session_of step ≤ 64)
 
-    pub setup_refused : (e : ScriptRefusal) → RefusesSetup text e → RefusesScript bytes e
-    setup_refused (Bad line reason number) h =
-        subst (λ l. IsBadLine bytes l reason number) (sym h.0) (subst (λ r. IsBadLine bytes 1 r number) (sym h.1) (refused_setup (sym cut) setup h.2.1))
-    setup_refused Memory h = tt
+in_range : (step : Step) → is_session (session_of step) ≡ true → InRange step
+unfolding InRange
+in_range step e = let both = both_true (nat_le 1 (session_of step)) (nat_le (session_of step) 64) e in (leb-true 1 (session_of step) both.0, leb-true (session_of step) 64 both.1)
 
-    pub steps_refused : (schema : Schema) (e : ScriptRefusal) → IsTable text schema → RefusesSteps e (steps_from 2 others) → RefusesScript bytes e
-    steps_refused schema (Bad line reason number) table h = bad_step (sym cut) setup table h
-    steps_refused schema Memory table h = tt
+range_of : (lines : List (List ℕ)) → AreGood [] lines → All InRange (steps_of lines)
+range_of lines g = good_steps InRange (λ before line step good is. in_range step (fine_of before line step good is).0) [] lines g
 
-  pub steps_only : (other : Script) (e : ScriptRefusal) → RefusesSteps e (steps_from 2 others) → IsScript bytes other → e ≡ Memory
-  steps_only other (Bad line reason number) h o = let both = sym h ∙ ap (steps_from 2) (sym (same_others other o)) ∙ o.steps in absurd (cc)
-  steps_only other Memory h o = refl
+pub placed_of : (lines : List (List ℕ)) → AreGood [] lines → All (λ step. session_of step < 65) (steps_of lines)
+unfolding InRange
+placed_of lines g = All-weaker InRange (λ step. session_of step < 65) (λ step r. omega (arith, r.1)) (steps_of lines) (range_of lines g)
 
-  pub script_only : (schema : Schema) (steps : List Step) (sessions : List ℕ) (other : Script) → steps_from 2 others ≡ Ok steps → sessions ≡ sessions_of steps → schema ≡ other.schema → IsScript bytes other
-      → record { schema = schema; lines = steps; sessions = sessions } ≡ other
-  script_only schema steps sessions other read named table o =
-      let both = sym read ∙ ap (steps_from 2) (sym (same_others other o)) ∙ o.steps in
-      let same : steps ≡ other.lines = cc in
-      let all : sessions ≡ other.sessions = named ∙ ap sessions_of same ∙ sym o.sessions in
-      λ i. record { schema = table i; lines = same i; sessions = all i }
+short_of : (lines : List (List ℕ)) → AreGood [] lines → All (λ step. length (text_of step) ≤ 65536) (steps_of lines)
+short_of lines g = good_steps (λ step. length (text_of step) ≤ 65536) (λ before line step good is. subst (IsShort 65536) is
+    (form_short line (option_or_none (line_reason line) (form_reason (setups before) (steps_of before) (form_of line)) good.0).0)) [] lines g
 
--- ---- refusals that were handed on
+paired_of : (before lines : List (List ℕ)) (steps : List Step) → steps ≡ steps_of before → AreGood before lines → ((session : ℕ) → half_done session (steps ++ steps_of lines) ≡ false) → ArePaired steps (steps_of lines)
+paired_of before [] steps e g end = λ session. subst (λ xs. half_done session xs ≡ false) (append-nil steps) (end session)
+paired_of before (line ∷ lines) steps e g end = at (form_of line) refl (λ more is. paired_of (before ++ line ∷ []) lines more is g.1) end
+  where
+    at : (form : Form) → form_of line ≡ form
+        → ((more : List Step) → more ≡ steps_of (before ++ line ∷ []) → ((session : ℕ) → half_done session (more ++ steps_of lines) ≡ false) → ArePaired more (steps_of lines))
+        → ((session : ℕ) → half_done session (steps ++ cons_option (step_in form) (steps_of lines)) ≡ false) → ArePaired steps (cons_option (step_in form) (steps_of lines))
+    at Skipped is all end = all steps (e ∙ sym (steps_push before line ∙ ap (λ form. steps_of before ++ cons_option (step_in form) []) is ∙ append-nil (steps_of before))) end
+    at (Setup text) is all end = all steps (e ∙ sym (steps_push before line ∙ ap (λ form. steps_of before ++ cons_option (step_in form) []) is ∙ append-nil (steps_of before))) end
+    at Other is all end = all steps (e ∙ sym (steps_push before line ∙ ap (λ form. steps_of before ++ cons_option (step_in form) []) is ∙ append-nil (steps_of before))) end
+    at (Ask step) is all end = (
+      ap (λ xs. may_follow xs step) e ∙ (fine_of before line step g.0 is).1,
+      all (steps ++ step ∷ []) (ap (λ xs. xs ++ step ∷ []) e ∙ sym (steps_push before line ∙ ap (λ form. steps_of before ++ cons_option (step_in form) []) is))
+          (λ session. subst (λ xs. half_done session xs ≡ false) (sym (append_assoc steps (step ∷ []) (steps_of lines))) (end session)),
+    )
 
-module _ (bytes : List ℕ) (e : ScriptRefusal) where
-  pub handed_only : (r : Result Script ScriptRefusal) → IsErrAnd r (λ d. d ≡ e) → ((other : Script) → IsScript bytes other → e ≡ Memory) → (other : Script) → IsScript bytes other
-      → MatchResult r (λ script. script ≡ other) (λ d. d ≡ Memory)
-  handed_only (Ok script) is only other o = absurd is
-  handed_only (Err d) is only other o = is ∙ only other o
+-- ---- a script
 
-  pub handed_refused : (r : Result Script ScriptRefusal) → IsErrAnd r (λ d. d ≡ e) → RefusesScript bytes e → IfErr r (λ d. RefusesScript bytes d)
-  handed_refused (Ok script) is h = absurd is
-  handed_refused (Err d) is h = subst (RefusesScript bytes) (sym is) h
+-- a script with a schema that may be can be run
+pub runs_of : (bytes : List ℕ) (script : Script) → IsScript bytes script → IsSchema script.schema → IsRunnable script
+unfolding InRange
+runs_of bytes script s valid = record {
+  schema = valid;
+  short = subst (All (λ step. length (text_of step) ≤ 65536)) (sym s.steps) (short_of (lines bytes) s.good);
+  sessions = s.sessions;
+  range = λ k d lt. let r = subst (All InRange) (sym s.steps) (range_of (lines bytes) s.good) k d lt in
+      (r.0, r.1, subst (λ ks. Contains ks (session_of (get_or script.lines k d))) (sym s.sessions) (session_among script.lines (get_or script.lines k d) (All-contains_itself script.lines k d lt) r.0 r.1));
+  paired = subst (ArePaired []) (sym s.steps) (paired_of [] (lines bytes) [] refl s.good (λ session. subst (λ xs. half_done session xs ≡ false) s.steps (s.finished session)));
+}
+
+-- the table that one setup line has
+pub only_setup : (texts : List (List ℕ)) (schema : Schema) → IsSetUp texts (Some schema) → (text : List ℕ) × (texts ≡ text ∷ []) × IsOnlyTable text schema
+only_setup [] schema h = absurd h
+only_setup (text ∷ []) schema h = (text, refl, h)
+only_setup (text ∷ next ∷ texts) schema h = absurd h
+
+none_setup : (texts : List (List ℕ)) → IsSetUp texts None → texts ≡ []
+none_setup [] h = refl
+none_setup (text ∷ []) h = absurd h
+none_setup (text ∷ next ∷ texts) h = absurd h
+
+-- a session that has no mark has no statement half done, and one over 64 is no step's
+unmarked : (marks : List Bool) (steps : List Step) → AreMarked marks steps → All (λ step. session_of step < 65) steps → ((session : ℕ) → session < 65 → get_or marks session false ≡ false) → (session : ℕ) → half_done session steps ≡ false
+unmarked marks steps m placed none session = at (nat_le 65 session) refl
+  where
+    at : (t : Bool) → nat_le 65 session ≡ t → half_done session steps ≡ false
+    at true e = let high = leb-true 65 session e in half_none session steps (λ k d lt. ne_eqb (session_of (get_or steps k d)) session (λ same. let p = placed k d lt in absurd (omega arith)))
+    at false e = let low : session < 65 = grind arith in sym (m.1 session low) ∙ none session low
+
+module _ (bytes : List ℕ) (reading : Reading) (r : IsRead (lines bytes) reading) where
+  pub refused_none : (n : ℕ) (e : ScriptRefusal) → n ≡ length (lines bytes) + 1 → reading.schema ≡ None → e ≡ Bad n 2 0 → RefusesScript bytes e
+  refused_none n e end none is = subst (RefusesScript bytes) (sym is) (subst (λ k. IsBadLine bytes k 2 0) (sym end) (no_setup r.good (none_setup (setups (lines bytes)) (subst (IsSetUp (setups (lines bytes))) none r.setup))))
+
+  pub none_only : (e : ScriptRefusal) (other : Script) → reading.schema ≡ None → IsScript bytes other → e ≡ Memory
+  none_only e other none o = let both = sym o.setup ∙ none_setup (setups (lines bytes)) (subst (IsSetUp (setups (lines bytes))) none r.setup) in absurd (cc)
+
+  half_of : (session : ℕ) → session < 65 → get_or reading.half_done session false ≡ true → half_done session (steps_of (lines bytes)) ≡ true
+  half_of session low mark = ap (half_done session) (sym r.steps) ∙ sym (r.marked.1 session low) ∙ mark
+
+  pub refused_half : (session n : ℕ) (e : ScriptRefusal) → session < length reading.half_done → get_or reading.half_done session false ≡ true → n ≡ length (lines bytes) + 1 → e ≡ Bad n 7 0 → RefusesScript bytes e
+  refused_half session n e low mark end is = let len = r.marked.0 in
+      subst (RefusesScript bytes) (sym is) (subst (λ k. IsBadLine bytes k 7 0) (sym end) (left_half_done session r.good (half_of session (omega arith) mark)))
+
+  pub half_only : (session : ℕ) (e : ScriptRefusal) (other : Script) → session < length reading.half_done → get_or reading.half_done session false ≡ true → IsScript bytes other → e ≡ Memory
+  half_only session e other low mark o = let len = r.marked.0 in
+      let both = sym (half_of session (omega arith) mark) ∙ ap (half_done session) (sym o.steps) ∙ o.finished session in absurd (cc)
+
+  module _ (schema : Schema) (set : reading.schema ≡ Some schema) where
+    table_of : (text : List ℕ) × (setups (lines bytes) ≡ text ∷ []) × IsOnlyTable text schema
+    table_of = only_setup (setups (lines bytes)) schema (subst (IsSetUp (setups (lines bytes))) set r.setup)
+
+    pub found_script : (sessions : List ℕ) → sessions ≡ sessions_of reading.lines → ((session : ℕ) → session < 65 → get_or reading.half_done session false ≡ false)
+        → IsScript bytes (record { schema = schema; lines = reading.lines; sessions = sessions })
+    found_script sessions named none = let t = table_of in record {
+      good = r.good;
+      text = t.0;
+      setup = t.1;
+      table = t.2.table;
+      steps = r.steps;
+      finished = unmarked reading.half_done reading.lines r.marked (subst (All (λ step. session_of step < 65)) (sym r.steps) (placed_of (lines bytes) r.good)) none;
+      sessions = named;
+    }
+
+    pub valid_schema : IsSchema schema
+    valid_schema = let t = table_of in t.2.valid
+
+    pub found_only : (sessions : List ℕ) (other : Script) → sessions ≡ sessions_of reading.lines → IsScript bytes other → record { schema = schema; lines = reading.lines; sessions = sessions } ≡ other
+    found_only sessions other named o =
+        let t = table_of in
+        let both = sym t.1 ∙ o.setup in
+        let text : t.0 ≡ o.text = cc in
+        let table : schema ≡ other.schema = t.2.only other.schema (subst (λ x. IsTable x other.schema) (sym text) o.table) in
+        let same : reading.lines ≡ other.lines = r.steps ∙ sym o.steps in
+        let all : sessions ≡ other.sessions = named ∙ ap sessions_of same ∙ sym o.sessions in
+        λ i. record { schema = table i; lines = same i; sessions = all i }
+
+-- ---- a bad line
+
+pub refused_at : (bytes : List ℕ) (before others : List (List ℕ)) (line : List ℕ) (reading : Reading) (n : ℕ) (e : ScriptRefusal) → before ++ line ∷ others ≡ lines bytes → n ≡ length before + 1 → IsRead before reading → RefusesLine before line n e → RefusesScript bytes e
+refused_at bytes before others line reading n (Bad at reason number) cut end r h = subst (λ k. IsBadLine bytes k reason number) (sym (h.0 ∙ end)) (bad_line before others line (sym cut) r.good h.1)
+refused_at bytes before others line reading n Memory cut end r h = tt
+
+pub refused_only : (bytes : List ℕ) (before others : List (List ℕ)) (line : List ℕ) (n : ℕ) (e : ScriptRefusal) (other : Script) → before ++ line ∷ others ≡ lines bytes → RefusesLine before line n e → IsScript bytes other → e ≡ Memory
+refused_only bytes before others line n (Bad at reason number) other cut h o = absurd (h.2 (good_at [] before others line (subst (AreGood []) (sym cut) o.good)))
+refused_only bytes before others line n Memory other cut h o = refl
+
+-- a refusal that was handed on
+pub handed : {X : Type 0} (r : Result X ScriptRefusal) (Q : ScriptRefusal → Type 0) (e : ScriptRefusal) → IsErrAnd r (λ d. d ≡ e) → Q e → IfErr r Q
+handed (Ok x) Q e is h = absurd is
+handed (Err d) Q e is h = subst Q (sym is) h
+
+pub handed_only : {X : Type 0} (r : Result X ScriptRefusal) (P : X → Type 0) (Q : ScriptRefusal → Type 0) (e : ScriptRefusal) → IsErrAnd r (λ d. d ≡ e) → Q e → MatchResult r P Q
+handed_only (Ok x) P Q e is h = absurd is
+handed_only (Err d) P Q e is h = subst Q (sym is) h

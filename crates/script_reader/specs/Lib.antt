@@ -1,4 +1,6 @@
+pub mod Grammar
 pub mod Lines
 pub mod Next
 pub mod Scripts
 pub mod Schedule
+pub mod Reading

@@ -1,72 +1,32 @@
 -- What a script says: its table and its steps, or its first bad line.
-use Rattle.std.specs.Prelude.{◌≡◌, ℕ, zero, suc, ◌+◌, ◌≤◌, nat_lt, List, [], ◌∷◌, length, drop, codes, nat_eq, filter, Bool, ◌||◌, ◌==◌, if◌then◌else◌, All, Option, None, Some, Result, Ok, Err}
-use Rattle.std.specs.List.{list_all, list_any, starts_with}
+use Rattle.std.specs.Prelude.{◌≡◌, ℕ, zero, suc, ◌+◌, ◌≤◌, List, [], ◌∷◌, ◌++◌, length, filter, Bool, true, false, not, ◌&&◌, nat_le, ◌==◌, if◌then◌else◌, All, Contains, Option, None, Some}
+use Rattle.std.specs.List.{list_any, filter_map, last_or}
+use Rattle.std.specs.Option.{option_or}
 use Rattle.cs_types.specs.declared.Schema.{Schema}
-use Rattle.cs_types.specs.Kinds.{is_text_byte}
 use Rattle.cs_types.specs.Schemas.{IsSchema}
 use Rattle.tsql_table.specs.Tables.{IsTable, IsNoTable}
-use Rattle.script_reader.specs.Lines.{lines}
+use Rattle.script_reader.specs.Lines.{lines, line_reason, form_of}
+use Rattle.script_reader.specs.declared.form.Form.{Form}
+use Rattle.script_reader.specs.declared.form.Form.TheVariants.{Skipped, Setup, Ask, Other}
 use Rattle.script_reader.specs.declared.script.Script.{Script}
 use Rattle.script_reader.specs.declared.script.Step.{Step}
-use Rattle.script_reader.specs.declared.script.Step.TheVariants.{Whole}
+use Rattle.script_reader.specs.declared.script.Step.TheVariants.{Whole, Begun, Finished}
 use Rattle.script_reader.specs.declared.script.ScriptRefusal.{ScriptRefusal}
 use Rattle.script_reader.specs.declared.script.ScriptRefusal.TheVariants.{Bad, Memory}
 
--- ---- a line
-
--- a byte that a line may have: a tab, or one from 32 to 126
-abbrev pub is_line_byte : ℕ → Bool
-is_line_byte c = (c == 9) || is_text_byte c
-
--- why a line is bad whatever it says: over 65,536 bytes (reason 5), or another byte (reason 6)
-abbrev pub line_reason : List ℕ → Option ℕ
-line_reason line = if nat_lt 65536 (length line) then Some 5 else (if list_all is_line_byte line then None else Some 6)
-
--- what a line gives, unless it is bad
-abbrev pub unless_bad : {X : Type 0} → Option ℕ → Result X ℕ → Result X ℕ
-unless_bad None r = r
-unless_bad (Some reason) r = Err reason
-
--- what stands behind a front, where the line begins with it
-abbrev pub behind : List ℕ → List ℕ → Option (List ℕ)
-behind front line = if starts_with nat_eq line front then Some (drop (length front) line) else None
-
-abbrev pub some_text : ℕ → Option (List ℕ) → Result (List ℕ) ℕ
-some_text reason None = Err reason
-some_text reason (Some []) = Err reason
-some_text reason (Some (b ∷ text)) = Ok (b ∷ text)
-
--- the statement of a line `s1 ` and a text that is not empty, or why it has none: reason 1 for a line of another form
-abbrev pub statement_of : List ℕ → Result (List ℕ) ℕ
-statement_of line = unless_bad (line_reason line) (some_text 1 (behind (codes "s1 ") line))
-
-abbrev pub text_or : ℕ → Option (List ℕ) → Result (List ℕ) ℕ
-text_or reason None = Err reason
-text_or reason (Some text) = Ok text
-
--- the setup statement of a line `setup ` and a text, or why it has none: reason 2 for a line of another form
-abbrev pub setup_of : List ℕ → Result (List ℕ) ℕ
-setup_of line = unless_bad (line_reason line) (text_or 2 (behind (codes "setup ") line))
-
 -- ---- the steps
-
-abbrev pub step_before : ℕ → Result (List ℕ) ℕ → Result (List Step) ScriptRefusal → Result (List Step) ScriptRefusal
-step_before n (Err reason) rest = Err (Bad n reason 0)
-step_before n (Ok text) (Ok steps) = Ok (Whole 1 text ∷ steps)
-step_before n (Ok text) (Err bad) = Err bad
-
--- the steps of the lines from the n-th on, so far all of session 1, or the first bad one of them
-abbrev pub steps_from : ℕ → List (List ℕ) → Result (List Step) ScriptRefusal
-steps_from n [] = Ok []
-steps_from n (line ∷ lines) = step_before n (statement_of line) (steps_from (n + 1) lines)
 
 -- the session of a step
 abbrev pub session_of : Step → ℕ
 session_of (Whole session text) = session
+session_of (Begun session text) = session
+session_of (Finished session) = session
 
--- the text of a step's statement
+-- the text of a step's statement; a finish has none
 abbrev pub text_of : Step → List ℕ
 text_of (Whole session text) = text
+text_of (Begun session text) = text
+text_of (Finished session) = []
 
 -- so many numbers from one on
 abbrev pub numbers : ℕ → ℕ → List ℕ
@@ -81,51 +41,124 @@ is_named steps session = list_any (λ step. session_of step == session) steps
 unfoldable pub sessions_of : List Step → List ℕ
 sessions_of steps = filter (is_named steps) (numbers 1 64)
 
+-- ---- statements half done
+
+abbrev pub is_begun : Option Step → Bool
+is_begun None = false
+is_begun (Some (Whole session text)) = false
+is_begun (Some (Begun session text)) = true
+is_begun (Some (Finished session)) = false
+
+-- a session has a statement half done behind these steps: its last one starts a statement alone
+unfoldable pub half_done : ℕ → List Step → Bool
+half_done session steps = is_begun (last_or None (filter (λ step. session_of step == session) steps))
+
+-- a session starts a statement where it has none half done, and finishes one where it has
+abbrev pub may_follow : List Step → Step → Bool
+may_follow before (Whole session text) = not (half_done session before)
+may_follow before (Begun session text) = not (half_done session before)
+may_follow before (Finished session) = half_done session before
+
+-- each of the steps may follow those before it, and behind the last no session has a statement half done
+abbrev pub ArePaired : List Step → List Step → Type 0
+ArePaired before [] = (session : ℕ) → half_done session before ≡ false
+ArePaired before (step ∷ steps) = (may_follow before step ≡ true) × ArePaired (before ++ step ∷ []) steps
+
+-- ---- the lines
+
+abbrev pub setup_in : Form → Option (List ℕ)
+setup_in (Setup text) = Some text
+setup_in Skipped = None
+setup_in (Ask step) = None
+setup_in Other = None
+
+-- the setup statements of the lines
+abbrev pub setups : List (List ℕ) → List (List ℕ)
+setups lines = filter_map (λ line. setup_in (form_of line)) lines
+
+abbrev pub step_in : Form → Option Step
+step_in (Ask step) = Some step
+step_in Skipped = None
+step_in (Setup text) = None
+step_in Other = None
+
+-- the steps of the lines, in order
+abbrev pub steps_of : List (List ℕ) → List Step
+steps_of lines = filter_map (λ line. step_in (form_of line)) lines
+
+-- ---- bad lines
+
+-- a session's number: 1 to 64
+abbrev pub is_session : ℕ → Bool
+is_session session = nat_le 1 session && nat_le session 64
+
+-- why a step is bad behind these: of another session (reason 4), or no step that may follow (reason 7)
+abbrev pub step_reason : List Step → Step → Option ℕ
+step_reason before step = if not (is_session (session_of step)) then Some 4 else (if may_follow before step then None else Some 7)
+
+-- why a line is bad for its form: no form (reason 1), a second setup line, or a step before the first one (reason 2), or a
+-- bad step
+abbrev pub form_reason : List (List ℕ) → List Step → Form → Option ℕ
+form_reason setups before Other = Some 1
+form_reason setups before Skipped = None
+form_reason [] before (Setup text) = None
+form_reason (setup ∷ setups) before (Setup text) = Some 2
+form_reason [] before (Ask step) = Some 2
+form_reason (setup ∷ setups) before (Ask step) = step_reason before step
+
+-- why a line is bad behind the lines before it, but for a setup statement that is refused
+abbrev pub reason_behind : List (List ℕ) → List ℕ → Option ℕ
+reason_behind before line = option_or (line_reason line) (form_reason (setups before) (steps_of before) (form_of line))
+
+abbrev pub HasTable : Form → Type 0
+HasTable (Setup text) = (schema : Schema) × IsTable text schema
+HasTable Skipped = Unit {0}
+HasTable (Ask step) = Unit {0}
+HasTable Other = Unit {0}
+
+-- a line is good behind the lines before it: it has no reason to be bad, and its setup statement, if it has one, is a table's
+abbrev pub IsGood : List (List ℕ) → List ℕ → Type 0
+IsGood before line = (reason_behind before line ≡ None) × HasTable (form_of line)
+
+-- each of the lines is good behind those before it
+abbrev pub AreGood : List (List ℕ) → List (List ℕ) → Type 0
+AreGood before [] = Unit {0}
+AreGood before (line ∷ lines) = IsGood before line × AreGood (before ++ line ∷ []) lines
+
 -- ---- the script
 
--- the first line sets up the table, and each other line is a step
+-- each line is good, one sets up the table, the others give the steps, and no statement is left half done
 pub record IsScript (bytes : List ℕ) (script : Script) : Type 0 where
-  pub first : List ℕ
-  pub others : List (List ℕ)
+  pub good : AreGood [] (lines bytes)
   pub text : List ℕ
-  pub cut : lines bytes ≡ first ∷ others
-  pub setup : setup_of first ≡ Ok text
+  pub setup : setups (lines bytes) ≡ text ∷ []
   pub table : IsTable text script.schema
-  pub steps : steps_from 2 others ≡ Ok script.lines
+  pub steps : script.lines ≡ steps_of (lines bytes)
+  pub finished : (session : ℕ) → half_done session script.lines ≡ false
   pub sessions : script.sessions ≡ sessions_of script.lines
 
--- the first bad line of these bytes, its reason, and the error number of a refused setup statement, else 0
+-- why a line is bad behind the lines before it, and the error number of a refused setup statement (reason 8), else 0
+pub data IsBad (before : List (List ℕ)) (line : List ℕ) : ℕ → ℕ → Type 0 where
+  by_reason : {reason : ℕ} → reason_behind before line ≡ Some reason → IsBad before line reason 0
+  by_setup : (text : List ℕ) (at : ℕ) {number : ℕ} → reason_behind before line ≡ None → form_of line ≡ Setup text → IsNoTable text number at → IsBad before line 8 number
+
+-- the first bad line of these bytes, counted from 1, and why it is bad. The line after the last is bad where no line is a
+-- setup line (reason 2), or a statement is left half done (reason 7)
 pub data IsBadLine (bytes : List ℕ) : ℕ → ℕ → ℕ → Type 0 where
-  no_line : lines bytes ≡ [] → IsBadLine bytes 1 2 0
-  no_setup : {first : List ℕ} {others : List (List ℕ)} {reason : ℕ} → lines bytes ≡ first ∷ others → setup_of first ≡ Err reason → IsBadLine bytes 1 reason 0
-  refused_setup : {first text : List ℕ} {others : List (List ℕ)} {number at : ℕ} → lines bytes ≡ first ∷ others → setup_of first ≡ Ok text → IsNoTable text number at → IsBadLine bytes 1 8 number
-  bad_step : {first text : List ℕ} {others : List (List ℕ)} {schema : Schema} {n reason number : ℕ} → lines bytes ≡ first ∷ others → setup_of first ≡ Ok text → IsTable text schema
-      → steps_from 2 others ≡ Err (Bad n reason number) → IsBadLine bytes n reason number
+  bad_line : (before others : List (List ℕ)) (line : List ℕ) {reason number : ℕ} → lines bytes ≡ before ++ line ∷ others → AreGood [] before → IsBad before line reason number → IsBadLine bytes (length before + 1) reason number
+  no_setup : AreGood [] (lines bytes) → setups (lines bytes) ≡ [] → IsBadLine bytes (length (lines bytes) + 1) 2 0
+  left_half_done : (session : ℕ) → AreGood [] (lines bytes) → half_done session (steps_of (lines bytes)) ≡ true → IsBadLine bytes (length (lines bytes) + 1) 7 0
 
 -- a refusal is the first bad line, and want of memory may come anywhere
 abbrev pub RefusesScript : List ℕ → ScriptRefusal → Type 0
 RefusesScript bytes (Bad line reason number) = IsBadLine bytes line reason number
 RefusesScript bytes Memory = Unit {0}
 
--- what a script that was read can be run by: a schema that may be, texts that can be read, and the sessions of its steps
+-- what a script that was read can be run by: a schema that may be, texts that can be read, the sessions of its steps, and
+-- each statement that is started finished before the session's next one and before the end
 pub record IsRunnable (script : Script) : Type 0 where
   pub schema : IsSchema script.schema
   pub short : All (λ step. length (text_of step) ≤ 65536) script.lines
   pub sessions : script.sessions ≡ sessions_of script.lines
-  pub first : All (λ step. session_of step ≡ 1) script.lines
-
--- ---- how it is found
-
--- the error of a setup statement that is refused
-abbrev pub RefusesSetup : List ℕ → ScriptRefusal → Type 0
-RefusesSetup text (Bad line reason number) = (line ≡ 1) × (reason ≡ 8) × ((at : ℕ) × IsNoTable text number at)
-RefusesSetup text Memory = Unit {0}
-
-abbrev pub RefusesSteps : ScriptRefusal → Result (List Step) ScriptRefusal → Type 0
-RefusesSteps (Bad line reason number) r = r ≡ Err (Bad line reason number)
-RefusesSteps Memory r = Unit {0}
-
--- the steps of the definition, or its bad line, or want of memory
-abbrev pub GivesSteps : Result (List Step) ScriptRefusal → Result (List Step) ScriptRefusal → Type 0
-GivesSteps (Ok x) r = r ≡ Ok x
-GivesSteps (Err refusal) r = RefusesSteps refusal r
+  pub range : All (λ step. (1 ≤ session_of step) × (session_of step ≤ 64) × Contains script.sessions (session_of step)) script.lines
+  pub paired : ArePaired [] script.lines

@@ -1,61 +1,144 @@
-//! Reads a script.
-
-ghost use Rattle.std.specs.Prelude.{◌≡◌, ◌≤◌, length, All, IfOk, IfErr, MatchResult};
+// Reads a script.
+ghost use Rattle.std.specs.Prelude.{◌≡◌, ◌≤◌, ◌<◌, ◌+◌, ℕ, List, [], ◌∷◌, ◌++◌, length, All, IfOk, IfErr, OnOk, MatchResult, slice_index_or, false, None, Some};
 ghost use Rattle.cs_types.specs.declared.Schema.{Schema};
-ghost use Rattle.cs_types.specs.Schemas.{IsSchema};
-ghost use Rattle.tsql_table.specs.Tables.{IsTable};
 ghost use Rattle.script_reader.specs.declared.script.Script.{Script};
-ghost use Rattle.script_reader.specs.Lines.{lines};
-ghost use Rattle.script_reader.specs.Scripts.{steps_from, RefusesSetup, session_of, sessions_of, IsScript, RefusesScript, IsRunnable, GivesSteps};
+ghost use Rattle.script_reader.specs.declared.script.Step.{Step};
+ghost use Rattle.script_reader.specs.Lines.{lines, form_of};
+ghost use Rattle.script_reader.specs.Scripts as spec;
+ghost use Rattle.script_reader.specs.Scripts.{session_of, sessions_of, is_named, setups, steps_of, reason_behind, IsScript, RefusesScript, IsRunnable};
+ghost use Rattle.script_reader.specs.Reading.{IsShort, IsPlaced, AreMarked, IsOnlyTable, IsRead, RefusesLine, RefusesSetup};
 
-use crate::line::{NO_SETUP, setup_of, statement_of};
+use crate::form::{Form, form_of};
+use crate::line::line_reason;
 use crate::lines::next_line;
 use crate::script::{Script, ScriptRefusal, Step};
 use cs_base::{Items, Memory};
-use cs_types::{Bytes, Schema};
+use cs_types::Schema;
 use std::alloc::Global;
 use tsql_reader::ReadRefusal;
 use tsql_table::read_table;
 
-/// The reason of a setup statement that is refused.
+/// The greatest number of a session.
+const MOST_SESSION: u32 = 64;
+
+/// A place for each session's number, and for 0.
+const PLACES: usize = 65;
+
+/// A line of no form.
+const NO_FORM: u32 = 1;
+
+/// No setup line where the first one has to be, or a second one.
+const SETUP: u32 = 2;
+
+/// A session that is not 1 to 64.
+const OTHER_SESSION: u32 = 4;
+
+/// A finish without a start, or a start behind which a finish is missing.
+const UNPAIRED: u32 = 7;
+
+/// A setup statement that is refused.
 const REFUSED_SETUP: u32 = 8;
 
-fn bytes_of(alloc: Global, text: &[u8]) -> Result<Bytes, Memory>
-    ensures { IfOk result (λ bytes. bytes ≡ text.now) }
-{
-    Ok(Items::from_vec(text.to_vec(alloc)?))
+/// What the lines that were read say.
+#[derive(Debug, Drop)]
+struct Reading {
+    /// The table, once a line set it up.
+    schema: Option<Schema>,
+    /// The steps of the lines.
+    lines: Items<Step>,
+    /// Whether a session has a statement half done, at its number.
+    half_done: [bool; PLACES],
 }
 
-/// The steps of the lines from the second on.
-fn steps(alloc: Global, bytes: &[u8]) -> Result<Items<Step>, ScriptRefusal>
-    ensures { GivesSteps result (steps_from 2 (lines bytes.now)) }
-{
-    let mut steps = Items::new(alloc);
-    let mut rest = bytes;
-    let mut line = 2u64;
-    while let Some((this, next)) = next_line(rest) {
-        let text = match statement_of(this) {
-            Ok(text) => bytes_of(alloc, text)?,
-            Err(reason) => return Err(bad(line, reason)),
-        };
-        steps.push(Step::Whole { session: 1, text })?;
-        rest = next;
-        line += 1;
+impl Reading {
+    /// Adds a step.
+    fn push(&mut self, step: Step) -> Result<(), Memory>
+        requires { session_of step < 65 }
+        ensures setup { self.new.schema ≡ self.old.schema }
+        ensures lines { OnOk result (self.new.lines ≡ self.old.lines ++ step ∷ []) }
+        ensures marked { AreMarked self.old.half_done self.old.lines → OnOk result (AreMarked self.new.half_done self.new.lines) }
+    {
+        self.half_done[step.session() as usize] = is_begun(&step);
+        self.lines.push(step)
     }
-    Ok(steps)
+
+    /// Whether a step may follow those so far.
+    fn may_follow(&self, step: &Step) -> bool
+        requires { session_of step.now < 65 }
+        ensures { AreMarked self.now.half_done self.now.lines → result ≡ spec.may_follow self.now.lines step.now }
+    {
+        let half_done = self.half_done[step.session() as usize];
+        match step {
+            Step::Finished { .. } => half_done,
+            _ => !half_done,
+        }
+    }
+
+    /// Why a step is bad behind those so far.
+    fn step_reason(&self, step: &Step) -> Option<u32>
+        ensures reason { AreMarked self.now.half_done self.now.lines → result ≡ spec.step_reason self.now.lines step.now }
+        ensures placed { result ≡ None → session_of step.now < 65 }
+    {
+        let session = step.session();
+        if session < 1 || MOST_SESSION < session {
+            Some(OTHER_SESSION)
+        } else if self.may_follow(step) {
+            None
+        } else {
+            Some(UNPAIRED)
+        }
+    }
+
+    /// Why a line of this form is bad behind those so far.
+    fn form_reason(&self, form: &Form) -> Option<u32>
+        ensures reason { (before : List (List ℕ)) → IsRead before self.now → result ≡ spec.form_reason (setups before) (steps_of before) form.now }
+        ensures placed { result ≡ None → IsPlaced form.now }
+    {
+        match form {
+            Form::Other => Some(NO_FORM),
+            Form::Skipped => None,
+            Form::Setup(_) => self.schema.is_some().then_some(SETUP),
+            Form::Ask(_) if self.schema.is_none() => Some(SETUP),
+            Form::Ask(step) => self.step_reason(step),
+        }
+    }
+
+    /// Adds what a line of this form says, whose number it is given.
+    fn add(&mut self, alloc: Global, number: u64, form: Form) -> Result<(), ScriptRefusal>
+        requires short { IsShort 65_536 form }
+        requires placed { IsPlaced form }
+        ensures { (before : List (List ℕ)) (line : List ℕ) → IsRead before self.old → reason_behind before line ≡ None → form_of line ≡ form → MatchResult result (λ _. IsRead (before ++ line ∷ []) self.new) (λ e. RefusesLine before line number e) }
+    {
+        match form {
+            Form::Setup(text) => {
+                self.schema = Some(schema_of(alloc, number, text.as_slice())?);
+                Ok(())
+            }
+            Form::Ask(step) => Ok(self.push(step)?),
+            Form::Skipped | Form::Other => Ok(()),
+        }
+    }
+
+    /// Reads the next line, whose number it is given.
+    fn read(&mut self, alloc: Global, number: u64, line: &[u8]) -> Result<(), ScriptRefusal>
+        ensures { (before : List (List ℕ)) → IsRead before self.old → MatchResult result (λ _. IsRead (before ++ line.now ∷ []) self.new) (λ e. RefusesLine before line.now number e) }
+    {
+        if let Some(reason) = line_reason(line) {
+            return Err(bad(number, reason));
+        }
+        let form = form_of(alloc, line)?;
+        match self.form_reason(&form) {
+            Some(reason) => Err(bad(number, reason)),
+            None => self.add(alloc, number, form),
+        }
+    }
 }
 
-/// The sessions that the steps name.
-fn sessions(alloc: Global, steps: &[Step]) -> Result<Items<u32>, Memory>
-    requires { All (λ step. session_of step ≡ 1) steps.now }
-    ensures { IfOk result (λ sessions. sessions ≡ sessions_of steps.now) }
+/// Whether a step starts a statement alone.
+fn is_begun(step: &Step) -> bool
+    ensures { result ≡ spec.is_begun (Some step.now) }
 {
-    let mut sessions = Items::new(alloc);
-    if steps.is_empty() {
-        return Ok(sessions);
-    }
-    sessions.push(1)?;
-    Ok(sessions)
+    matches!(step, Step::Begun { .. })
 }
 
 /// A line that is bad for a reason but a refused setup statement.
@@ -69,18 +152,16 @@ fn bad(line: u64, reason: u32) -> ScriptRefusal
     }
 }
 
-/// The schema of a setup statement.
-fn schema_of(alloc: Global, text: &[u8]) -> Result<Schema, ScriptRefusal>
+/// The schema of the setup statement in this line.
+fn schema_of(alloc: Global, line: u64, text: &[u8]) -> Result<Schema, ScriptRefusal>
     requires { length text.now ≤ 65_536 }
-    ensures found { IfOk result (λ schema. IsTable text.now schema) }
-    ensures only { (other : Schema) → IsTable text.now other → MatchResult result (λ schema. schema ≡ other) (λ e. e ≡ ScriptRefusal.Memory) }
-    ensures refused { IfErr result (λ e. RefusesSetup text.now e) }
-    ensures schema { IfOk result (λ schema. IsSchema schema) }
+    ensures found { IfOk result (λ schema. IsOnlyTable text.now schema) }
+    ensures refused { IfErr result (λ e. RefusesSetup text.now line e) }
 {
     match read_table(alloc, text) {
         Ok(schema) => Ok(schema),
         Err(ReadRefusal::At { number, .. }) => Err(ScriptRefusal::Bad {
-            line: 1,
+            line,
             reason: REFUSED_SETUP,
             number,
         }),
@@ -88,12 +169,65 @@ fn schema_of(alloc: Global, text: &[u8]) -> Result<Schema, ScriptRefusal>
     }
 }
 
-/// The script that these bytes are: the table of the setup statement in the first line, and a step for each line behind it.
+/// What the lines of a script say, and the number of the line after the last.
+fn read_lines(alloc: Global, bytes: &[u8]) -> Result<(Reading, u64), ScriptRefusal>
+    ensures found { IfOk result (λ x. IsRead (lines bytes.now) x.0 × (x.1 ≡ length (lines bytes.now) + 1)) }
+    ensures only { (other : Script) → IsScript bytes.now other → IfErr result (λ e. e ≡ ScriptRefusal.Memory) }
+    ensures refused { IfErr result (λ e. RefusesScript bytes.now e) }
+{
+    let mut reading = Reading {
+        schema: None,
+        lines: Items::new(alloc),
+        half_done: [false; PLACES],
+    };
+    let mut number = 1u64;
+    let mut rest = bytes;
+    while let Some((line, next)) = next_line(rest) {
+        reading.read(alloc, number, line)?;
+        rest = next;
+        number += 1;
+    }
+    Ok((reading, number))
+}
+
+/// Whether the steps name a session, at its number.
+fn named(steps: &[Step]) -> [bool; PLACES]
+    requires { All (λ step. session_of step < 65) steps.now }
+    ensures { (session : ℕ) → session < 65 → slice_index_or result session false ≡ is_named steps.now session }
+{
+    let mut named = [false; PLACES];
+    for step in steps {
+        named[step.session() as usize] = true;
+    }
+    named
+}
+
+/// The sessions that the steps name, ascending.
+fn sessions(alloc: Global, steps: &[Step]) -> Result<Items<u32>, Memory>
+    requires { All (λ step. session_of step < 65) steps.now }
+    ensures { IfOk result (λ sessions. sessions ≡ sessions_of steps.now) }
+{
+    let named = named(steps);
+    let mut sessions = Items::new(alloc);
+    for session in 1..=MOST_SESSION {
+        if named[session as usize] {
+            sessions.push(session)?;
+        }
+    }
+    Ok(sessions)
+}
+
+/// The script that these bytes are: the table of its setup line, and the steps of the lines behind it.
+///
+/// A line's form, without tabs and spaces at both ends: empty or `--` and anything, which is skipped; `setup`, blanks and a
+/// text; `s`, a session's number and blanks and a text, a statement; `s`, the number, `>` and a text, its start alone; `s`,
+/// the number and `<`, the finish of the session's started statement.
 ///
 /// Else the first bad line and its reason: 5 for a line of over 65,536 bytes, 6 for one with a byte other than tab and 32 to
-/// 126, 2 for a first line that is no setup line, or where there is no line, 1 for another line of no form, and 8 for a setup
-/// statement that is refused, with its error number. On one line they are judged in this order. `Memory` where there is no
-/// room for the script.
+/// 126, 1 for one of no form, 2 for a step before the setup line, a second setup line, or, at the line after the last, no
+/// setup line, 4 for a session that is not 1 to 64, 7 for a finish without a start, a start where the session has a statement
+/// half done, or, at the line after the last, a statement left half done, and 8 for a setup statement that is refused, with
+/// its error number. On one line they are judged in this order. `Memory` where there is no room for the script.
 pub fn read_script(alloc: Global, bytes: &[u8]) -> Result<Script, ScriptRefusal>
     // What is given is the script of the bytes.
     ensures found { IfOk result (λ script. IsScript bytes.now script) }
@@ -104,15 +238,18 @@ pub fn read_script(alloc: Global, bytes: &[u8]) -> Result<Script, ScriptRefusal>
     // The script can be run.
     ensures runs { IfOk result (λ script. IsRunnable script) }
 {
-    let Some((first, rest)) = next_line(bytes) else {
-        return Err(bad(1, NO_SETUP));
+    let (reading, end) = read_lines(alloc, bytes)?;
+    let Reading {
+        schema,
+        lines,
+        half_done,
+    } = reading;
+    let Some(schema) = schema else {
+        return Err(bad(end, SETUP));
     };
-    let text = match setup_of(first) {
-        Ok(text) => text,
-        Err(reason) => return Err(bad(1, reason)),
-    };
-    let schema = schema_of(alloc, text)?;
-    let lines = steps(alloc, rest)?;
+    if half_done.contains(&true) {
+        return Err(bad(end, UNPAIRED));
+    }
     let sessions = sessions(alloc, lines.as_slice())?;
     Ok(Script {
         schema,

@@ -22,6 +22,10 @@ pub struct Script {
 pub enum Step {
     /// A statement of a session, started and finished.
     Whole { session: u32, text: Bytes },
+    /// A statement of a session, started alone.
+    Begun { session: u32, text: Bytes },
+    /// The finish of the statement that the session has half done.
+    Finished { session: u32 },
 }
 
 impl Step {
@@ -31,15 +35,19 @@ impl Step {
     {
         match self {
             Step::Whole { session, .. } => *session,
+            Step::Begun { session, .. } => *session,
+            Step::Finished { session } => *session,
         }
     }
 
-    /// The text of the step's statement.
+    /// The text of the step's statement; a finish has none.
     pub fn text(&self) -> &[u8]
         ensures { result.now ≡ text_of self.now }
     {
         match self {
             Step::Whole { text, .. } => text.as_slice(),
+            Step::Begun { text, .. } => text.as_slice(),
+            Step::Finished { .. } => &[],
         }
     }
 }

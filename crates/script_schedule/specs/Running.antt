@@ -1,5 +1,5 @@
 -- A run of a script's steps so far.
-use Rattle.std.specs.Prelude.{◌≡◌, ℕ, List, [], ◌∷◌, ◌++◌, map, All, Bool, true, false, ◌==◌, if◌then◌else◌, Option, None, Some}
+use Rattle.std.specs.Prelude.{◌≡◌, ◌≤◌, ◌<◌, ℕ, List, [], ◌++◌, length, map, take, All, Contains, Bool, true, false, Option, None, Some}
 use Rattle.cs_types.specs.declared.Schema.{Schema}
 use Rattle.cs_model.specs.declared.entry.Entry.{Entry}
 use Rattle.cs_model.specs.declared.entry.Entry.TheVariants.{End}
@@ -9,8 +9,8 @@ use Rattle.row_laws.specs.Laws.{AreDistinct}
 use Rattle.row_laws.specs.Started.{IsStarted}
 use Rattle.script_reader.specs.declared.script.Step.{Step}
 use Rattle.script_reader.specs.declared.script.Step.TheVariants.{Whole, Begun, Finished}
-use Rattle.script_reader.specs.Scripts.{session_of, half_done, ArePaired}
-use Rattle.script_reader.specs.Schedule.{IsPiece, ArePieces}
+use Rattle.script_reader.specs.Scripts.{session_of, text_of, half_done, ArePaired}
+use Rattle.script_reader.specs.Schedule.{ArePieces}
 use Rattle.statement_core.specs.declared.started.Started.{Started}
 
 -- what a session has started is known to be so
@@ -29,17 +29,11 @@ finishes (Whole session text) = false
 finishes (Begun session text) = false
 finishes (Finished session) = true
 
--- whether a step leaves a statement half done
-abbrev pub begins : Step → Bool
-begins (Whole session text) = false
-begins (Begun session text) = true
-begins (Finished session) = false
-
--- these are the events of a step, behind whatever log
-pub record Matches (schema : Schema) (step : Step) (piece : List Entry) : Type 0 where
-  pub is : IsPiece schema step piece
-  pub begun : (log : List Entry) (session : ℕ) → is_begun (entries_of session (log ++ piece)) ≡ (if session_of step == session then begins step else is_begun (entries_of session log))
-  pub ended : (log : List Entry) (session : ℕ) → has_ended (entries_of session (log ++ piece)) ≡ has_ended (entries_of session log)
+-- these steps can be run by a core that serves these sessions
+pub record AreRunnable (sessions : List ℕ) (steps : List Step) : Type 0 where
+  pub short : All (λ step. length (text_of step) ≤ 65536) steps
+  pub known : All (λ step. (session_of step < 65) × Contains sessions (session_of step)) steps
+  pub paired : ArePaired [] steps
 
 -- the steps done have their pieces in the log, and those left may follow
 pub record Running (schema : Schema) (log : List Entry) (waiting : ℕ → Option Started) (done left : List Step) : Type 0 where
@@ -48,6 +42,10 @@ pub record Running (schema : Schema) (log : List Entry) (waiting : ℕ → Optio
   pub begun : (session : ℕ) → is_begun (entries_of session log) ≡ half_done session done
   pub going : (session : ℕ) → has_ended (entries_of session log) ≡ false
   pub paired : ArePaired done left
+
+-- the log follows the first of these steps
+abbrev pub IsFrontRun : Schema → List Step → List Entry → Type 0
+IsFrontRun schema steps log = (n : ℕ) × ArePieces schema (take n steps) log
 
 -- the Ends of the first of these sessions came behind the first log
 pub record Ending (first now : List Entry) (done left : List ℕ) : Type 0 where

@@ -1,16 +1,16 @@
 // Runs the steps of a script.
-ghost use Rattle.std.specs.Prelude.{◌≡◌, ◌≤◌, ◌<◌, ◌++◌, ◌∷◌, [], ℕ, All, map, length, Contains, OnOk, OnErr, IfOk, true, false, None};
+ghost use Rattle.std.specs.Prelude.{◌≡◌, ◌≤◌, ◌<◌, ◌++◌, ◌∷◌, [], ℕ, List, map, length, Contains, OnOk, OnErr, true, false};
 ghost use Rattle.cs_types.specs.Schemas.{IsSchema};
 ghost use Rattle.cs_model.specs.declared.entry.Entry.{Entry};
 ghost use Rattle.cs_model.specs.declared.entry.Entry.TheVariants.{End};
 ghost use Rattle.cs_model.specs.Actors.{entries_of, is_begun, has_ended};
 ghost use Rattle.row_laws.specs.Laws.{AreDistinct};
-ghost use Rattle.script_reader.specs.Schedule.{IsBound, IsStart, IsFinishOf};
+ghost use Rattle.script_reader.specs.Schedule.{IsBound, IsStart, IsFinishOf, IsPiece, Scheduled};
 ghost use Rattle.script_reader.specs.Scripts.{session_of, text_of, IsRunnable};
-ghost use Rattle.statement_core.specs.Seats.{seat};
-ghost use Rattle.script_schedule.specs.Running.{Waits, Running, Matches, finishes};
 ghost use Rattle.statement_core.specs.Fit.{IsReady};
-ghost use Rattle.script_schedule.specs.Logs.{IsLogOf};
+ghost use Rattle.statement_core.specs.Seats.{seat};
+ghost use Rattle.script_schedule.specs.Running.{Waits, Running, AreRunnable, IsFrontRun, finishes};
+ghost use Rattle.script_schedule.specs.Logs.{IsLogOf, IsFrontLogOf};
 
 use cs_base::Memory;
 use cs_model::{Bound, Refusal};
@@ -100,10 +100,11 @@ fn run_step<D: Desk>(
     requires going { has_ended (entries_of (session_of step.now) core.old.log) ≡ false }
     requires waits { Waits core.old.schema core.old.log (seat waiting.old) }
     requires short { length (text_of step.now) ≤ 65_536 }
-    ensures piece { OnOk result ((piece : List Entry) × Matches core.old.schema step.now piece × (core.new.log ≡ core.old.log ++ piece)) }
+    ensures piece { OnOk result ((piece : List Entry) × IsPiece core.old.schema step.now piece × (core.new.log ≡ core.old.log ++ piece)) }
     ensures waits { OnOk result (Waits core.old.schema core.new.log (seat waiting.new)) }
     ensures schema { core.new.schema ≡ core.old.schema }
     ensures sessions { core.new.sessions ≡ core.old.sessions }
+    ensures err { OnErr result (core.new.log ≡ core.old.log) }
 {
     match step {
         Step::Whole { session, text } => {
@@ -124,19 +125,18 @@ fn run_steps<D: Desk>(
     alloc: Global,
     core: &mut Core,
     waiting: &mut Seats<Started>,
-    script: &Script,
+    steps: &[Step],
     desk: &D,
 ) -> Result<(), Memory>
-    requires runnable { IsRunnable script.now }
     requires empty { core.old.log ≡ [] }
-    requires schema { core.old.schema ≡ script.now.schema }
-    requires sessions { core.old.sessions ≡ script.now.sessions }
-    requires none { (session : ℕ) → seat waiting.old session ≡ None }
-    ensures ran { OnOk result (Running script.now.schema core.new.log (seat waiting.new) script.now.lines []) }
+    requires schema { IsSchema core.old.schema }
+    requires steps { AreRunnable core.old.sessions steps.now }
+    ensures ran { OnOk result (Running core.old.schema core.new.log (seat waiting.new) steps.now []) }
+    ensures front { OnErr result (IsFrontRun core.old.schema steps.now core.new.log) }
     ensures schema { core.new.schema ≡ core.old.schema }
     ensures sessions { core.new.sessions ≡ core.old.sessions }
 {
-    for step in script.lines.as_slice() {
+    for step in steps {
         run_step(alloc, core, waiting, step, desk)?;
     }
     Ok(())
@@ -156,9 +156,30 @@ fn end_sessions(core: &mut Core, sessions: &[u32])
     }
 }
 
+/// Runs the steps of a script, and then ends its sessions.
+fn run_script<D: Desk>(
+    alloc: Global,
+    core: &mut Core,
+    script: &Script,
+    desk: &D,
+) -> Result<(), Memory>
+    requires runnable { IsRunnable script.now }
+    requires empty { core.old.log ≡ [] }
+    requires schema { core.old.schema ≡ script.now.schema }
+    requires sessions { core.old.sessions ≡ script.now.sessions }
+    ensures scheduled { OnOk result (Scheduled script.now core.new.log) }
+    ensures front { OnErr result (IsFrontRun script.now.schema script.now.lines core.new.log) }
+    ensures schema { core.new.schema ≡ core.old.schema }
+{
+    let mut waiting = Seats::new(alloc)?;
+    run_steps(alloc, core, &mut waiting, script.lines.as_slice(), desk)?;
+    end_sessions(core, script.sessions.as_slice());
+    Ok(())
+}
+
 /// Runs the steps of a script, and then ends its sessions in the order of their numbers. `Memory` comes where there is no room
-/// for a Start; the log has the events that were made then. Conditions: the core is new and was made with the script's table
-/// and sessions, and the script can be run, as one that `read_script` gives.
+/// for a Start; the log has the events of the lines before it then. Conditions: the core is new and was made with the script's
+/// table and sessions, and the script can be run, as one that `read_script` gives.
 pub fn run_schedule<D: Desk>(
     alloc: Global,
     core: &mut Core,
@@ -170,11 +191,11 @@ pub fn run_schedule<D: Desk>(
     requires schema { core.old.schema ≡ script.now.schema }
     requires sessions { core.old.sessions ≡ script.now.sessions }
     ensures log { OnOk result (IsLogOf script.now core.new.log) }
+    ensures front { OnErr result (IsFrontLogOf script.now core.new.log) }
     ensures schema { core.new.schema ≡ core.old.schema }
 {
-    let mut waiting = Seats::new(alloc)?;
-    run_steps(alloc, core, &mut waiting, script, desk)?;
-    end_sessions(core, script.sessions.as_slice());
+    let result = run_script(alloc, core, script, desk);
+    // The log is legal whether or not all was run.
     let _log = core.log();
-    Ok(())
+    result
 }

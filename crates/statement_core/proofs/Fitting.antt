@@ -1,5 +1,5 @@
 -- What an event leaves fits the table, and its reply can be printed.
-use Rattle.std.proofs.Common.{◌≡◌, ℕ, List, [], ◌∷◌, ◌++◌, map, refl, sym, ap, subst, ◌∙◌, inl, inr, ◌⊎◌, Bool, true, false, cond, All, Contains, Option, None, Some, Result, Ok, Err, fold, nat_lt, nat_le, ◌+◌, ◌-◌}
+use Rattle.std.proofs.Common.{◌≡◌, ℕ, List, [], ◌∷◌, ◌++◌, map, sym, subst, inl, inr, ◌⊎◌, Bool, true, false, cond, All, Option, None, Some, nat_lt, nat_le, ◌+◌, ◌-◌}
 use Rattle.std.specs.Prelude.{◌==◌}
 use Rattle.std.specs.declared.cmp.Ordering.{Ordering}
 use Rattle.std.specs.declared.cmp.Ordering.TheVariants.{Less, Equal, Greater}
@@ -21,11 +21,11 @@ use Rattle.cs_model.specs.Changes.{Edit, Table, Change, edited, edited_by, laid,
 use Rattle.cs_model.specs.Held.{IsFit, IsFitEntry, IsFitTable, AreFit}
 use Rattle.cs_model.specs.State.{State, Txn, Half, with, txn_set, half_set, seen, seen_at}
 use Rattle.cs_model.specs.Answers.{is_of_table}
-use Rattle.cs_model.specs.Obstacles.{keys_of, IsObstacle, IsJudged}
-use Rattle.cs_model.specs.Steps.{IsReply, IsWritten, began, unwound, settled, commits, wrote, gone, refused, replied, accepted, ends_txn, staged, is_empty, numbered, begin_reply, done_in}
+use Rattle.cs_model.specs.Obstacles.{keys_of, is_present, IsObstacle}
+use Rattle.cs_model.specs.Steps.{IsReply, began, unwound, settled, commits, wrote, gone, refused, replied, accepted, ends_txn, staged, is_empty, numbered, begin_reply, done_in, pinned, started, fixed, txn_opened}
 use Rattle.cs_model.specs.Text.{IsPrintableKey, IsPrintableRefusal, IsPrintableReply}
 use Rattle.statement_core.specs.Fit.{IsReady, IsFitTxn, IsReadyHalf, IsFitState}
-use Rattle.statement_core.specs.Settled.{wrote_or, IsWrittenIn}
+use Rattle.statement_core.specs.Settled.{wrote_or, IsWrittenIn, IsRead}
 
 module _ (schema : Schema) where
   -- ---- one session's part
@@ -185,7 +185,7 @@ module _ (schema : Schema) where
   written_prints_at m i (Some txn) b edits (reply.Affected count) fit h = tt
   written_prints_at m i (Some txn) b edits (reply.Rows rows segments) fit h = absurd h
   written_prints_at m i (Some txn) b edits (reply.Refused found) fit h =
-      obstacle_prints m i txn.snapshot _ h.key found (All-contains (IsPrintableKey schema) (keys_of edits) h.key (keys_fit edits fit) h.listed) h.is
+      obstacle_prints m i txn.snapshot (is_present b edits (seen m.changes txn)) h.key found (All-contains (IsPrintableKey schema) (keys_of edits) h.key (keys_fit edits fit) h.listed) h.is
 
   pub written_prints : (m : State) (i : ℕ) (b : Bound) (edits : List Edit) (r : Reply) → All (IsFit schema) edits → (r ≡ reply.Refused refusal.Memory) ⊎ IsWrittenIn m i (m.txns i) b edits r → IsPrintableReply schema r
   written_prints m i b edits r fit (inl h) = refused_prints r refusal.Memory h tt
@@ -232,3 +232,23 @@ module _ (schema : Schema) where
       at : (s : Option ℕ) → IsFitTable schema (seen_at changes s txn.own)
       at None = laid_fits [] txn.own own (All-nil (IsFitEntry schema))
       at (Some s) = laid_fits (table changes s) txn.own own (laid_fits [] (map (λ (change : Change). change.edit) (until s changes)) (until_fits s changes all) (All-nil (IsFitEntry schema)))
+
+  opened_fits : (o : Option Txn) (next : ℕ) → IsFitTxn schema o → All (IsFit schema) (txn_opened o next).own
+  opened_fits None next p = All-nil (IsFit schema)
+  opened_fits (Some txn) next p = p
+
+  pub read_fits : (m : State) (i : ℕ) (rows : Table) → IsFitState schema m → IsRead m i rows → IsFitTable schema rows
+  read_fits m i rows fit (inl e) = subst (IsFitTable schema) (sym e) (All-nil (IsFitEntry schema))
+  read_fits m i rows fit (inr e) = subst (IsFitTable schema) (sym e) (seen_fits m.changes (fixed (txn_opened (m.txns i) m.next) false m.clock) fit.changes (opened_fits (m.txns i) m.next (fit.txns i)))
+
+  -- ---- a Start
+
+  pinned_fits : (m : State) (i : ℕ) (short : Bool) → IsFitState schema m → IsFitState schema (pinned m i short)
+  pinned_fits m i short fit = record { changes = fit.changes; txns = set_fits (IsFitTxn schema) m.txns i _ (opened_fits (m.txns i) m.next (fit.txns i)) fit.txns; halves = fit.halves }
+
+  pub started_fits : (m : State) (i : ℕ) (b : Bound) (short : Bool) → IsFitState schema m → IsReady schema b → IsFitState schema (started m i b short)
+  started_fits m i b short fit ready = fit_half _ i (Some (record { bound = b; short = short })) (at (is_of_table b)) ready
+    where
+      at : (t : Bool) → IsFitState schema (cond t (pinned m i short) m)
+      at true = pinned_fits m i short fit
+      at false = fit

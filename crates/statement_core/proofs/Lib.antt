@@ -1,5 +1,7 @@
-pub mod Seats
+pub mod Placing
 pub mod States
 pub mod Least
+pub mod Owning
 pub mod Settled
 pub mod Fitting
+pub mod Keeping

@@ -1,6 +1,6 @@
 -- What a Finish leaves.
-use Rattle.std.proofs.Common.{◌≡◌, ℕ, ◌≤◌, List, [], refl, sym, ap, subst, ◌∙◌, inl, inr, ◌⊎◌, Bool, true, false, cond, All, Option, None, Some, Result, Ok, Err}
-use Rattle.std.specs.Prelude.{◌||◌, nat_lt, count_by}
+use Rattle.std.proofs.Common.{◌≡◌, ℕ, List, [], refl, sym, ap, subst, ◌∙◌, inl, inr, ◌⊎◌, Bool, true, false, Option, None, Some, Result, Ok, Err}
+use Rattle.std.specs.Prelude.{◌||◌, nat_lt}
 use Rattle.std.specs.BTreeMap.{BTreeMap}
 use Rattle.std.specs.Map.{values_of}
 use Rattle.cs_types.specs.declared.Key.{Key}
@@ -12,18 +12,17 @@ use Rattle.cs_model.specs.declared.entry.Refusal.{Refusal}
 use Rattle.cs_model.specs.declared.entry.Refusal.TheVariants.{Memory}
 use Rattle.cs_model.specs.declared.entry.Reply.{Reply}
 use Rattle.cs_model.specs.declared.entry.Reply.TheVariants as reply
-use Rattle.cs_model.specs.Changes.{Edit, Table, Change}
-use Rattle.cs_model.specs.Keys.{same_key}
-use Rattle.cs_model.specs.State.{State, Txn, Half, seen, half_set}
+use Rattle.cs_model.specs.Changes.{Edit, Table, table, laid}
+use Rattle.cs_model.specs.State.{State, Txn, Half, seen, seen_at, half_set}
 use Rattle.cs_model.specs.Answers.{is_of_table, writes}
-use Rattle.cs_model.specs.Obstacles.{has_row, stands_twice, keys_of, is_present}
+use Rattle.cs_model.specs.Obstacles.{has_row, keys_of, is_present, IsObstacle, IsJudged}
 use Rattle.cs_model.specs.Steps.{IsReply, IsWriteReply, IsWriteReplyOf, IsAnswerIn, IsAnswer, IsFinish, edits_in, writes_in, replied, accepted, wrote, refused, rested}
 use Rattle.row_laws.specs.Started.{Shows, IsPinned, seen_in, reads_rows}
 use Rattle.statement_core.specs.declared.started.Outcome.{Outcome}
 use Rattle.statement_core.specs.declared.started.Outcome.TheVariants as outcome
-use Rattle.statement_core.specs.Least.{is_taken, count_in}
+use Rattle.statement_core.specs.Least.{is_taken}
 use Rattle.statement_core.specs.Outcomes.{is_write, IsValued, IsDecided, GivesOn}
-use Rattle.statement_core.specs.Settled.{Settles, WriteSettles, Replies, GivesIn, IsDoneAt, IsWrittenIn, AreCountsFor, wrote_or}
+use Rattle.statement_core.specs.Settled.{Settles, WriteSettles, Replies, GivesIn, IsDoneAt, IsWrittenIn, IsJudgedIn, AreCountsFor, wrote_or}
 
 -- ---- the outcome, over other rows
 
@@ -242,3 +241,18 @@ gives_half schema m mid session half o is e d =
     let g : GivesIn schema m session half.bound half.short o = subst (λ (h : Half). GivesIn schema m session h.bound h.short o) (sym same) (gives_at schema m session d.bound d.short d.rows o d.shows d.gives) in
     let g' : GivesIn schema (half_set m session None) session half.bound half.short o = record { gives = g.gives; pinned = g.pinned } in
     subst (λ x. GivesIn schema x session half.bound half.short o) (sym e) g'
+
+-- ---- how a write is judged
+
+pub judged_in : (m : State) (session : ℕ) (b : Bound) (edits : List Edit) (found : Option Refusal) (txn : Txn) (snapshot : ℕ) (counts : Option (BTreeMap Key ℕ)) (keys : List Key)
+    → m.txns session ≡ Some txn → txn.snapshot ≡ Some snapshot → keys ≡ keys_of edits → AreCountsFor b keys counts
+    → IsJudged (IsObstacle m session (Some snapshot) (is_taken counts (laid (table m.changes snapshot) txn.own))) keys found → IsJudgedIn m session (m.txns session) b edits found
+judged_in m session b edits found txn snapshot counts keys is at same counted h =
+    let counted' : AreCountsFor b (keys_of edits) counts = subst (λ ks. AreCountsFor b ks counts) same counted in
+    let h' : IsJudged (IsObstacle m session (Some snapshot) (is_taken counts (laid (table m.changes snapshot) txn.own))) (keys_of edits) found =
+    subst (λ ks. IsJudged (IsObstacle m session (Some snapshot) (is_taken counts (laid (table m.changes snapshot) txn.own))) ks found) same h in
+    let over : IsJudged (IsObstacle m session (Some snapshot) (is_present b edits (laid (table m.changes snapshot) txn.own))) (keys_of edits) found =
+    subst (λ p. IsJudged (IsObstacle m session (Some snapshot) p) (keys_of edits) found) (taken_is b edits (laid (table m.changes snapshot) txn.own) counts counted') h' in
+    let whole : IsJudged (IsObstacle m session txn.snapshot (is_present b edits (seen_at m.changes txn.snapshot txn.own))) (keys_of edits) found =
+    subst (λ s. IsJudged (IsObstacle m session s (is_present b edits (seen_at m.changes s txn.own))) (keys_of edits) found) (sym at) over in
+    subst (λ o. IsJudgedIn m session o b edits found) (sym is) whole

@@ -1,10 +1,7 @@
 -- States, field by field.
-use Rattle.std.proofs.Common.{◌≡◌, ℕ, refl, sym, ap, ◌∙◌, cond, Bool, true, false, Option, None, Some}
-use Rattle.cs_model.specs.State.{State, Txn, Half, with, txn_set, half_set}
-use Rattle.cs_model.specs.Changes.{Edit}
-use Rattle.cs_model.specs.Steps.{is_empty, gone, commits}
-use Rattle.statement_core.specs.Settled.{recorded}
-use Rattle.statement_core.proofs.Seats.{with_twice, with_same}
+use Rattle.std.proofs.Common.{◌≡◌, ℕ, refl, Option}
+use Rattle.cs_model.specs.State.{State, Txn, txn_set}
+use Rattle.statement_core.proofs.Placing.{with_twice, with_same}
 
 pub same_state : (m n : State) → m.changes ≡ n.changes → m.clock ≡ n.clock → m.txns ≡ n.txns → m.half ≡ n.half → m.statistics ≡ n.statistics → m.next ≡ n.next → m ≡ n
 same_state m n c k t h s x = λ i. record { changes = c i; clock = k i; txns = t i; half = h i; statistics = s i; next = x i }

@@ -3,6 +3,7 @@ use Rattle.std.specs.Prelude.{◌≡◌, ℕ, ◌+◌, ◌≤◌, ◌<◌, List,
 use Rattle.cs_types.specs.declared.Schema.{Schema}
 use Rattle.cs_model.specs.declared.entry.Bound.{Bound}
 use Rattle.cs_model.specs.declared.entry.Entry.{Entry}
+use Rattle.cs_model.specs.declared.entry.Entry.TheVariants.{Start, Finish, End}
 use Rattle.cs_model.specs.Actors.{owed}
 use Rattle.cs_model.specs.Changes.{Table}
 use Rattle.cs_model.specs.Steps.{Legal}
@@ -25,6 +26,12 @@ pub record IsCore (schema : Schema) (held : Held) (log : List Entry) (capacity :
   pub distinct : AreDistinct sessions
   pub fit : IsFitState schema (state_of held)
   pub printable : All (IsPrintableEntry schema) log
+
+-- the entry is the Start of this statement in a session
+abbrev pub IsStartOf : ℕ → Bound → Bool → Entry → Type 0
+IsStartOf session b short (Start s bound why) = (s ≡ session) × (bound.value ≡ b) × (why ≡ short)
+IsStartOf session b short (Finish s reply) = ⊥
+IsStartOf session b short (End s) = ⊥
 
 -- the outcome is what the definitions give on what the session has begun
 pub record IsDone (schema : Schema) (log : List Entry) (session : ℕ) (outcome : Outcome) : Type 0 where

@@ -1,5 +1,5 @@
 -- States and statements whose rows the columns hold, and whose refusals can be printed.
-use Rattle.std.specs.Prelude.{ℕ, List, All, Option, None, Some}
+use Rattle.std.specs.Prelude.{ℕ, All, Option, None, Some}
 use Rattle.cs_types.specs.declared.Schema.{Schema}
 use Rattle.cs_model.specs.declared.entry.Bound.{Bound}
 use Rattle.cs_model.specs.declared.entry.Bound.TheVariants as bound

@@ -1,5 +1,5 @@
 -- The state of the row model that the core's fields stand for.
-use Rattle.std.specs.Prelude.{◌≡◌, ◌<◌, ◌+◌, ◌^◌, ℕ, List, false, Option, None, Some}
+use Rattle.std.specs.Prelude.{◌<◌, ◌+◌, ◌^◌, ℕ, List, false, Option, None, Some}
 use Rattle.cs_model.specs.State.{Txn, Half, State}
 use Rattle.statement_core.specs.Seats.{seat}
 use Rattle.statement_core.specs.declared.held.OpenTxn.{OpenTxn}

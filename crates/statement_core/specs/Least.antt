@@ -1,5 +1,5 @@
 -- The least key that has an obstacle, and how often a key stands in a list.
-use Rattle.std.specs.Prelude.{◌≡◌, ◌≢◌, ◌⊎◌, ◌&&◌, ◌||◌, ℕ, List, Bool, true, false, nat_lt, All, Contains, unwrap_or, if◌then◌else◌, Option, None, Some}
+use Rattle.std.specs.Prelude.{◌≡◌, ◌≢◌, ◌⊎◌, ◌||◌, ℕ, List, Bool, true, false, nat_lt, All, Contains, unwrap_or, if◌then◌else◌, Option, None, Some}
 use Rattle.std.specs.declared.cmp.Ordering.TheVariants.{Greater}
 use Rattle.std.specs.Ordering.{is_lt}
 use Rattle.std.specs.BTreeMap.{BTreeMap, get}
@@ -7,7 +7,7 @@ use Rattle.cs_types.specs.declared.Key.{Key}
 use Rattle.cs_model.specs.declared.entry.Refusal.{Refusal}
 use Rattle.cs_model.specs.declared.entry.Refusal.TheVariants.{Reading, Valued, Locked, Changed, Duplicate, NoTxn, Memory}
 use Rattle.cs_model.specs.Keys.{key_cmp}
-use Rattle.cs_model.specs.Changes.{Edit, Table, newest}
+use Rattle.cs_model.specs.Changes.{Table, newest}
 use Rattle.cs_model.specs.Obstacles.{has_row, is_above, IsChange}
 use Rattle.cs_model.specs.State.{State}
 

@@ -1,5 +1,5 @@
 -- What the work of a statement gives on what was started.
-use Rattle.std.specs.Prelude.{◌≡◌, ◌≤◌, ℕ, List, Bool, true, false, All, Option, None, Some, Result, Ok, Err}
+use Rattle.std.specs.Prelude.{◌≡◌, List, Bool, true, false, All, Result, Ok, Err}
 use Rattle.std.specs.Map.{values_of}
 use Rattle.cs_types.specs.declared.Schema.{Schema}
 use Rattle.batch_aggregate.specs.Answers.{answer}

@@ -1,5 +1,5 @@
 -- What a Finish leaves, once the statement is no longer half done.
-use Rattle.std.specs.Prelude.{◌≡◌, ◌≤◌, ◌⊎◌, ℕ, ◌+◌, ◌++◌, List, [], count_by, Bool, true, false, if◌then◌else◌, Option, None, Some}
+use Rattle.std.specs.Prelude.{◌≡◌, ◌⊎◌, ℕ, ◌+◌, ◌++◌, List, [], count_by, Bool, true, false, if◌then◌else◌, Option, None, Some}
 use Rattle.std.specs.BTreeMap.{BTreeMap}
 use Rattle.cs_types.specs.declared.Key.{Key}
 use Rattle.cs_types.specs.declared.Schema.{Schema}
@@ -14,7 +14,7 @@ use Rattle.cs_model.specs.Keys.{same_key}
 use Rattle.cs_model.specs.State.{Txn, State, seen}
 use Rattle.cs_model.specs.Answers.{is_of_table}
 use Rattle.cs_model.specs.Obstacles.{keys_of, is_present, IsObstacle, IsJudged}
-use Rattle.cs_model.specs.Steps.{IsReply, IsWritten, is_empty, numbered, replied, wrote, refused, commits}
+use Rattle.cs_model.specs.Steps.{IsReply, IsWritten, is_empty, numbered, replied, wrote, refused, commits, fixed, txn_opened}
 use Rattle.row_laws.specs.Started.{Shows, IsPinned, seen_in}
 use Rattle.statement_core.specs.declared.started.Outcome.{Outcome}
 use Rattle.statement_core.specs.Least.{count_in}
@@ -95,3 +95,7 @@ pub record IsDoneAt (schema : Schema) (m : State) (session : ℕ) (outcome : Out
 pub record GivesIn (schema : Schema) (m : State) (session : ℕ) (b : Bound) (short : Bool) (outcome : Outcome) : Type 0 where
   pub gives : GivesOn schema b short (seen_in m.changes (m.txns session)) outcome
   pub pinned : is_of_table b ≡ true → short ≡ false → IsPinned (m.txns session) m.clock
+
+-- the rows that a Start gave: none, or those that the session's transaction sees once its snapshot is taken
+abbrev pub IsRead : State → ℕ → Table → Type 0
+IsRead m session rows = (rows ≡ []) ⊎ (rows ≡ seen m.changes (fixed (txn_opened (m.txns session) m.next) false m.clock))

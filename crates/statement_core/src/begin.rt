@@ -1,9 +1,11 @@
 // What a Start does.
 ghost use Rattle.std.specs.Prelude.{◌≡◌, ◌<◌, IfOk, true, false};
 ghost use Rattle.cs_model.specs.Answers.{is_of_table};
+ghost use Rattle.cs_model.specs.State.{seen};
 ghost use Rattle.cs_model.specs.Steps.{fixed, txn_opened};
-ghost use Rattle.row_laws.specs.Started.{Starts, reads_rows, seen_in};
+ghost use Rattle.row_laws.specs.Started.{Starts, reads_rows};
 ghost use Rattle.statement_core.specs.Held.{state_of, IsWithin};
+ghost use Rattle.statement_core.specs.Settled.{IsRead};
 
 use crate::held::{HalfDone, Held, pin, set_half, txn_of};
 use change_list::{Rows, lay};
@@ -41,7 +43,7 @@ fn reads_rows(bound: &Bound) -> bool
 /// The rows that the session's transaction reads once its snapshot is taken.
 fn seen(alloc: Global, held: &Held, session: u32) -> Result<Rows, Memory>
     requires { session < 65 }
-    ensures { IfOk result (λ rows. rows.entries ≡ seen_in (state_of held.now).changes (Some (fixed (txn_opened ((state_of held.now).txns session) (state_of held.now).next) false (state_of held.now).clock))) }
+    ensures { IfOk result (λ rows. rows.entries ≡ seen (state_of held.now).changes (fixed (txn_opened ((state_of held.now).txns session) (state_of held.now).next) false (state_of held.now).clock)) }
 {
     let Some(txn) = txn_of(held, session) else {
         return held.changes.rows_at(alloc, held.clock);
@@ -58,7 +60,8 @@ fn seen(alloc: Global, held: &Held, session: u32) -> Result<Rows, Memory>
 /// The rows that a statement reads, or none where it reads none.
 fn rows_for(alloc: Global, held: &Held, session: u32, bound: &Bound) -> Result<Rows, Memory>
     requires { session < 65 }
-    ensures { IfOk result (λ rows. reads_rows bound.now ≡ true → rows.entries ≡ seen_in (state_of held.now).changes (Some (fixed (txn_opened ((state_of held.now).txns session) (state_of held.now).next) false (state_of held.now).clock))) }
+    ensures read { IfOk result (λ rows. IsRead (state_of held.now) session rows.entries) }
+    ensures rows { IfOk result (λ rows. reads_rows bound.now ≡ true → rows.entries ≡ seen (state_of held.now).changes (fixed (txn_opened ((state_of held.now).txns session) (state_of held.now).next) false (state_of held.now).clock)) }
 {
     if reads_rows(bound) {
         seen(alloc, held, session)
@@ -68,15 +71,11 @@ fn rows_for(alloc: Global, held: &Held, session: u32, bound: &Bound) -> Result<R
 }
 
 /// The Start of a statement of the table.
-fn start_on_table(
-    alloc: Global,
-    held: &mut Held,
-    session: u32,
-    bound: Arc<Bound>,
-) -> (Rows, bool)
+fn start_on_table(alloc: Global, held: &mut Held, session: u32, bound: Arc<Bound>) -> (Rows, bool)
     requires within { IsWithin held.old session }
     requires table { is_of_table bound.value ≡ true }
     ensures starts { Starts (state_of held.old) session bound.value result.1 result.0.entries (state_of held.new) }
+    ensures read { IsRead (state_of held.old) session result.0.entries }
 {
     let rows = rows_for(alloc, held, session, &bound);
     let short = rows.is_err();
@@ -92,6 +91,7 @@ fn start_on_table(
 pub fn start(alloc: Global, held: &mut Held, session: u32, bound: Arc<Bound>) -> (Rows, bool)
     requires { IsWithin held.old session }
     ensures starts { Starts (state_of held.old) session bound.value result.1 result.0.entries (state_of held.new) }
+    ensures read { IsRead (state_of held.old) session result.0.entries }
 {
     if is_of_table(&bound) {
         return start_on_table(alloc, held, session, bound);

@@ -78,9 +78,13 @@ fn owner(txn: &Option<OpenTxn>, key: Key) -> Option<u64>
     ensures some { IfSome result (λ number. IsOwner (txn_in txn.now) key number) }
     ensures none { IfNone result (owns (txn_in txn.now) key ≡ false) }
 {
-    match txn {
-        Some(txn) if txn.own.contains_key(&key) => Some(txn.number),
-        _ => None,
+    let Some(txn) = txn else {
+        return None;
+    };
+    if txn.own.contains_key(&key) {
+        Some(txn.number)
+    } else {
+        None
     }
 }
 
@@ -89,7 +93,7 @@ pub fn holder(held: &Held, key: Key, but: u32) -> Option<u64>
     ensures some { IfSome result (IsLocked (state_of held.now).txns but key) }
     ensures none { IfNone result (IsFree (state_of held.now).txns but key) }
 {
-    for session in 0..65u32 {
+    for session in 0..held.txns.len() {
         if session != but {
             let found = owner(held.txns.get(session), key);
             if found.is_some() {
@@ -160,11 +164,13 @@ fn next_opened(txn: &Option<OpenTxn>, next: u64) -> u64
 /// Opens a transaction where there is none, and takes its snapshot where it has none.
 pub fn pin(alloc: Global, held: &mut Held, session: u32, short: bool)
     requires { IsWithin held.old session }
-    ensures state { state_of held.new ≡ pinned (state_of held.old) session short }
+    ensures { state_of held.new ≡ pinned (state_of held.old) session short }
 {
+    let clock = held.clock;
+    let next = held.next;
     let txn = set_txn(held, session, None);
-    let next = next_opened(&txn, held.next);
-    let txn = opened(alloc, txn, held.next, short, held.clock);
+    let after = next_opened(&txn, next);
+    let txn = opened(alloc, txn, next, short, clock);
     set_txn(held, session, Some(txn));
-    held.next = next;
+    held.next = after;
 }

@@ -107,11 +107,7 @@ fn obstacle(
 }
 
 /// The least obstacle so far, after that of one key more.
-fn lesser(
-    least: Option<(Key, Refusal)>,
-    key: Key,
-    found: Option<Refusal>,
-) -> Option<(Key, Refusal)>
+fn lesser(least: Option<(Key, Refusal)>, key: Key, found: Option<Refusal>) -> Option<(Key, Refusal)>
     ensures { result ≡ lesser_of least key found }
 {
     let Some(refusal) = found else {

@@ -1,6 +1,7 @@
 // The core: the log of events, and what stands for the state that it leads to.
 ghost use Rattle.std.specs.Prelude.{◌≡◌, ◌≤◌, ◌<◌, ◌++◌, ◌∷◌, [], length, All, Contains, OnErr, IfOk, false};
-ghost use Rattle.cs_model.specs.declared.entry.Entry.TheVariants.{Start, Finish, End};
+ghost use Rattle.cs_model.specs.declared.entry.Entry.TheVariants.{Finish, End};
+ghost use Rattle.cs_model.specs.declared.entry.Entry.{Entry};
 ghost use Rattle.cs_model.specs.declared.entry.Reply.{Reply};
 ghost use Rattle.cs_model.specs.State.{State};
 ghost use Rattle.cs_model.specs.Actors.{entries_of, is_begun, has_ended};
@@ -9,7 +10,7 @@ ghost use Rattle.cs_model.specs.Steps.{Legal};
 ghost use Rattle.cs_model.specs.Text.{IsPrintableEntry};
 ghost use Rattle.row_laws.specs.Laws.{AreDistinct};
 ghost use Rattle.row_laws.specs.Started.{IsStarted};
-ghost use Rattle.statement_core.specs.Cores.{IsDone};
+ghost use Rattle.statement_core.specs.Cores.{IsDone, IsStartOf};
 ghost use Rattle.statement_core.specs.Fit.{IsReady};
 
 use crate::begin::start;
@@ -42,6 +43,12 @@ impl Model for Core {
     ghost use Rattle.statement_core.specs.CoreValue.{CoreValue};
 
     ghost Value = { CoreValue };
+
+    ghost use Rattle.cs_plans.specs.contracts.expr.Expr as expr;
+    ghost use Rattle.cs_plans.specs.contracts.pred.Pred as pred;
+    ghost use Rattle.std.specs.Coded.{codes};
+
+    ghost coded = { Prim.hlevel (codes, expr.the_row.coded, pred.the_row.coded) };
 
     ghost use Rattle.std.specs.Prelude.{vec_capacity};
     ghost use Rattle.statement_core.specs.Cores.{IsCore};
@@ -87,7 +94,7 @@ impl Core {
         requires rests { is_begun (entries_of session self.old.log) ≡ false }
         requires going { has_ended (entries_of session self.old.log) ≡ false }
         requires ready { IsReady self.old.schema bound }
-        ensures log { IfOk result (λ started. self.new.log ≡ self.old.log ++ Start session started.bound started.short ∷ []) }
+        ensures log { IfOk result (λ started. (entry : Entry) × (self.new.log ≡ self.old.log ++ entry ∷ []) × IsStartOf session bound started.short entry) }
         ensures bound { IfOk result (λ started. started.bound.value ≡ bound) }
         ensures started { IfOk result (λ started. IsStarted self.new.schema self.new.log session started.bound.value started.short started.rows.entries) }
         ensures fit { IfOk result (λ started. IsFitTable self.new.schema started.rows.entries) }

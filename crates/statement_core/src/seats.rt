@@ -38,6 +38,14 @@ impl<T: Drop> Seats<T> {
         Ok(Seats { seats })
     }
 
+    /// How many seats there are.
+    pub fn len(&self) -> u32
+        ensures len { result ≡ length self.now }
+        ensures seats { result ≡ 65 }
+    {
+        self.seats.len() as u32
+    }
+
     /// What a session has.
     pub fn get(&self, session: u32) -> &Option<T>
         requires { session < 65 }

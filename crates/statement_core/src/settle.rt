@@ -5,9 +5,11 @@ ghost use Rattle.cs_types.specs.declared.Schema.{Schema};
 ghost use Rattle.cs_model.specs.Keys.{key_cmp};
 ghost use Rattle.cs_model.specs.State.{State, txn_set};
 ghost use Rattle.cs_model.specs.Steps.{is_changed, ends_txn, refused, staged, settled, wrote, began, IsStep};
+ghost use Rattle.cs_model.specs.Text.{IsPrintableReply};
 ghost use Rattle.cs_model.specs.declared.entry.Bound.TheVariants as bound;
 ghost use Rattle.cs_model.specs.declared.entry.Entry.TheVariants.{Finish, End};
 ghost use Rattle.statement_core.specs.Held.{txn_as, txn_in, state_of, IsWithin};
+ghost use Rattle.statement_core.specs.Fit.{IsFitState, IsReady};
 ghost use Rattle.statement_core.specs.Settled.{Settles, WriteSettles, Replies, GivesIn, IsDoneAt, IsJudgedIn, AreCountsFor, is_insert, deepened, recorded, committed_in};
 
 use crate::held::{Held, OpenTxn, set_half, set_txn, txn_of};
@@ -83,36 +85,18 @@ fn stage(own: &mut Own, key: Key, row: Option<Row>) -> Result<(), Memory>
     Ok(())
 }
 
-/// A copy of what is put at a key.
-fn copied(row: &Option<Row>) -> Result<Option<Row>, Memory>
-    ensures { IfOk result (λ copy. copy ≡ row.now) }
-{
-    match row {
-        Some(row) => Ok(Some(row.copy()?)),
-        None => Ok(None),
-    }
-}
-
 /// A copy of own writes.
-fn copy_of(alloc: Global, own: &Own) -> Result<Own, Memory>
+fn copy_of(own: &Own) -> Result<Own, Memory>
     ensures { IfOk result (λ copy. copy.entries ≡ own.now.entries) }
 {
-    let mut copy = BTreeMap::new(alloc);
-    for (key, row) in own.iter() {
-        stage(&mut copy, *key, copied(row)?)?;
-    }
-    Ok(copy)
+    Ok(own.clone()?)
 }
 
 /// Own writes with more laid over them; the last for a key stands.
-fn staged(
-    alloc: Global,
-    own: &Own,
-    writes: Items<(Key, Option<Row>)>,
-) -> Result<Own, Memory>
+fn staged(own: &Own, writes: Items<(Key, Option<Row>)>) -> Result<Own, Memory>
     ensures { IfOk result (λ after. after.entries ≡ staged own.now.entries writes) }
 {
-    let mut after = copy_of(alloc, own)?;
+    let mut after = copy_of(own)?;
     for (key, row) in writes.into_vec() {
         stage(&mut after, key, row)?;
     }
@@ -140,12 +124,7 @@ fn settle_txn(held: &mut Held, session: u32, txn: OpenTxn) -> Result<(), Memory>
 }
 
 /// Lays writes over the own ones of the session's transaction; an implicit one commits. After `Memory` nothing has changed.
-fn write(
-    alloc: Global,
-    held: &mut Held,
-    session: u32,
-    writes: Items<(Key, Option<Row>)>,
-) -> Result<(), Memory>
+fn write(held: &mut Held, session: u32, writes: Items<(Key, Option<Row>)>) -> Result<(), Memory>
     requires within { IsWithin held.old session }
     ensures ok { OnOk result (state_of held.new ≡ wrote (state_of held.old) session ((state_of held.old).txns session) writes) }
     ensures err { OnErr result (state_of held.new ≡ state_of held.old) }
@@ -153,7 +132,7 @@ fn write(
     let Some(txn) = txn_of(held, session) else {
         return Ok(());
     };
-    let own = staged(alloc, &txn.own, writes)?;
+    let own = staged(&txn.own, writes)?;
     let after = OpenTxn {
         number: txn.number,
         depth: txn.depth,
@@ -318,7 +297,7 @@ fn answered(alloc: Global, held: &mut Held, session: u32, reply: Reply) -> Reply
     if let Reply::Refused(refusal) = reply {
         return refuse(held, session, refusal);
     }
-    match write(alloc, held, session, Items::new(alloc)) {
+    match write(held, session, Items::new(alloc)) {
         Ok(()) => reply,
         Err(_) => refuse(held, session, Refusal::Memory),
     }
@@ -341,11 +320,7 @@ fn is_insert(bound: &Bound) -> bool
 }
 
 /// The counts of the keys of an INSERT, and None for another write.
-fn counts_for(
-    alloc: Global,
-    bound: &Bound,
-    keys: &[Key],
-) -> Result<Option<Counts>, Memory>
+fn counts_for(alloc: Global, bound: &Bound, keys: &[Key]) -> Result<Option<Counts>, Memory>
     ensures { IfOk result (λ counts. AreCountsFor bound.now keys.now counts) }
 {
     if is_insert(bound) {
@@ -391,7 +366,7 @@ fn wrote(
     let count = writes.len() as u64;
     match obstacle_of(alloc, held, session, bound, writes.as_slice()) {
         Ok(Some(refusal)) => refuse(held, session, refusal),
-        Ok(None) => match write(alloc, held, session, writes) {
+        Ok(None) => match write(held, session, writes) {
             Ok(()) => Reply::Affected(count),
             Err(_) => refuse(held, session, Refusal::Memory),
         },
@@ -400,15 +375,11 @@ fn wrote(
 }
 
 /// The Finish of a statement whose work gave this outcome.
-fn settle(
-    alloc: Global,
-    held: &mut Held,
-    session: u32,
-    bound: &Bound,
-    outcome: Outcome,
-) -> Reply
+fn settle(alloc: Global, held: &mut Held, session: u32, bound: &Bound, outcome: Outcome) -> Reply
     requires within { IsWithin held.old session }
-    ensures { (schema : Schema) (short : Bool) → GivesIn schema (state_of held.old) session bound.now short outcome → Settles schema (state_of held.old) session bound.now short result (state_of held.new) }
+    ensures settles { (schema : Schema) (short : Bool) → GivesIn schema (state_of held.old) session bound.now short outcome → Settles schema (state_of held.old) session bound.now short result (state_of held.new) }
+    ensures fits { (schema : Schema) (short : Bool) → GivesIn schema (state_of held.old) session bound.now short outcome → IsFitState schema (state_of held.old) → IsReady schema bound.now
+        → IsFitState schema (state_of held.new) × IsPrintableReply schema result }
 {
     match outcome {
         Outcome::Nothing => plain(alloc, held, session, bound),
@@ -422,7 +393,9 @@ fn settle(
 pub fn finish(alloc: Global, held: &mut Held, session: u32, outcome: Outcome) -> Reply
     requires within { IsWithin held.old session }
     requires half { is_some ((state_of held.old).half session) ≡ true }
-    ensures { (schema : Schema) → IsDoneAt schema (state_of held.old) session outcome → IsStep schema (state_of held.old) (Finish session result) (state_of held.new) }
+    ensures step { (schema : Schema) → IsDoneAt schema (state_of held.old) session outcome → IsStep schema (state_of held.old) (Finish session result) (state_of held.new) }
+    ensures fits { (schema : Schema) → IsDoneAt schema (state_of held.old) session outcome → IsFitState schema (state_of held.old)
+        → IsFitState schema (state_of held.new) × IsPrintableReply schema result }
 {
     match set_half(held, session, None) {
         Some(half) => settle(alloc, held, session, &half.bound, outcome),

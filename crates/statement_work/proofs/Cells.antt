@@ -1,8 +1,7 @@
 -- Answers can be printed, where the columns hold the rows.
-use Rattle.std.proofs.Common.{◌≡◌, ℕ, zero, suc, ◌+◌, ◌==◌, ℤ, pos, IsTrue, Bool, true, false, not, cond, subst, refl, List, [], ◌∷◌, ◌++◌, map, filter, fold, length, sym, ap, ◌∙◌, arith, All}
+use Rattle.std.proofs.Common.{◌≡◌, ℕ, suc, ◌+◌, ◌==◌, ℤ, pos, IsTrue, Bool, true, false, not, cond, subst, refl, List, [], ◌∷◌, ◌++◌, map, filter, fold, length, arith, All}
 use Rattle.std.specs.Prelude.{int_div, Option, Some, None, slice_get, IfOk, Result, Ok, Err}
 use Rattle.std.specs.List.{list_any}
-use Rattle.std.specs.Ordering.{is_lt, is_gt}
 use Rattle.std.proofs.lemmas.Bool.Decides.{nat_tests}
 use Rattle.std.proofs.lemmas.List.Elements.{All-nil, All-cons, All-push, All-filter}
 use Rattle.cs_types.specs.declared.Column.{Column}
@@ -15,7 +14,6 @@ use Rattle.cs_types.specs.declared.Value.{Value}
 use Rattle.cs_types.specs.declared.Value.TheVariants.{Null, Number, Text}
 use Rattle.cs_types.specs.Kinds.{keeps_number}
 use Rattle.cs_types.specs.Rows.{cell_at}
-use Rattle.cs_types.specs.Values.{value_cmp}
 use Rattle.cs_types.specs.Text.{loose_of, IsPrintable}
 use Rattle.cs_plans.specs.declared.plan.Item.{Item}
 use Rattle.cs_plans.specs.declared.plan.Item.TheVariants as item
@@ -24,10 +22,10 @@ use Rattle.cs_predicate.specs.Cells.{loose_in}
 use Rattle.cs_model.specs.Text.{IsPrintableRow}
 use Rattle.batch_aggregate.specs.declared.refusal.AnswerRefusal.{AnswerRefusal}
 use Rattle.batch_aggregate.specs.Answers.{keeps, kept, row_order, group_order, before, values_from, group_row, rows_from, grouped_answer, plain_answer, answer, Gives}
-use Rattle.batch_aggregate.specs.Groups.{cells_of, same_cells, each_once, Group, gathered, groups_of, place_of}
+use Rattle.batch_aggregate.specs.Groups.{cells_of, same_cells, each_once, Group, groups_of, place_of}
 use Rattle.batch_aggregate.specs.Items.{is_null, present, lesser, greater, least_of, greatest_of, shown_if, of_sum, of_sum_in, sum_of, group_item, row_item}
 use Rattle.batch_aggregate.specs.Order.{comes_before, put, in_order}
-use Rattle.statement_work.specs.Held.{holds, IsHeld}
+use Rattle.cs_model.specs.Held.{holds, IsHeld}
 
 -- ---- cells
 

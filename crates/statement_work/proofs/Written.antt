@@ -22,8 +22,8 @@ use Rattle.cs_predicate.specs.Expressions.{Computed, compute}
 use Rattle.cs_model.specs.Answers.{numbered, kept, computed_of, given, cell_onto, cells_from, row_onto, rows_from, inserted_cell, series_len, series, updated_by, updated_cell, updated_row}
 use Rattle.statement_work.specs.declared.refusal.WriteRefusal.{WriteRefusal}
 use Rattle.statement_work.specs.declared.refusal.WriteRefusal.TheVariants as refusal
-use Rattle.statement_work.specs.Held.{holds, IsHeld}
-use Rattle.statement_work.specs.Gives.{RefusesCell, RefusesRow, RefusesRows, GivesRow, GivesRows}
+use Rattle.cs_model.specs.Held.{holds, IsHeld}
+use Rattle.statement_work.specs.Gives.{RefusesCell, RefusesRow, RefusesRows, GivesRows}
 
 -- what stands behind a front, or its refusal
 abbrev pub behind : {X E : Type 0} → List X → Result (List X) E → Result (List X) E
@@ -68,7 +68,7 @@ module _ (cell : ℕ → Column → Result Value ℕ) (columns : List Column) wh
 
 -- ---- rows
 
-behind_row : {Y : Type 0} (n : ℕ) (rows : List Y) (row : Y) (rest : Result (List Y) Refusal) → behind (rows ++ row ∷ []) rest ≡ behind rows (row_onto n (Ok row) rest)
+pub behind_row : {Y : Type 0} (n : ℕ) (rows : List Y) (row : Y) (rest : Result (List Y) Refusal) → behind (rows ++ row ∷ []) rest ≡ behind rows (row_onto n (Ok row) rest)
 behind_row n rows row (Ok more) = ap Ok (append_assoc rows (row ∷ []) more)
 behind_row n rows row (Err e) = refl
 

@@ -24,11 +24,11 @@ abbrev pub GivesRow : ℕ → Result (List Value) (ℕ × ℕ) → Result (List 
 GivesRow row wanted (Ok cells) = wanted ≡ Ok cells
 GivesRow row wanted (Err e) = RefusesRow row wanted e
 
-abbrev pub RefusesRows : Result (List (List Value)) Refusal → WriteRefusal → Type 0
+abbrev pub RefusesRows : {Y : Type 0} → Result (List Y) Refusal → WriteRefusal → Type 0
 RefusesRows wanted (refusal.Value number row column) = wanted ≡ Err (Valued number row column)
 RefusesRows wanted refusal.Memory = Unit {0}
 
--- all rows
-abbrev pub GivesRows : Result (List (List Value)) Refusal → Result (List (List Value)) WriteRefusal → Type 0
+-- all rows, or what is put at their keys
+abbrev pub GivesRows : {Y : Type 0} → Result (List Y) Refusal → Result (List Y) WriteRefusal → Type 0
 GivesRows wanted (Ok rows) = wanted ≡ Ok rows
 GivesRows wanted (Err e) = RefusesRows wanted e

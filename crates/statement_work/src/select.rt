@@ -4,7 +4,7 @@ ghost use Rattle.std.specs.Prelude.{All, IfOk};
 ghost use Rattle.std.specs.Map.{values_of};
 ghost use Rattle.batch_aggregate.specs.Answers.{Gives, answer};
 ghost use Rattle.cs_model.specs.Text.{IsPrintableRow};
-ghost use Rattle.statement_work.specs.Held.{IsHeld};
+ghost use Rattle.cs_model.specs.Held.{IsHeld};
 
 use batch_aggregate::{AnswerRefusal, Partial};
 use cs_base::Items;

@@ -1,18 +1,21 @@
 //! The rows that an UPDATE writes.
 
-ghost use Rattle.std.specs.Prelude.{◌≡◌, ◌<◌, ◌==◌, ℕ, IfOk};
+ghost use Rattle.std.specs.Prelude.{◌≡◌, ◌<◌, ◌==◌, ℕ, All, IfOk};
 ghost use Rattle.std.specs.List.{find};
 ghost use Rattle.std.specs.Option.{option_copied};
 ghost use Rattle.cs_types.specs.Kinds.{IsColumnType};
 ghost use Rattle.cs_types.specs.Schemas.{IsSchema};
 ghost use Rattle.cs_plans.specs.declared.expr.Expr.{Expr};
 ghost use Rattle.cs_model.specs.Answers as spec;
-ghost use Rattle.statement_work.specs.Gives.{GivesCell, GivesRow};
-ghost use Rattle.statement_work.specs.Held.{IsHeld};
+ghost use Rattle.cs_model.specs.Held.{IsHeld, IsFit, IsFitTable};
+ghost use Rattle.statement_work.specs.Gives.{GivesCell, GivesRow, GivesRows};
 
 use crate::refusal::WriteRefusal;
-use crate::write::kept;
-use cs_plans::Expr;
+use crate::write::{Edit, kept};
+use batch_aggregate::keeps;
+use change_list::Rows;
+use cs_base::Items;
+use cs_plans::{Expr, UpdatePlan};
 use cs_predicate::compute;
 use cs_types::{Column, Row, Schema, Value};
 use std::alloc::Global;
@@ -45,7 +48,7 @@ fn updated_cell(
 
 /// What an UPDATE makes of a row: each column that it sets computed from the row as it was and fitted, the others as they
 /// were. `Value` with the first refusal by column: 515, 2628, 220, 8115 and 8134. `Memory` where there is no room for the row.
-pub fn updated_row(
+fn updated_row(
     alloc: Global,
     schema: &Schema,
     sets: &[(usize, Expr)],
@@ -63,4 +66,31 @@ pub fn updated_row(
         cells.push(value)?;
     }
     Ok(cells)
+}
+
+/// What an UPDATE puts at the keys of the rows that its filter keeps, in the order of their keys. `Value` with the first
+/// refusal by row, counted among those that it keeps, and then by column, as `updated_row` has them. `Memory` where there
+/// is no room for the rows. Condition: the columns hold the rows.
+pub fn updated(
+    alloc: Global,
+    schema: &Schema,
+    plan: &UpdatePlan,
+    rows: &Rows,
+) -> Result<Items<Edit>, WriteRefusal>
+    requires schema { IsSchema schema.now }
+    requires table { IsFitTable schema.now rows.now.entries }
+    ensures gives { GivesRows (spec.updated schema.now plan.now rows.now.entries) result }
+    ensures fit { IfOk result (λ edits. All (IsFit schema.now) edits) }
+{
+    let sets = plan.sets.as_slice();
+    let mut edits = Items::new(alloc);
+    for (key, row) in rows.iter() {
+        if !keeps(schema, &plan.filter, row) {
+            continue;
+        }
+        let number = edits.len() as u64 + 1;
+        let after = updated_row(alloc, schema, sets, row, number)?;
+        edits.push((*key, Some(after)))?;
+    }
+    Ok(edits)
 }

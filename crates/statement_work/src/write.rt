@@ -6,18 +6,21 @@ ghost use Rattle.std.specs.Option.{option_copied};
 ghost use Rattle.cs_types.specs.Kinds.{IsColumnType};
 ghost use Rattle.cs_types.specs.Schemas.{IsSchema};
 ghost use Rattle.cs_predicate.specs.Expressions.{Computed, Gives};
+ghost use Rattle.cs_model.specs.Held.{IsHeld};
 ghost use Rattle.cs_model.specs.Answers.{kept, computed_of, given, inserted_row, rows_from, series_len, series, inserted};
 ghost use Rattle.tsql_names.specs.Names.{series_schema};
 ghost use Rattle.statement_work.specs.Gives.{GivesCell, GivesRow, GivesRows};
-ghost use Rattle.statement_work.specs.Held.{IsHeld};
 
 use crate::refusal::WriteRefusal;
 use cs_base::{Items, Memory};
 use cs_plans::{Expr, InsertPlan};
 use cs_predicate::{ExprRefusal, compute};
-use cs_types::{Column, Loose, Row, Schema, Value, fits};
+use cs_types::{Column, Key, Loose, Row, Schema, Value, fits};
 use std::alloc::Global;
 use tsql_names::series_schema;
+
+/// What becomes of a key: a row, or nothing.
+pub type Edit = (Key, Option<Row>);
 
 /// The place of a column in the list of columns.
 fn place_of(columns: &[usize], column: usize) -> Option<usize>

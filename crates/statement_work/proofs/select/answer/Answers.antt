@@ -1,8 +1,7 @@
-use Rattle.std.proofs.Common.{◌≡◌, ◌∙◌, map}
+use Rattle.std.proofs.Common.{◌∙◌, map}
 use Rattle.std.specs.Map.{values_of}
 use Rattle.std.specs.Map.Iter.{deref}
 use Rattle.std.proofs.lemmas.Map.Iter.{iter_end}
-use Rattle.batch_aggregate.specs.Answers.{Gives, answer}
 use Rattle.statement_work.proofs.Cells.{answered, answer_printable}
 use Rattle.statement_work.proofs.select.answer.Goals as goal
 

@@ -1,4 +1,4 @@
-use Rattle.std.proofs.Common.{rules, ℤ, ℕ, ◌≡◌, ◌∙◌, ◌+◌, [], ◌∷◌, subst, sym, ap, w64, to_z, of_z, FitsSigned}
+use Rattle.std.proofs.Common.{rules, ℤ, ◌≡◌, ◌∙◌, ◌+◌, [], ◌∷◌, subst, sym, ap, w64, to_z, of_z, FitsSigned}
 use Rattle.std.specs.Prelude.{Ok, Err}
 use Rattle.std.proofs.lemmas.Int.{to_z-of_z}
 use Rattle.cs_types.specs.declared.Value.TheVariants.{Number}

@@ -1,0 +1,9 @@
+use Rattle.std.proofs.Common.{◌≡◌, ◌<◌, ◌^◌, take}
+use Rattle.cs_types.specs.Calendar.{digits_value}
+use Rattle.script_reader.proofs.form.number_of.Given as goal
+
+abbrev pub invariant-loop-digit : goal.invariant-loop-digit
+invariant-loop-digit l = record {
+  value : l.number ≡ digits_value (take l.digit-index l.digits);
+  bound : l.number < 10 ^ l.digit-index;
+}

@@ -1,0 +1,61 @@
+-- A script, line by line.
+use Rattle.std.specs.Prelude.{◌≡◌, ℕ, ◌≤◌, ◌<◌, List, [], ◌∷◌, length, Bool, false, slice_index_or, Option, None, Some}
+use Rattle.cs_types.specs.declared.Schema.{Schema}
+use Rattle.cs_types.specs.Schemas.{IsSchema}
+use Rattle.tsql_table.specs.Tables.{IsTable, IsNoTable}
+use Rattle.script_reader.specs.declared.form.Form.{Form}
+use Rattle.script_reader.specs.declared.form.Form.TheVariants.{Skipped, Setup, Ask, Other}
+use Rattle.script_reader.specs.declared.read.Reading.{Reading}
+use Rattle.script_reader.specs.declared.script.Step.{Step}
+use Rattle.script_reader.specs.declared.script.ScriptRefusal.{ScriptRefusal}
+use Rattle.script_reader.specs.declared.script.ScriptRefusal.TheVariants.{Bad, Memory}
+use Rattle.script_reader.specs.Scripts.{half_done, session_of, text_of, setups, steps_of, AreGood, IsGood, IsBad}
+
+-- each text of the form has at most so many bytes
+abbrev pub IsShort : ℕ → Form → Type 0
+IsShort most (Setup text) = length text ≤ most
+IsShort most (Ask step) = length (text_of step) ≤ most
+IsShort most Skipped = Unit {0}
+IsShort most Other = Unit {0}
+
+-- the session of the form's step has a place
+abbrev pub IsPlaced : Form → Type 0
+IsPlaced (Ask step) = session_of step < 65
+IsPlaced (Setup text) = Unit {0}
+IsPlaced Skipped = Unit {0}
+IsPlaced Other = Unit {0}
+
+-- each session's place says whether it has a statement half done behind these steps
+abbrev pub AreMarked : List Bool → List Step → Type 0
+AreMarked marks steps = (length marks ≡ 65) × ((session : ℕ) → session < 65 → slice_index_or marks session false ≡ half_done session steps)
+
+-- the table of a setup statement, and of no other
+pub record IsOnlyTable (text : List ℕ) (schema : Schema) : Type 0 where
+  pub table : IsTable text schema
+  pub only : (other : Schema) → IsTable text other → schema ≡ other
+  pub valid : IsSchema schema
+
+-- the table that the lines set up
+abbrev pub IsSetUp : List (List ℕ) → Option Schema → Type 0
+IsSetUp [] None = Unit {0}
+IsSetUp [] (Some schema) = ⊥
+IsSetUp (text ∷ []) None = ⊥
+IsSetUp (text ∷ []) (Some schema) = IsOnlyTable text schema
+IsSetUp (text ∷ next ∷ texts) schema = ⊥
+
+-- what these lines, which are good, say
+pub record IsRead (lines : List (List ℕ)) (reading : Reading) : Type 0 where
+  pub good : AreGood [] lines
+  pub setup : IsSetUp (setups lines) reading.schema
+  pub steps : reading.lines ≡ steps_of lines
+  pub marked : AreMarked reading.half_done reading.lines
+
+-- why the n-th line, behind these, is refused
+abbrev pub RefusesLine : List (List ℕ) → List ℕ → ℕ → ScriptRefusal → Type 0
+RefusesLine before line n (Bad at reason number) = (at ≡ n) × IsBad before line reason number × (IsGood before line → ⊥)
+RefusesLine before line n Memory = Unit {0}
+
+-- the error of a setup statement in the n-th line that is refused
+abbrev pub RefusesSetup : List ℕ → ℕ → ScriptRefusal → Type 0
+RefusesSetup text n (Bad line reason number) = (line ≡ n) × (reason ≡ 8) × ((at : ℕ) × IsNoTable text number at) × ((schema : Schema) → IsTable text schema → ⊥)
+RefusesSetup text n Memory = Unit {0}

@@ -1,0 +1,224 @@
+use crate::{Script, read_script};
+use std::alloc::{AllocError, Global};
+use std::process::Abort;
+use std::test::Fail;
+
+/// A setup line.
+const SETUP: &[u8] = b"setup CREATE TABLE t (k int PRIMARY KEY)\n";
+
+/// A script's steps and sessions, or its refusal, as they are printed.
+fn outcome_of(alloc: Global, script: &[u8]) -> Result<String, AllocError> {
+    match read_script(alloc, script) {
+        Ok(
+            Script {
+                lines,
+                sessions,
+                ..
+            },
+        ) => format!(in alloc; "{lines:?} {sessions:?}"),
+        Err(refusal) => format!(in alloc; "{refusal:?}"),
+    }
+}
+
+/// The script has the outcome that is printed so.
+fn check(rt: &impl Abort, alloc: Global, script: &[u8], expected: &str) -> Result<(), Fail> {
+    let outcome = outcome_of(alloc, script)?;
+    assert_eq!(rt; outcome.as_str(), expected, "at {script:?}");
+    Ok(())
+}
+
+/// The setup line, and these bytes behind it.
+fn behind_setup(alloc: Global, bytes: &[u8]) -> Result<Vec<u8>, AllocError> {
+    let mut script = Vec::new(alloc);
+    script.extend_from_slice(SETUP)?;
+    script.extend_from_slice(bytes)?;
+    Ok(script)
+}
+
+/// Each of the lines has the outcome beside it, behind a setup line.
+fn check_lines(rt: &impl Abort, alloc: Global, cases: &[(&[u8], &str)]) -> Result<(), Fail> {
+    for (lines, expected) in cases {
+        let script = behind_setup(alloc, lines)?;
+        check(rt, alloc, script.as_slice(), expected)?;
+    }
+    Ok(())
+}
+
+/// A line that begins so, and has so many bytes with its further ones.
+fn long(alloc: Global, front: &[u8], byte: u8, size: usize) -> Result<Vec<u8>, AllocError> {
+    let mut line = Vec::new(alloc);
+    line.extend_from_slice(front)?;
+    for _ in front.len()..size {
+        line.push(byte)?;
+    }
+    Ok(line)
+}
+
+#[test]
+fn forms(rt: HostRuntime) -> Result<(), Fail> {
+    let cases: [(&[u8], &str); 16] = [
+        (b"", "[] []"),
+        (b"s1 A", "[Whole { session: 1, text: [65] }] [1]"),
+        (b"s1\tA\n", "[Whole { session: 1, text: [65] }] [1]"),
+        (
+            b" \ts1 \t A B\t \r\n",
+            "[Whole { session: 1, text: [65, 32, 66] }] [1]",
+        ),
+        (b"s1 A\n\r", "[Whole { session: 1, text: [65] }] [1]"),
+        (
+            b"\n \t\n--\n -- s1\n--s65\ns1 A\n--",
+            "[Whole { session: 1, text: [65] }] [1]",
+        ),
+        (
+            b"s1 -- A",
+            "[Whole { session: 1, text: [45, 45, 32, 65] }] [1]",
+        ),
+        (b"s1 <", "[Whole { session: 1, text: [60] }] [1]"),
+        (b"s1 >A", "[Whole { session: 1, text: [62, 65] }] [1]"),
+        (
+            b"s1>A\ns1<",
+            "[Begun { session: 1, text: [65] }, Finished { session: 1 }] [1]",
+        ),
+        (
+            b"s1> \tA\n\ts1< \n",
+            "[Begun { session: 1, text: [65] }, Finished { session: 1 }] [1]",
+        ),
+        (
+            b"s1><\ns1<",
+            "[Begun { session: 1, text: [60] }, Finished { session: 1 }] [1]",
+        ),
+        (
+            b"s1>A\ns2 B\ns1<\ns1 C",
+            "[Begun { session: 1, text: [65] }, Whole { session: 2, text: [66] }, Finished { session: 1 }, Whole { session: 1, text: [67] }] [1, 2]",
+        ),
+        (
+            b"s64>A\ns3>B\ns64<\ns3<\ns64 C",
+            "[Begun { session: 64, text: [65] }, Begun { session: 3, text: [66] }, Finished { session: 64 }, Finished { session: 3 }, Whole { session: 64, text: [67] }] [3, 64]",
+        ),
+        (b"s1 s1<", "[Whole { session: 1, text: [115, 49, 60] }] [1]"),
+        (b"s10 1", "[Whole { session: 10, text: [49] }] [10]"),
+    ];
+    check_lines(&rt, rt.alloc(), &cases)
+}
+
+#[test]
+fn bad_steps(rt: HostRuntime) -> Result<(), Fail> {
+    let cases: [(&[u8], &str); 39] = [
+        (b"abc", "Bad { line: 2, reason: 1, number: 0 }"),
+        (b"-", "Bad { line: 2, reason: 1, number: 0 }"),
+        (b"- -", "Bad { line: 2, reason: 1, number: 0 }"),
+        (b"s", "Bad { line: 2, reason: 1, number: 0 }"),
+        (b"s A", "Bad { line: 2, reason: 1, number: 0 }"),
+        (b"s 1 A", "Bad { line: 2, reason: 1, number: 0 }"),
+        (b"s1", "Bad { line: 2, reason: 1, number: 0 }"),
+        (b"s1 \t", "Bad { line: 2, reason: 1, number: 0 }"),
+        (b"s1A", "Bad { line: 2, reason: 1, number: 0 }"),
+        (b"s1-- A", "Bad { line: 2, reason: 1, number: 0 }"),
+        (b"S1 A", "Bad { line: 2, reason: 1, number: 0 }"),
+        (b"s0 A", "Bad { line: 2, reason: 1, number: 0 }"),
+        (b"s01 A", "Bad { line: 2, reason: 1, number: 0 }"),
+        (b"s+1 A", "Bad { line: 2, reason: 1, number: 0 }"),
+        (b"s1234567890 A", "Bad { line: 2, reason: 1, number: 0 }"),
+        (b"s1>", "Bad { line: 2, reason: 1, number: 0 }"),
+        (b"s1> \t", "Bad { line: 2, reason: 1, number: 0 }"),
+        (b"s1>A\ns1< A", "Bad { line: 3, reason: 1, number: 0 }"),
+        (b"s1>A\ns1<<", "Bad { line: 3, reason: 1, number: 0 }"),
+        (b"m1", "Bad { line: 2, reason: 1, number: 0 }"),
+        (b"m1>", "Bad { line: 2, reason: 1, number: 0 }"),
+        (b"setup", "Bad { line: 2, reason: 1, number: 0 }"),
+        (b"setupA", "Bad { line: 2, reason: 1, number: 0 }"),
+        (b"Setup A", "Bad { line: 2, reason: 1, number: 0 }"),
+        (b"setup A", "Bad { line: 2, reason: 2, number: 0 }"),
+        (b"s65 A", "Bad { line: 2, reason: 4, number: 0 }"),
+        (b"s65<", "Bad { line: 2, reason: 4, number: 0 }"),
+        (b"s999999999>A", "Bad { line: 2, reason: 4, number: 0 }"),
+        (b"s1 \x7f", "Bad { line: 2, reason: 6, number: 0 }"),
+        (b"abc\x0b", "Bad { line: 2, reason: 6, number: 0 }"),
+        (b"-- \x80", "Bad { line: 2, reason: 6, number: 0 }"),
+        (b"s1 A\r \n", "Bad { line: 2, reason: 6, number: 0 }"),
+        (b"s1 A\n\r\r\n", "Bad { line: 3, reason: 6, number: 0 }"),
+        (b"s1<", "Bad { line: 2, reason: 7, number: 0 }"),
+        (b"s1>A\ns2<", "Bad { line: 3, reason: 7, number: 0 }"),
+        (b"s1>A\ns1>B", "Bad { line: 3, reason: 7, number: 0 }"),
+        (b"s1>A\n\ns1 B", "Bad { line: 4, reason: 7, number: 0 }"),
+        (b"s1>A\ns1<\ns1<", "Bad { line: 4, reason: 7, number: 0 }"),
+        (b"s1>A\ns2 B\n--\n", "Bad { line: 5, reason: 7, number: 0 }"),
+    ];
+    check_lines(&rt, rt.alloc(), &cases)
+}
+
+#[test]
+fn setups(rt: HostRuntime) -> Result<(), Fail> {
+    let cases: [(&[u8], &str); 16] = [
+        (b"", "Bad { line: 1, reason: 2, number: 0 }"),
+        (b"\n", "Bad { line: 2, reason: 2, number: 0 }"),
+        (b"\r", "Bad { line: 1, reason: 2, number: 0 }"),
+        (b"--\n -- s1", "Bad { line: 3, reason: 2, number: 0 }"),
+        (b"abc", "Bad { line: 1, reason: 1, number: 0 }"),
+        (b"setup \t", "Bad { line: 1, reason: 1, number: 0 }"),
+        (b"s1 A", "Bad { line: 1, reason: 2, number: 0 }"),
+        (b"--\ns1<", "Bad { line: 2, reason: 2, number: 0 }"),
+        (b"s65 A", "Bad { line: 1, reason: 2, number: 0 }"),
+        (b"s1 \x01", "Bad { line: 1, reason: 6, number: 0 }"),
+        (b"setup A", "Bad { line: 1, reason: 8, number: 102 }"),
+        (
+            b"--\nsetup CREATE TABLE t (k int)",
+            "Bad { line: 2, reason: 8, number: 50001 }",
+        ),
+        (b"setup A\nabc", "Bad { line: 1, reason: 8, number: 102 }"),
+        (b"setup CREATE TABLE t (k int PRIMARY KEY)", "[] []"),
+        (
+            b"--\n\n \tsetup \t CREATE TABLE t (k int PRIMARY KEY) \t\r\n--",
+            "[] []",
+        ),
+        (
+            b"setup CREATE TABLE t (k int PRIMARY KEY)\n--\nsetup CREATE TABLE t (k int PRIMARY KEY)",
+            "Bad { line: 3, reason: 2, number: 0 }",
+        ),
+    ];
+    for (script, expected) in &cases {
+        check(&rt, rt.alloc(), script, expected)?;
+    }
+    Ok(())
+}
+
+/// A line of this size that begins so has the outcome that is printed so, behind a setup line and before a byte 13.
+fn check_long(
+    rt: &impl Abort,
+    alloc: Global,
+    front: &[u8],
+    byte: u8,
+    size: usize,
+    expected: &str,
+) -> Result<(), Fail> {
+    let line = long(alloc, front, byte, size)?;
+    let mut script = behind_setup(alloc, line.as_slice())?;
+    script.extend_from_slice(b"\r\n")?;
+    check(rt, alloc, script.as_slice(), expected)
+}
+
+#[test]
+fn long_lines(rt: HostRuntime) -> Result<(), Fail> {
+    let cases: [(&[u8], u8, usize, &str); 6] = [
+        (b"--", b'-', 65_536, "[] []"),
+        (b"--", b'-', 65_537, "Bad { line: 2, reason: 5, number: 0 }"),
+        (
+            b"s1 A",
+            b' ',
+            65_536,
+            "[Whole { session: 1, text: [65] }] [1]",
+        ),
+        (
+            b"s1 A",
+            b' ',
+            65_537,
+            "Bad { line: 2, reason: 5, number: 0 }",
+        ),
+        (b"", b' ', 65_537, "Bad { line: 2, reason: 5, number: 0 }"),
+        (b"", 127, 65_537, "Bad { line: 2, reason: 5, number: 0 }"),
+    ];
+    for (front, byte, size, expected) in &cases {
+        check_long(&rt, rt.alloc(), front, *byte, *size, expected)?;
+    }
+    Ok(())
+}

@@ -1,0 +1,88 @@
+-- Edits that fit a table, where the columns hold the rows.
+use Rattle.std.proofs.Common.{◌≡◌, ℕ, zero, suc, ◌<◌, List, [], ◌∷◌, length, map, refl, sym, subst, arith, cond, Bool, true, false, IsTrue, All}
+use Rattle.std.specs.Prelude.{Option, None, Some, slice_get}
+use Rattle.std.specs.Map.{values_of}
+use Rattle.std.proofs.lemmas.List.Elements.{All-nil, All-cons}
+use Rattle.cs_types.specs.declared.Column.{Column}
+use Rattle.cs_types.specs.declared.ColumnType.{ColumnType}
+use Rattle.cs_types.specs.declared.ColumnType.TheVariants.{TinyInt, SmallInt, Int, BigInt, Decimal, Date, VarChar}
+use Rattle.cs_types.specs.declared.Key.{Key}
+use Rattle.cs_types.specs.declared.Schema.{Schema}
+use Rattle.cs_types.specs.declared.Value.{Value}
+use Rattle.cs_types.specs.declared.Value.TheVariants.{Null, Number, Text}
+use Rattle.cs_types.specs.Kinds.{keeps, is_short}
+use Rattle.cs_types.specs.Rows.{cell_at, number_in, key_in, IsNumber}
+use Rattle.cs_types.specs.Schemas.{IsSchema, is_key_kind}
+use Rattle.cs_plans.specs.declared.pred.Pred.{Pred}
+use Rattle.batch_aggregate.specs.Answers.{keeps as is_chosen}
+use Rattle.cs_model.specs.Answers.{edits_of, chosen, deleted}
+use Rattle.cs_model.specs.Changes.{Table}
+use Rattle.cs_model.specs.Held.{holds, IsHeld, IsFit, IsFitEntry, IsFitTable}
+use Rattle.cs_model.specs.Text.{kind_or, IsPrintableKey}
+
+-- ---- keys
+
+no_text_key : (kind : ColumnType) (t : List ℕ) → IsTrue (is_key_kind kind) → IsTrue (is_short kind t) → ⊥
+no_text_key TinyInt t k h = absurd (cc)
+no_text_key SmallInt t k h = absurd (cc)
+no_text_key Int t k h = absurd (cc)
+no_text_key BigInt t k h = absurd (cc)
+no_text_key (Decimal p s) t k h = absurd (cc)
+no_text_key Date t k h = absurd (cc)
+no_text_key (VarChar n) t k h = absurd (cc)
+
+-- a value that the key's column holds is a number in its type's range
+key_value : (column : Column) (v : Value) → IsTrue (is_key_kind column.kind) → column.nullable ≡ false → IsTrue (holds column v)
+    → IsNumber v × IsTrue (keeps column.kind (Number (number_in v)))
+key_value column Null k never h = absurd (cc)
+key_value column (Number z) k never h = (tt, h)
+key_value column (Text t) k never h = absurd (no_text_key column.kind t k h)
+
+-- the column at a place that is there
+column_at : (columns : List Column) (i : ℕ) → i < length columns → (column : Column) × (slice_get columns i ≡ Some column)
+column_at [] i within = absurd (omega arith)
+column_at (column ∷ columns) zero within = (column, refl)
+column_at (column ∷ columns) (suc i) within = column_at columns i (omega arith)
+
+held_key : (schema : Schema) (row : List Value) → IsSchema schema → IsHeld schema row → IsNumber (cell_at row schema.key) × IsPrintableKey schema (key_in schema.key row)
+held_key schema row is held =
+    let c = column_at schema.columns schema.key is.key_there in
+    let both = key_value c.0 (cell_at row schema.key) (is.key_kind c.0 c.1) (is.key_never_null c.0 c.1) (held schema.key c.0 c.1) in
+    (both.0, subst (λ o. IsTrue (keeps (kind_or o) (Number (key_in schema.key row).0))) (sym c.1) both.1)
+
+-- each of the rows has a key
+pub are_numbers : (schema : Schema) (rows : List (List Value)) → IsSchema schema → All (IsHeld schema) rows → All (λ row. IsNumber (cell_at row schema.key)) rows
+are_numbers schema rows is held = λ k d lt. (held_key schema _ is (held k d lt)).0
+
+-- ---- edits
+
+-- rows at their keys
+pub edits_fit : (schema : Schema) (rows : List (List Value)) → IsSchema schema → All (IsHeld schema) rows → All (IsFit schema) (edits_of schema rows)
+edits_fit schema [] is held = All-nil (IsFit schema)
+edits_fit schema (row ∷ rows) is held =
+    let here = held 0 row (omega arith) in
+    All-cons (IsFit schema) (key_in schema.key row, Some row) (edits_of schema rows) ((held_key schema row is here).1, here)
+    (edits_fit schema rows is (λ k d lt. held (suc k) d (omega arith)))
+
+-- keys of a table with nothing in their places
+pub deleted_fit : (schema : Schema) (condition : Option Pred) (table : Table) → IsFitTable schema table → All (IsFit schema) (deleted schema condition table)
+deleted_fit schema condition [] fit = All-nil (IsFit schema)
+deleted_fit schema condition (entry ∷ table) fit = at (is_chosen schema condition entry.1) (deleted_fit schema condition table (λ k d lt. fit (suc k) d (omega arith)))
+  where
+    at : (t : Bool) → All (IsFit schema) (deleted schema condition table)
+        → All (IsFit schema) (map (λ (e : Key × List Value). (e.0, None)) (cond t (entry ∷ chosen schema condition table) (chosen schema condition table)))
+    at true rest = All-cons (IsFit schema) (entry.0, None) (deleted schema condition table) ((fit 0 entry (omega arith)).0, tt) rest
+    at false rest = rest
+
+-- ---- rows
+
+-- the rows of a table
+pub table_held : (schema : Schema) (table : Table) → IsFitTable schema table → All (IsHeld schema) (values_of table)
+table_held schema [] fit = All-nil (IsHeld schema)
+table_held schema (entry ∷ table) fit = All-cons (IsHeld schema) entry.1 (values_of table) (fit 0 entry (omega arith)).1 (table_held schema table (λ k d lt. fit (suc k) d (omega arith)))
+
+pub head_fit : (schema : Schema) (entry : Key × List Value) (rest table : Table) → table ≡ entry ∷ rest → IsFitTable schema table → IsFitEntry schema entry
+head_fit schema entry rest table is fit = (subst (IsFitTable schema) is fit) 0 entry (omega arith)
+
+pub tail_fit : (schema : Schema) (entry : Key × List Value) (rest table : Table) → table ≡ entry ∷ rest → IsFitTable schema table → IsFitTable schema rest
+tail_fit schema entry rest table is fit = λ k d lt. (subst (IsFitTable schema) is fit) (suc k) d (omega arith)

@@ -1,0 +1,42 @@
+-- The newest changes, as a finite map from keys to commit and transaction numbers.
+use Rattle.std.specs.Prelude.{◌≡◌, ℕ, ℤ, nat_lt, if◌then◌else◌, Option, Some, None, refl}
+use Rattle.std.specs.declared.cmp.Ordering.{Ordering}
+use Rattle.std.specs.Ordering.{int_cmp}
+use Rattle.std.specs.Coded.{Coded, code_by, coded×, coded_ℕ, coded_ℤ}
+use Rattle.std.specs.FinMap as map
+use Rattle.cs_types.specs.declared.Key.{Key}
+
+-- keys are ordered as their numbers
+abbrev pub key_cmp : Key → Key → Ordering
+key_cmp a b = int_cmp a.0 b.0
+
+-- a change: its commit number, and that of its transaction
+abbrev pub Change : Type 0
+Change = ℕ × ℕ
+
+-- by key its newest change
+abbrev pub Changes : Type 0
+Changes = map.FinMap key_cmp Change
+
+-- what contracts see: the newest changes, and how many more keys find room without memory
+pub record Newest : Type 0 where
+  pub changes : Changes
+  pub spare : ℕ
+
+-- the change, where its commit number is above the floor
+abbrev pub above : ℕ → Option Change → Option Change
+above floor None = None
+above floor (Some change) = if nat_lt floor change.0 then Some change else None
+
+-- exactly the changes above the floor are left
+abbrev pub KeepsAbove : ℕ → Changes → Changes → Type 0
+KeepsAbove floor old new = (key : Key) → map.get new key ≡ above floor (map.get old key)
+
+-- ---- how they are stored
+
+abbrev pub key_code : Coded Key
+key_code = code_by ℤ coded_ℤ (λ key. key.0) (λ n. record { 0 = n }) (λ _. refl)
+
+abbrev pub newest_code : Coded Newest
+newest_code =
+    code_by (Changes × ℕ) (coded× (map.code key_code (coded× coded_ℕ coded_ℕ)) coded_ℕ) (λ n. (n.changes, n.spare)) (λ p. record { changes = p.0; spare = p.1 }) (λ _. refl)
