@@ -6,6 +6,7 @@ use std::process::Abort;
 use std::test::Fail;
 
 /// A script and its log.
+#[derive(Drop)]
 pub struct Tale {
     alloc: Global,
     script: String,
