@@ -54,7 +54,8 @@ const SCRIPTS: [(&str, Status, &str); 21] = [
     (FIRST, Status::Done, FIRST_LOG),
     (SETUP, Status::Done, ""),
     ("", Status::Script, "refused line 1 reason 2\n"),
-    ("\n", Status::Script, "refused line 1 reason 2\n"),
+    // An empty line is skipped, and the refusal is at the line after the last.
+    ("\n", Status::Script, "refused line 2 reason 2\n"),
     (
         "s1 SELECT * FROM t\n",
         Status::Script,
@@ -71,7 +72,7 @@ const SCRIPTS: [(&str, Status, &str); 21] = [
         "refused line 2 reason 1\n",
     ),
     (
-        "setup CREATE TABLE t (k bigint NOT NULL PRIMARY KEY, v int)\ns1 x\ns2 x\n",
+        "setup CREATE TABLE t (k bigint NOT NULL PRIMARY KEY, v int)\ns1 x\nx\n",
         Status::Script,
         "refused line 3 reason 1\n",
     ),
