@@ -1,13 +1,18 @@
 // The program over a source and a sink in memory. The expected texts are worked by hand or by a plain model of the
 // language, and none is the program's own.
 mod conditions;
+mod crowds;
 mod decimals;
 mod extremes;
 mod groups;
+mod half_done;
+mod obstacles;
 mod orders;
 mod patterns;
 mod ranges;
+mod sessions;
 mod sums;
+mod transactions;
 mod truths;
 mod writes;
 
@@ -49,7 +54,8 @@ const SCRIPTS: [(&str, Status, &str); 21] = [
     (FIRST, Status::Done, FIRST_LOG),
     (SETUP, Status::Done, ""),
     ("", Status::Script, "refused line 1 reason 2\n"),
-    ("\n", Status::Script, "refused line 1 reason 2\n"),
+    // An empty line is skipped, and the refusal is at the line after the last.
+    ("\n", Status::Script, "refused line 2 reason 2\n"),
     (
         "s1 SELECT * FROM t\n",
         Status::Script,
@@ -66,7 +72,7 @@ const SCRIPTS: [(&str, Status, &str); 21] = [
         "refused line 2 reason 1\n",
     ),
     (
-        "setup CREATE TABLE t (k bigint NOT NULL PRIMARY KEY, v int)\ns1 x\ns2 x\n",
+        "setup CREATE TABLE t (k bigint NOT NULL PRIMARY KEY, v int)\ns1 x\nx\n",
         Status::Script,
         "refused line 3 reason 1\n",
     ),
@@ -326,6 +332,65 @@ fn check_replies(
 fn replies(rt: HostRuntime) -> Result<(), Fail> {
     for (setup, cases) in CASES {
         check_replies(&rt, rt.alloc(), setup, cases)?;
+    }
+    Ok(())
+}
+
+/// Script lines from the setup line on, each with what it adds to the log, and last an empty one with the ends.
+type Told = &'static [(&'static str, &'static str)];
+
+/// Transactions and sessions, event by event.
+const TOLD: [Told; 18] = [
+    transactions::TWO_WRITERS,
+    transactions::OLD_SNAPSHOT,
+    obstacles::HELD_KEYS,
+    obstacles::NEWER_CHANGES,
+    transactions::CHANGES_TO_NOTHING,
+    obstacles::ORDER_OF_OBSTACLES,
+    obstacles::VALUES_FIRST,
+    transactions::AFTER_A_REFUSAL,
+    transactions::SNAPSHOTS,
+    transactions::OWN_WRITES,
+    obstacles::KEYS_OF_DAYS,
+    sessions::NUMBERS,
+    half_done::HALF_DONE_IMPLICIT,
+    half_done::HALF_DONE_EXPLICIT,
+    half_done::MANY_HALF_DONE,
+    sessions::LEVELS,
+    sessions::SETTINGS_AND_LINES,
+    sessions::ENDS,
+];
+
+/// Runs the lines as one script, and compares the log with the one that they tell.
+fn check_told(rt: &impl Abort, alloc: Global, told: Told) -> Result<(), Fail> {
+    let mut script = String::new(alloc);
+    let mut log = String::new(alloc);
+    for (line, events) in told {
+        script.push_str(format!(in alloc; "{line}\n")?.as_str())?;
+        log.push_str(events)?;
+    }
+    let (status, held) = run(alloc, "replay", script.as_bytes(), 0, 0)?;
+    assert_eq!(rt; status, Status::Done);
+    assert_eq!(rt; held.as_slice(), log.as_bytes(), "{script}");
+    Ok(())
+}
+
+#[test]
+fn tells_of_transactions(rt: HostRuntime) -> Result<(), Fail> {
+    for told in TOLD {
+        check_told(&rt, rt.alloc(), told)?;
+    }
+    crowds::deepest(rt.alloc())?.check(&rt)?;
+    crowds::all_sessions(rt.alloc())?.check(&rt)
+}
+
+#[test]
+fn refuses_lines_of_sessions(rt: HostRuntime) -> Result<(), Fail> {
+    for (lines, text) in sessions::BAD_LINES {
+        let script = format!(in rt.alloc(); "{SETUP}{lines}")?;
+        let (status, held) = run(rt.alloc(), "replay", script.as_bytes(), 0, 0)?;
+        assert_eq!(rt; status, Status::Script);
+        assert_eq!(rt; held.as_slice(), text.as_bytes(), "{lines}");
     }
     Ok(())
 }
