@@ -377,91 +377,101 @@ pub const SNAPSHOTS: Told = &[
         "s2 SELECT * FROM t",
         "33 s2.9 >\n34 s2.9 < ok 3 rows\n  1, 10\n  2, 20\n  3, 30\n",
     ),
-    ("s2 COMMIT", "35 s2.10 >\n36 s2.10 < ok\n"),
+    ("s2 BEGIN TRAN", "35 s2.10 >\n36 s2.10 < ok\n"),
+    (
+        "s2 SELECT * FROM t WHERE k > 2",
+        "37 s2.11 >\n38 s2.11 < ok 1 rows\n  3, 30\n",
+    ),
+    ("s2 COMMIT", "39 s2.12 >\n40 s2.12 < ok\n"),
     (
         "s2 SELECT COUNT(*) FROM t",
-        "37 s2.11 >\n38 s2.11 < ok 1 rows\n  4\n",
+        "41 s2.13 >\n42 s2.13 < ok 1 rows\n  3\n",
+    ),
+    ("s2 COMMIT", "43 s2.14 >\n44 s2.14 < ok\n"),
+    (
+        "s2 SELECT COUNT(*) FROM t",
+        "45 s2.15 >\n46 s2.15 < ok 1 rows\n  4\n",
     ),
     // A write takes it, and so does a statement that is refused at its end.
     (
         "s3 UPDATE t SET v = 0 WHERE k = 99",
-        "39 s3.2 >\n40 s3.2 < ok 0 affected\n",
+        "47 s3.2 >\n48 s3.2 < ok 0 affected\n",
     ),
     (
         "s4 INSERT INTO t VALUES (5, 1 / 0)",
-        "41 s4.2 >\n42 s4.2 < error 8134 row 1 column 2\n",
+        "49 s4.2 >\n50 s4.2 < error 8134 row 1 column 2\n",
     ),
     (
         "s5 INSERT INTO t VALUES (1, 0)",
-        "43 s5.2 >\n44 s5.2 < error 2627 key 1\n",
+        "51 s5.2 >\n52 s5.2 < error 2627 key 1\n",
     ),
     (
         "s6 SELECT k FROM t WHERE k = 4",
-        "45 s6.2 >\n46 s6.2 < ok 1 rows\n  4\n",
+        "53 s6.2 >\n54 s6.2 < ok 1 rows\n  4\n",
     ),
     (
         "s1 INSERT INTO t VALUES (5, 50)",
-        "47 s1.5 >\n48 s1.5 < ok 1 affected\n",
+        "55 s1.5 >\n56 s1.5 < ok 1 affected\n",
     ),
     (
         "s1 UPDATE t SET v = 11 WHERE k = 1",
-        "49 s1.6 >\n50 s1.6 < ok 1 affected\n",
+        "57 s1.6 >\n58 s1.6 < ok 1 affected\n",
     ),
     (
         "s1 DELETE FROM t WHERE k = 2",
-        "51 s1.7 >\n52 s1.7 < ok 1 affected\n",
+        "59 s1.7 >\n60 s1.7 < ok 1 affected\n",
     ),
     (
         "s3 SELECT COUNT(*), SUM(v) FROM t",
-        "53 s3.3 >\n54 s3.3 < ok 1 rows\n  4, 100\n",
+        "61 s3.3 >\n62 s3.3 < ok 1 rows\n  4, 100\n",
     ),
     (
         "s4 SELECT COUNT(*), SUM(v) FROM t",
-        "55 s4.3 >\n56 s4.3 < ok 1 rows\n  4, 100\n",
+        "63 s4.3 >\n64 s4.3 < ok 1 rows\n  4, 100\n",
     ),
     (
         "s5 SELECT COUNT(*), SUM(v) FROM t",
-        "57 s5.3 >\n58 s5.3 < ok 1 rows\n  4, 100\n",
+        "65 s5.3 >\n66 s5.3 < ok 1 rows\n  4, 100\n",
     ),
     (
         "s6 SELECT * FROM t",
-        "59 s6.3 >\n60 s6.3 < ok 4 rows\n  1, 10\n  2, 20\n  3, 30\n  4, 40\n",
+        "67 s6.3 >\n68 s6.3 < ok 4 rows\n  1, 10\n  2, 20\n  3, 30\n  4, 40\n",
     ),
     (
         "s6 INSERT INTO t VALUES (5, 51)",
-        "61 s6.4 >\n62 s6.4 < error 3960 key 5 transaction 11 commit 5\n",
+        "69 s6.4 >\n70 s6.4 < error 3960 key 5 transaction 11 commit 5\n",
     ),
     (
         "s6 SELECT * FROM t",
-        "63 s6.5 >\n64 s6.5 < ok 4 rows\n  1, 11\n  3, 30\n  4, 40\n  5, 50\n",
+        "71 s6.5 >\n72 s6.5 < ok 4 rows\n  1, 11\n  3, 30\n  4, 40\n  5, 50\n",
     ),
     // A transaction whose first statement meets a held key keeps its snapshot too.
-    ("s7 BEGIN TRAN", "65 s7.1 >\n66 s7.1 < ok\n"),
+    ("s7 BEGIN TRAN", "73 s7.1 >\n74 s7.1 < ok\n"),
     (
         "s7 DELETE FROM t WHERE k = 4",
-        "67 s7.2 >\n68 s7.2 < ok 1 affected\n",
+        "75 s7.2 >\n76 s7.2 < ok 1 affected\n",
     ),
-    ("s8 BEGIN TRAN", "69 s8.1 >\n70 s8.1 < ok\n"),
+    ("s8 BEGIN TRAN", "77 s8.1 >\n78 s8.1 < ok\n"),
     (
         "s8 UPDATE t SET v = 0 WHERE k = 4",
-        "71 s8.2 >\n72 s8.2 < error 1222 key 4 transaction 15\n",
+        "79 s8.2 >\n80 s8.2 < error 1222 key 4 transaction 15\n",
     ),
-    ("s7 COMMIT", "73 s7.3 >\n74 s7.3 < ok\n"),
+    ("s7 COMMIT", "81 s7.3 >\n82 s7.3 < ok\n"),
     (
         "s8 SELECT k FROM t",
-        "75 s8.3 >\n76 s8.3 < ok 4 rows\n  1\n  3\n  4\n  5\n",
+        "83 s8.3 >\n84 s8.3 < ok 4 rows\n  1\n  3\n  4\n  5\n",
     ),
     (
         "s8 UPDATE t SET v = 0 WHERE k = 4",
-        "77 s8.4 >\n78 s8.4 < error 3960 key 4 transaction 15 commit 8\n",
+        "85 s8.4 >\n86 s8.4 < error 3960 key 4 transaction 15 commit 8\n",
     ),
     (
         "s8 SELECT k FROM t",
-        "79 s8.5 >\n80 s8.5 < ok 3 rows\n  1\n  3\n  5\n",
+        "87 s8.5 >\n88 s8.5 < ok 3 rows\n  1\n  3\n  5\n",
     ),
     (
         "",
-        "81 s1 end\n82 s2 end\n83 s3 end\n84 s4 end\n85 s5 end\n86 s6 end\n87 s7 end\n88 s8 end\n",
+        "89 s1 end\n90 s2 end\n91 s3 end\n92 s4 end\n93 s5 end\n94 s6 end\n95 s7 end\n96 s8 end\n",
     ),
 ];
 
