@@ -32,7 +32,7 @@ ended_after log e s = ap has_ended (entries_push s log e) ∙ at (actor_of e == 
 
 -- ---- a Start, a Finish
 
--- an entry of this session, which leaves a statement half done or not, and is no End
+-- an entry of one session, which leaves a statement half done or not, and is no End
 pub record Does (session : ℕ) (begins : Bool) (e : Entry) : Type 0 where
   pub actor : actor_of e ≡ session
   pub begun : (before : Bool) → begun_by before e ≡ begins

@@ -1,14 +1,12 @@
 -- What an event leaves fits the table, and its reply can be printed.
-use Rattle.std.proofs.Common.{◌≡◌, ℕ, List, [], ◌∷◌, ◌++◌, map, sym, subst, inl, inr, ◌⊎◌, Bool, true, false, cond, All, Option, None, Some, nat_lt, nat_le, ◌+◌, ◌-◌}
+use Rattle.std.proofs.Common.{◌≡◌, ℕ, List, [], ◌∷◌, ◌++◌, sym, subst, inl, inr, ◌⊎◌, Bool, true, false, cond, All, Option, None, Some, nat_lt, nat_le, ◌+◌, ◌-◌}
 use Rattle.std.specs.Prelude.{◌==◌}
 use Rattle.std.specs.declared.cmp.Ordering.{Ordering}
 use Rattle.std.specs.declared.cmp.Ordering.TheVariants.{Less, Equal, Greater}
-use Rattle.std.specs.BTreeMap.{insert_entry, is_at}
-use Rattle.std.specs.Map.{remove_entry}
+use Rattle.std.specs.BTreeMap.{insert_entry}
 use Rattle.std.specs.Ordering.{match_ordering}
 use Rattle.std.proofs.lemmas.List.Elements.{All-append, All-map, All-cons, All-nil, All-head, All-tail, All-contains}
 use Rattle.cs_types.specs.declared.Key.{Key}
-use Rattle.cs_types.specs.declared.Value.{Value}
 use Rattle.cs_types.specs.declared.Schema.{Schema}
 use Rattle.cs_model.specs.declared.entry.Bound.{Bound}
 use Rattle.cs_model.specs.declared.entry.Bound.TheVariants as bound
@@ -17,13 +15,14 @@ use Rattle.cs_model.specs.declared.entry.Refusal.TheVariants as refusal
 use Rattle.cs_model.specs.declared.entry.Reply.{Reply}
 use Rattle.cs_model.specs.declared.entry.Reply.TheVariants as reply
 use Rattle.cs_model.specs.Keys.{key_cmp}
-use Rattle.cs_model.specs.Changes.{Edit, Table, Change, edited, edited_by, laid, table, until}
+use Rattle.cs_model.specs.Changes.{Edit, Table, Change, table}
 use Rattle.cs_model.specs.Held.{IsFit, IsFitEntry, IsFitTable, AreFit}
 use Rattle.cs_model.specs.State.{State, Txn, Half, with, txn_set, half_set, seen, seen_at}
 use Rattle.cs_model.specs.Answers.{is_of_table}
 use Rattle.cs_model.specs.Obstacles.{keys_of, is_present, IsObstacle}
 use Rattle.cs_model.specs.Steps.{IsReply, began, unwound, settled, commits, wrote, gone, refused, replied, accepted, ends_txn, staged, is_empty, numbered, begin_reply, done_in, pinned, started, fixed, txn_opened}
 use Rattle.cs_model.specs.Text.{IsPrintableKey, IsPrintableRefusal, IsPrintableReply}
+use Rattle.change_list.proofs.Rows.{table_all, laid_all}
 use Rattle.statement_core.specs.Fit.{IsReady, IsFitTxn, IsReadyHalf, IsFitState}
 use Rattle.statement_core.specs.Settled.{wrote_or, IsWrittenIn, IsRead}
 
@@ -193,45 +192,12 @@ module _ (schema : Schema) where
 
   -- ---- the rows that a statement reads
 
-  put_fits : (t : Table) (key : Key) (row : List Value) → IsFitEntry schema (key, row) → IsFitTable schema t → IsFitTable schema (insert_entry key_cmp t key row)
-  put_fits [] key row p all = All-cons (IsFitEntry schema) (key, row) [] p all
-  put_fits (e ∷ es) key row p all = at (key_cmp key e.0) (put_fits es key row p (All-tail (IsFitEntry schema) e es all))
-    where
-      at : (r : Ordering) → IsFitTable schema (insert_entry key_cmp es key row) → IsFitTable schema (match_ordering r ((key, row) ∷ e ∷ es) ((e.0, row) ∷ es) (e ∷ insert_entry key_cmp es key row))
-      at Less rest = All-cons (IsFitEntry schema) (key, row) (e ∷ es) p all
-      at Equal rest = All-cons (IsFitEntry schema) (e.0, row) es ((All-head (IsFitEntry schema) e es all).0, p.1) (All-tail (IsFitEntry schema) e es all)
-      at Greater rest = All-cons (IsFitEntry schema) e (insert_entry key_cmp es key row) (All-head (IsFitEntry schema) e es all) rest
-
-  taken_fits : (key : Key) (t : Table) → IsFitTable schema t → IsFitTable schema (remove_entry (is_at (key_cmp key)) t)
-  taken_fits key [] all = all
-  taken_fits key (e ∷ es) all = at (is_at (key_cmp key) e.0) (taken_fits key es (All-tail (IsFitEntry schema) e es all))
-    where
-      at : (t : Bool) → IsFitTable schema (remove_entry (is_at (key_cmp key)) es) → IsFitTable schema (cond t es (e ∷ remove_entry (is_at (key_cmp key)) es))
-      at true rest = All-tail (IsFitEntry schema) e es all
-      at false rest = All-cons (IsFitEntry schema) e (remove_entry (is_at (key_cmp key)) es) (All-head (IsFitEntry schema) e es all) rest
-
-  edit_fits : (t : Table) (key : Key) (row : Option (List Value)) → IsFit schema (key, row) → IsFitTable schema t → IsFitTable schema (edited_by t key row)
-  edit_fits t key None p all = taken_fits key t all
-  edit_fits t key (Some row) p all = put_fits t key row p all
-
-  laid_fits : (t : Table) (edits : List Edit) → All (IsFit schema) edits → IsFitTable schema t → IsFitTable schema (laid t edits)
-  laid_fits t [] e all = all
-  laid_fits t (edit ∷ edits) e all = laid_fits (edited t edit) edits (All-tail (IsFit schema) edit edits e) (edit_fits t edit.0 edit.1 (All-head (IsFit schema) edit edits e) all)
-
-  until_fits : (s : ℕ) (changes : List Change) → AreFit schema changes → All (IsFit schema) (map (λ (change : Change). change.edit) (until s changes))
-  until_fits s [] all = All-nil (IsFit schema)
-  until_fits s (c ∷ cs) all = at (nat_le c.commit s) (until_fits s cs (All-tail (λ (change : Change). IsFit schema change.edit) c cs all))
-    where
-      at : (t : Bool) → All (IsFit schema) (map (λ (change : Change). change.edit) (until s cs)) → All (IsFit schema) (map (λ (change : Change). change.edit) (cond t (c ∷ until s cs) (until s cs)))
-      at true rest = All-cons (IsFit schema) c.edit (map (λ (change : Change). change.edit) (until s cs)) (All-head (λ (change : Change). IsFit schema change.edit) c cs all) rest
-      at false rest = rest
-
   pub seen_fits : (changes : List Change) (txn : Txn) → AreFit schema changes → All (IsFit schema) txn.own → IsFitTable schema (seen changes txn)
   seen_fits changes txn all own = at txn.snapshot
     where
       at : (s : Option ℕ) → IsFitTable schema (seen_at changes s txn.own)
-      at None = laid_fits [] txn.own own (All-nil (IsFitEntry schema))
-      at (Some s) = laid_fits (table changes s) txn.own own (laid_fits [] (map (λ (change : Change). change.edit) (until s changes)) (until_fits s changes all) (All-nil (IsFitEntry schema)))
+      at None = laid_all (IsFit schema) [] txn.own (All-nil (IsFitEntry schema)) own
+      at (Some s) = laid_all (IsFit schema) (table changes s) txn.own (table_all (IsFit schema) changes s all) own
 
   opened_fits : (o : Option Txn) (next : ℕ) → IsFitTxn schema o → All (IsFit schema) (txn_opened o next).own
   opened_fits None next p = All-nil (IsFit schema)
