@@ -6,7 +6,9 @@ mod decimals;
 mod extremes;
 mod groups;
 mod half_done;
+mod intervals;
 mod obstacles;
+mod opposites;
 mod orders;
 mod patterns;
 mod ranges;
@@ -271,18 +273,17 @@ fn refuses_a_script_that_is_too_long(rt: HostRuntime) -> Result<(), Fail> {
     Ok(())
 }
 
-/// A setup line, and statements that run one after the other, each with its reply.
-type Case = (&'static str, &'static [(&'static str, &'static str)]);
-
-/// Conditions, queries and writes over the values of every type.
-const CASES: [Case; 23] = [
+/// Conditions, queries and writes over the values of every type: the lines of a script, and under each statement its
+/// reply behind `< `, with the lines of its answer.
+const CASES: [&str; 24] = [
     conditions::COMPARISONS,
     conditions::TYPES,
-    conditions::BETWEENS,
-    conditions::LISTS,
+    intervals::BETWEENS,
+    intervals::LISTS,
     ranges::RANGES,
     ranges::NULLS,
     patterns::PATTERNS,
+    opposites::OPPOSITES,
     truths::TRUTHS,
     truths::CHAINS,
     decimals::SCALES,
@@ -301,46 +302,46 @@ const CASES: [Case; 23] = [
     writes::CHANGES,
 ];
 
-/// Runs the setup line and the statements as one script, and compares the log with the one that the replies make.
-fn check_replies(
-    rt: &impl Abort,
-    alloc: Global,
-    setup: &str,
-    cases: &[(&str, &str)],
-) -> Result<(), Fail> {
-    let mut script = format!(in alloc; "{setup}\n")?;
+/// Runs the lines of a case that are no replies as a script, and compares the log with the one that the replies make.
+fn check_replies(rt: &impl Abort, alloc: Global, case: &str) -> Result<(), Fail> {
+    let mut script = String::new(alloc);
     let mut log = String::new(alloc);
     let mut event = 1u64;
     let mut place = 1u64;
-    for (statement, reply) in cases {
-        let second = event.saturating_add(1);
-        script.push_str(format!(in alloc; "s1 {statement}\n")?.as_str())?;
-        log.push_str(format!(in alloc;
-            "{event} s1.{place} >\n{second} s1.{place} < {reply}\n"
-        )?.as_str())?;
-        event = second.saturating_add(1);
-        place = place.saturating_add(1);
+    for line in case.lines() {
+        if let Some(reply) = line.strip_prefix("< ") {
+            let second = event.saturating_add(1);
+            let events = format!(in alloc;
+                "{event} s1.{place} >\n{second} s1.{place} < {reply}\n"
+            )?;
+            log.push_str(events.as_str())?;
+            event = second.saturating_add(1);
+            place = place.saturating_add(1);
+        } else if line.starts_with(' ') {
+            log.push_str(line)?;
+            log.push_str("\n")?;
+        } else {
+            script.push_str(line)?;
+            script.push_str("\n")?;
+        }
     }
     log.push_str(format!(in alloc; "{event} s1 end\n")?.as_str())?;
     let (status, held) = run(alloc, "replay", script.as_bytes(), 0, 0)?;
     assert_eq!(rt; status, Status::Done);
-    assert_eq!(rt; held.as_slice(), log.as_bytes(), "{setup}");
+    assert_eq!(rt; held.as_slice(), log.as_bytes(), "{script}");
     Ok(())
 }
 
 #[test]
 fn replies(rt: HostRuntime) -> Result<(), Fail> {
-    for (setup, cases) in CASES {
-        check_replies(&rt, rt.alloc(), setup, cases)?;
+    for case in CASES {
+        check_replies(&rt, rt.alloc(), case)?;
     }
     Ok(())
 }
 
-/// Script lines from the setup line on, each with what it adds to the log, and last an empty one with the ends.
-type Told = &'static [(&'static str, &'static str)];
-
-/// Transactions and sessions, event by event.
-const TOLD: [Told; 18] = [
+/// Transactions and sessions: the lines of a script, and under each line, behind `| `, what it adds to the log.
+const TOLD: [&str; 18] = [
     transactions::TWO_WRITERS,
     transactions::OLD_SNAPSHOT,
     obstacles::HELD_KEYS,
@@ -361,13 +362,18 @@ const TOLD: [Told; 18] = [
     sessions::ENDS,
 ];
 
-/// Runs the lines as one script, and compares the log with the one that they tell.
-fn check_told(rt: &impl Abort, alloc: Global, told: Told) -> Result<(), Fail> {
+/// Runs the lines that add nothing as one script, and compares the log with the one that the others tell.
+fn check_told(rt: &impl Abort, alloc: Global, told: &str) -> Result<(), Fail> {
     let mut script = String::new(alloc);
     let mut log = String::new(alloc);
-    for (line, events) in told {
-        script.push_str(format!(in alloc; "{line}\n")?.as_str())?;
-        log.push_str(events)?;
+    for line in told.lines() {
+        if let Some(added) = line.strip_prefix("| ") {
+            log.push_str(added)?;
+            log.push_str("\n")?;
+        } else {
+            script.push_str(line)?;
+            script.push_str("\n")?;
+        }
     }
     let (status, held) = run(alloc, "replay", script.as_bytes(), 0, 0)?;
     assert_eq!(rt; status, Status::Done);

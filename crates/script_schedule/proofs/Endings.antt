@@ -44,6 +44,10 @@ ending_more first log new sessions i within e is =
     (subst (λ done. Ending first (log ++ End (get_or sessions i 0) ∷ []) done (drop (i + 1) sessions)) (sym (take_more sessions i 0 within))
     (ending_push first log (take i sessions) (drop (i + 1) sessions) (get_or sessions i 0) (subst (λ left. Ending first log (take i sessions) left) (drop_more sessions i 0 within) e)))
 
+-- the session whose End comes next has not ended
+pub going_at : (first log : List Entry) (sessions : List ℕ) (i : ℕ) → i < length sessions → Ending first log (take i sessions) (drop i sessions) → has_ended (entries_of (get_or sessions i 0) log) ≡ false
+going_at first log sessions i within e = subst (λ left. All (λ s. has_ended (entries_of s log) ≡ false) left) (drop_more sessions i 0 within) e.going 0 0 (omega arith)
+
 -- ---- the Ends of one session
 
 pub ends_none : (s : ℕ) (sessions : List ℕ) → All (λ y. s ≢ y) sessions → entries_of s (map End sessions) ≡ []

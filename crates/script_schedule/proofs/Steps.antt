@@ -1,5 +1,6 @@
 -- A run of a script, one step more, and its end.
-use Rattle.std.proofs.Common.{◌≡◌, ℕ, ◌+◌, ◌<◌, ◌≤◌, List, [], ◌∷◌, ◌++◌, length, get_or, take, drop, refl, sym, ap, subst, ◌∙◌, cond, Bool, true, false, map, Contains, arith}
+use Rattle.std.proofs.lemmas.List.Elements.{All-contains}
+use Rattle.std.proofs.Common.{◌≡◌, ℕ, ◌+◌, ◌<◌, ◌≤◌, List, [], ◌∷◌, ◌++◌, length, get_or, take, drop, refl, sym, ap, subst, ◌∙◌, cond, Bool, true, false, map, Contains, All, arith}
 use Rattle.std.proofs.lemmas.List.{take_more, drop_more}
 use Rattle.std.specs.Prelude.{Option, Some, ◌==◌, Result, Ok, Err, OnOk, OnErr}
 use Rattle.cs_types.specs.declared.Schema.{Schema}
@@ -88,10 +89,10 @@ pub all_rest : (schema : Schema) (log : List Entry) (waiting : ℕ → Option St
 all_rest schema log waiting done run s = run.begun s ∙ run.paired s
 
 -- a script's steps can be run by a core with its sessions
-pub runnable_of : (script : Script) → IsRunnable script → AreRunnable script.sessions script.lines
-runnable_of script can = record {
+pub runnable_of : (script : Script) (sessions : List ℕ) → All (λ session. Contains sessions session) script.sessions → IsRunnable script → AreRunnable sessions script.lines
+runnable_of script sessions known can = record {
   short = can.short;
-  known = λ k d lt. let range = can.range k d lt in (let high = range.1 in omega (arith, high), range.2);
+  known = λ k d lt. let range = can.range k d lt in (let high = range.1 in omega (arith, high), All-contains (λ session. Contains sessions session) script.sessions _ known range.2);
   paired = can.paired;
 }
 

@@ -1,5 +1,5 @@
 // Runs the steps of a script.
-ghost use Rattle.std.specs.Prelude.{◌≡◌, ◌≤◌, ◌<◌, ◌++◌, ◌∷◌, [], ℕ, List, map, length, Contains, OnOk, OnErr, true, false};
+ghost use Rattle.std.specs.Prelude.{All, ◌≡◌, ◌≤◌, ◌<◌, ◌++◌, ◌∷◌, [], ℕ, List, map, length, Contains, OnOk, OnErr, true, false};
 ghost use Rattle.cs_types.specs.Schemas.{IsSchema};
 ghost use Rattle.cs_model.specs.declared.entry.Entry.{Entry};
 ghost use Rattle.cs_model.specs.declared.entry.Entry.TheVariants.{End};
@@ -144,12 +144,13 @@ fn run_steps<D: Desk>(
 
 /// The Ends of the sessions, in their order.
 fn end_sessions(core: &mut Core, sessions: &[u32])
-    requires same { sessions.now ≡ core.old.sessions }
+    requires known { All (λ session. Contains core.old.sessions session) sessions.now }
     requires distinct { AreDistinct sessions.now }
     requires rests { (session : ℕ) → is_begun (entries_of session core.old.log) ≡ false }
     requires going { (session : ℕ) → has_ended (entries_of session core.old.log) ≡ false }
     ensures log { core.new.log ≡ core.old.log ++ map End sessions.now }
     ensures schema { core.new.schema ≡ core.old.schema }
+    ensures sessions { core.new.sessions ≡ core.old.sessions }
 {
     for session in sessions {
         core.end(*session);
@@ -166,10 +167,11 @@ fn run_script<D: Desk>(
     requires runnable { IsRunnable script.now }
     requires empty { core.old.log ≡ [] }
     requires schema { core.old.schema ≡ script.now.schema }
-    requires sessions { core.old.sessions ≡ script.now.sessions }
+    requires known { All (λ session. Contains core.old.sessions session) script.now.sessions }
     ensures scheduled { OnOk result (Scheduled script.now core.new.log) }
     ensures front { OnErr result (IsFrontRun script.now.schema script.now.lines core.new.log) }
     ensures schema { core.new.schema ≡ core.old.schema }
+    ensures sessions { core.new.sessions ≡ core.old.sessions }
 {
     let mut waiting = Seats::new(alloc)?;
     run_steps(alloc, core, &mut waiting, script.lines.as_slice(), desk)?;
@@ -178,8 +180,8 @@ fn run_script<D: Desk>(
 }
 
 /// Runs the steps of a script, and then ends its sessions in the order of their numbers. `Memory` comes where there is no room
-/// for a Start; the log has the events of the lines before it then. Conditions: the core is new and was made with the script's
-/// table and sessions, and the script can be run, as one that `read_script` gives.
+/// for a Start; the log has the events of the lines before it then. Conditions: the core is new, was made with the script's
+/// table and serves its sessions, and the script can be run, as one that `read_script` gives.
 pub fn run_schedule<D: Desk>(
     alloc: Global,
     core: &mut Core,
@@ -189,10 +191,11 @@ pub fn run_schedule<D: Desk>(
     requires runnable { IsRunnable script.now }
     requires empty { core.old.log ≡ [] }
     requires schema { core.old.schema ≡ script.now.schema }
-    requires sessions { core.old.sessions ≡ script.now.sessions }
+    requires known { All (λ session. Contains core.old.sessions session) script.now.sessions }
     ensures log { OnOk result (IsLogOf script.now core.new.log) }
     ensures front { OnErr result (IsFrontLogOf script.now core.new.log) }
     ensures schema { core.new.schema ≡ core.old.schema }
+    ensures sessions { core.new.sessions ≡ core.old.sessions }
 {
     let result = run_script(alloc, core, script, desk);
     // The log is legal whether or not all was run.

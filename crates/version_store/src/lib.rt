@@ -3,8 +3,8 @@
 //!
 //! Its one contract: a `Recent` is a finite map from keys to the commit and the transaction of their newest changes, and
 //! each call changes exactly the key that it names, but for a prune, which drops the changes that no open snapshot can
-//! precede. It stands on `cs_base` and `cs_types`. Larson et al., SIGMOD 2011, section 3, describe how first committers
-//! win over later writers of the same row.
+//! precede. It stands on `cs_base` and `cs_types`. By the manual pages on SNAPSHOT isolation a write of a row that
+//! was changed after the snapshot is refused.
 #![tactic(auto)]
 
 use cs_base::Memory;

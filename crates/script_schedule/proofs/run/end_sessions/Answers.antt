@@ -1,6 +1,13 @@
-use Rattle.std.proofs.Common.{◌∙◌}
-use Rattle.script_schedule.proofs.Endings.{ending_more}
+use Rattle.std.proofs.Common.{◌∙◌, sym, subst, Contains, get_or}
+use Rattle.script_schedule.proofs.Endings.{ending_more, going_at}
 use Rattle.script_schedule.proofs.run.end_sessions.Goals as goal
+
+pub end-requires-clause-known : goal.end-requires-clause-known
+end-requires-clause-known c =
+    subst (λ served. Contains served (get_or c.args.sessions.now c.loop-session.session-index 0)) (sym c.loop-session.invariant.sessions) (c.requires.known c.loop-session.session-index 0 c.loop-session-test.true)
+
+pub end-requires-clause-going : goal.end-requires-clause-going
+end-requires-clause-going c = going_at c.args.core.now.log c.loop-session.core.log c.args.sessions.now c.loop-session.session-index c.loop-session-test.true c.loop-session.invariant.ending
 
 pub loop-session-preserved : goal.loop-session-preserved
 loop-session-preserved c =

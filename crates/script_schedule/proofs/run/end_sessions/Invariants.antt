@@ -9,5 +9,5 @@ pub record EndingIn {A B : Type 0} (x y : A) (z w : B) (all : Type 0) : Type 0 w
   pub ending : all
 
 abbrev pub invariant-loop-session : goal.invariant-loop-session
-invariant-loop-session l = EndingIn l.core.schema l.fn.core.schema l.core.sessions l.sessions
+invariant-loop-session l = EndingIn l.core.schema l.fn.core.schema l.core.sessions l.fn.core.sessions
     (Ending l.fn.core.log l.core.log (take l.session-index l.sessions) (drop l.session-index l.sessions))

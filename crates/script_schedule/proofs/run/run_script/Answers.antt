@@ -1,4 +1,4 @@
-use Rattle.std.proofs.Common.{◌∙◌, sym, subst}
+use Rattle.std.proofs.Common.{◌∙◌, sym, subst, All, Contains}
 use Rattle.cs_types.specs.Schemas.{IsSchema}
 use Rattle.row_laws.specs.Laws.{AreDistinct}
 use Rattle.statement_core.specs.Seats.{seat}
@@ -11,13 +11,13 @@ pub run_steps-requires : goal.run_steps-requires
 run_steps-requires g c = record {
   empty = c.requires.empty;
   schema = subst IsSchema (sym c.requires.schema) c.requires.runnable.schema;
-  steps = subst (λ sessions. AreRunnable sessions c.as_slice.result.now) (sym c.requires.sessions)
-      (subst (AreRunnable c.args.script.now.sessions) (sym c.as_slice.ensures) (runnable_of c.args.script.now c.requires.runnable));
+  steps = subst (AreRunnable c.args.core.now.sessions) (sym c.as_slice.ensures) (runnable_of c.args.script.now c.args.core.now.sessions c.requires.known c.requires.runnable);
 }
 
 pub end_sessions-requires : goal.end_sessions-requires
 end_sessions-requires g c = record {
-  same = c.as_slice-2.ensures ∙ sym (c.run_steps.ensures.sessions ∙ c.requires.sessions);
+  known = subst (λ served. All (λ session. Contains served session) c.as_slice-2.result.now) (sym c.run_steps.ensures.sessions)
+      (subst (All (λ session. Contains c.args.core.now.sessions session)) (sym c.as_slice-2.ensures) c.requires.known);
   distinct = subst AreDistinct (sym c.as_slice-2.ensures) (sessions_distinct c.args.script.now c.requires.runnable);
   rests = all_rest c.args.core.now.schema c.run_steps.new.core.log (seat c.run_steps.new.waiting) c.as_slice.result.now c.in_ok-run_steps.ensures.ran;
   going = c.in_ok-run_steps.ensures.ran.going;
