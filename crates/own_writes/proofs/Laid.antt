@@ -1,5 +1,5 @@
 -- A write laid over a list in two parts.
-use Rattle.std.proofs.Common.{◌≡◌, ℕ, zero, suc, ◌<◌, List, [], ◌∷◌, ◌++◌, length, get_or, refl, sym, ◌∙◌, ap, arith, Bool, true, false, cond, All}
+use Rattle.std.proofs.Common.{◌≡◌, zero, suc, List, [], ◌∷◌, ◌++◌, refl, sym, ◌∙◌, ap, arith, true, false, cond, All}
 use Rattle.std.specs.declared.cmp.Ordering.{Ordering}
 use Rattle.std.specs.declared.cmp.Ordering.TheVariants.{Less, Equal, Greater}
 use Rattle.std.specs.Ordering.{is_eq, is_lt, match_ordering, ordering_reverse}
@@ -7,7 +7,7 @@ use Rattle.std.proofs.lemmas.List.Kept.{AllPairs-cons}
 use Rattle.cs_types.specs.declared.Key.{Key}
 use Rattle.own_writes.specs.declared.write.Write.{Write}
 use Rattle.own_writes.specs.Writes.{key_cmp, Ascend, put, is_front_below, without_front}
-use Rattle.own_writes.proofs.Puts.{key_total, Rises, head, tail, all_tail, less}
+use Rattle.own_writes.proofs.Puts.{key_total, Rises, head, tail, all_tail}
 
 all_prefix : (P : Write → Type 0) (xs ys : List Write) → All P (xs ++ ys) → All P xs
 all_prefix P [] ys ps k d l = absurd (omega (arith, l))

@@ -1,7 +1,7 @@
 -- Writes in the order of their keys.
 use Rattle.std.specs.Prelude.{◌≡◌, ◌≢◌, ℕ, ◌<◌, ◌≤◌, List, [], ◌∷◌, length, fold, slice_index_or, All, AllPairs, Bool, false, if◌then◌else◌, Option, None, Some}
 use Rattle.std.specs.declared.cmp.Ordering.{Ordering}
-use Rattle.std.specs.declared.cmp.Ordering.TheVariants.{Less, Equal, Greater}
+use Rattle.std.specs.declared.cmp.Ordering.TheVariants.{Less, Greater}
 use Rattle.std.specs.List.{HoldsAt}
 use Rattle.std.specs.Ordering.{int_cmp, is_eq, is_lt, match_ordering}
 use Rattle.cs_types.specs.declared.Key.{Key}

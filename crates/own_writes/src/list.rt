@@ -37,6 +37,14 @@ impl Writes {
         Writes { items }
     }
 
+    /// A vector of the writes. It takes no memory.
+    pub fn into_vec(self) -> Vec<Write>
+        ensures { result.items ≡ self }
+    {
+        let Writes { items } = self;
+        items
+    }
+
     /// The writes as a slice.
     pub fn as_slice(&self) -> &[Write]
         ensures value { result.now ≡ self.now }

@@ -1,4 +1,4 @@
-ghost use Rattle.std.specs.Prelude.{◌≡◌, ◌<◌, ◌↔◌, [], length, slice_get, IsTrue, IfOk, OnOk, OnErr, Some};
+ghost use Rattle.std.specs.Prelude.{◌≡◌, ◌<◌, ◌↔◌, [], length, slice_get, IsTrue, IfOk, IfErr, OnOk, OnErr, Some};
 ghost use Rattle.own_writes.specs.Writes.{Ascend, IsPlaceOf, staged};
 
 use crate::list::{Writes, search};
@@ -10,7 +10,7 @@ use std::marker::Model;
 use std::sync::Arc;
 
 /// The own writes of a transaction, in the order of their keys, one for each key. Contracts see the list of them. Shares
-/// of one list take no memory of their own, and what is staged later is not seen through them.
+/// of one list copy none of the writes, and what is staged later is not seen through them.
 #[derive(Debug, Drop)]
 pub struct Own {
     /// None where there is no write.
@@ -92,7 +92,8 @@ impl Own {
 
     /// The place of the key's write. None exactly where the key has none.
     pub fn find(&self, key: Key) -> Option<usize>
-        ensures { IsPlaceOf self.now key result }
+        ensures place { IsPlaceOf self.now key result }
+        ensures order { Ascend self.now }
     {
         search(self.as_slice(), key).ok()
     }
@@ -110,6 +111,40 @@ impl Own {
                 Ok(())
             }
         }
+    }
+
+    /// The writes, moved where no other share has them, and copied where one has. On `Err`, for want of memory, they come
+    /// back.
+    pub fn into_vec(self, alloc: Global) -> Result<Vec<Write>, Own>
+        ensures ok { IfOk result (λ writes. writes.items ≡ self) }
+        ensures err { IfErr result (λ back. back ≡ self) }
+    {
+        let Own { shared } = self;
+        let Some(shared) = shared else {
+            return Ok(Vec::new(alloc));
+        };
+        match unshared(shared) {
+            Ok(writes) => Ok(writes.into_vec()),
+            Err(shared) => Err(Own {
+                shared: Some(shared),
+            }),
+        }
+    }
+}
+
+/// What is shared, alone: as it is where no one else has it, and else a copy.
+fn unshared(shared: Arc<Writes>) -> Result<Writes, Arc<Writes>>
+    ensures ok { IfOk result (λ own. own ≡ shared.value) }
+    ensures err { IfErr result (λ back. back ≡ shared) }
+{
+    let shared = match Arc::try_unwrap(shared) {
+        Ok(own) => return Ok(own),
+        Err(shared) => shared,
+    };
+    let copied = shared.copy();
+    match copied {
+        Ok(own) => Ok(own),
+        Err(Memory) => Err(shared),
     }
 }
 

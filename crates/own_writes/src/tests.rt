@@ -54,5 +54,12 @@ fn writes_are_staged(rt: HostRuntime) -> Result<(), Fail> {
             .all(|write| write.row.is_none() == (write.key == Key(2)))
     );
     assert!(rt; shared.as_slice().iter().all(|write| write.row.is_some()));
+    let again = own.share()?;
+    for own in [own, again] {
+        match own.into_vec(alloc) {
+            Ok(writes) => assert_eq!(rt; writes.len(), 4),
+            Err(_) => return Err(Fail::from(Memory)),
+        }
+    }
     Ok(())
 }

@@ -1,6 +1,5 @@
 use Rattle.std.proofs.Common.{sym, ◌∙◌}
 use Rattle.own_writes.proofs.Puts.{put-found, put-gap, Ascend-put}
-use Rattle.own_writes.specs.Writes.{Ascend}
 use Rattle.own_writes.proofs.list.put_one.Goals as goal
 
 pub returns-in-Ok-clause-items : goal.returns-in-Ok-clause-items

@@ -1,5 +1,3 @@
-use Rattle.std.proofs.Common.{sym, ap, ◌++◌}
-use Rattle.own_writes.specs.Writes.{Ascend, put}
 use Rattle.own_writes.proofs.Laid.{put-parts, Ascend-prefix}
 use Rattle.own_writes.proofs.Puts.{Ascend-put}
 use Rattle.own_writes.proofs.merge.lay_one.Goals as goal
