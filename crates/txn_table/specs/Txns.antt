@@ -1,5 +1,5 @@
 -- Open transactions by session.
-use Rattle.std.specs.Prelude.{◌≡◌, ◌≢◌, ◌⊎◌, ℕ, ◌≤◌, min, List, [], slice_get, Any, ◌==◌, if◌then◌else◌, unwrap_or, Option, None, Some}
+use Rattle.std.specs.Prelude.{◌≡◌, ◌≢◌, ◌⊎◌, ℕ, ◌<◌, ◌≤◌, min, List, [], slice_get, Any, ◌==◌, if◌then◌else◌, unwrap_or, Option, None, Some}
 use Rattle.cs_types.specs.declared.Key.{Key}
 use Rattle.own_writes.specs.declared.write.Write.{Write}
 use Rattle.own_writes.specs.Writes.{staged}
@@ -10,9 +10,9 @@ pub record Table : Type 0 where
   pub txns : List (Option Txn)
   pub next : ℕ
 
--- sessions are numbered from 1 to 64
+-- sessions have numbers below 65
 abbrev pub IsSession : ℕ → Type 0
-IsSession session = (1 ≤ session) × (session ≤ 64)
+IsSession session = session < 65
 
 abbrev pub or_none : Option (Option Txn) → Option Txn
 or_none None = None

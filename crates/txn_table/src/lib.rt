@@ -1,4 +1,4 @@
-//! The open transactions of up to 64 sessions.
+//! The open transactions of sessions, by their numbers, which are below 65.
 //!
 //! Its one contract: a `Txns` is a finite map from sessions to their open transactions, and the number of the next one;
 //! each call changes exactly the session that it names. It stands on `cs_base`, `cs_types` and `own_writes`. Microsoft's

@@ -4,14 +4,14 @@ use crate::txn::Txn;
 use cs_base::Memory;
 use cs_types::Key;
 use own_writes::{Own, Write};
-use std::array;
 use std::marker::Model;
+use std::{array, mem};
 
-/// The open transactions of sessions 1 to 64. Contracts see by session the open transaction, and beside them the number
+/// The open transactions of sessions 0 to 64. Contracts see by session the open transaction, and beside them the number
 /// of the next one.
 #[derive(Debug, Drop)]
 pub struct Txns {
-    /// By session; place 0 is that of no session.
+    /// By session.
     places: [Option<Txn>; 65],
     /// The number of the next transaction.
     next: u64,
@@ -58,6 +58,24 @@ impl Txns {
         });
         self.next += 1;
         number
+    }
+
+    /// The session's transaction.
+    pub fn get(&self, session: u32) -> &Option<Txn>
+        requires { IsSession session }
+        ensures { result.now ≡ txn_of self.now session }
+    {
+        &self.places[session as usize]
+    }
+
+    /// Gives the session another transaction, or none, and answers the one that it had.
+    pub fn replace(&mut self, session: u32, txn: Option<Txn>) -> Option<Txn>
+        requires { IsSession session }
+        ensures was { result ≡ txn_of self.old session }
+        ensures txns { txn_of self.new ≡ with (txn_of self.old) session txn }
+        ensures next { self.new.next ≡ self.old.next }
+    {
+        mem::replace(&mut self.places[session as usize], txn)
     }
 
     /// The depth of the session's transaction. None exactly where it has none.
@@ -140,6 +158,6 @@ impl Txns {
         ensures txns { txn_of self.new ≡ with (txn_of self.old) session None }
         ensures next { self.new.next ≡ self.old.next }
     {
-        self.places[session as usize] = None;
+        self.replace(session, None);
     }
 }
