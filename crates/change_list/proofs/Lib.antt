@@ -4,3 +4,4 @@ pub mod Walks
 pub mod Tables
 pub mod Places
 pub mod Rows
+pub mod Writes

@@ -1,7 +1,8 @@
-use crate::list::{Index, Kept, Own, add_all, find, make_room, row_at};
+use crate::list::{Index, Kept, add_all, find, make_room, row_at};
 use crate::overlay::{Rows, put};
 use cs_base::Memory;
 use cs_types::{Key, Row};
+use own_writes::Own;
 use std::alloc::Global;
 use std::collections::BTreeMap;
 use std::marker::Model;
@@ -34,6 +35,7 @@ impl Changes {
     ghost use Rattle.cs_model.specs.Changes.{newest, table};
     ghost use Rattle.cs_model.specs.Obstacles.{has_row};
     ghost use Rattle.cs_model.specs.Steps.{numbered};
+    ghost use Rattle.change_list.specs.Edits.{edits_of};
     ghost use Rattle.change_list.specs.Stamps.{stamp};
 
     /// No changes. It takes no memory.
@@ -49,17 +51,17 @@ impl Changes {
     /// Adds the changes of a commit: its writes, under its number and that of its transaction. All memory is taken first,
     /// so on `Err`, for want of memory, nothing has changed, and the writes come back.
     pub fn commit(&mut self, commit: u64, txn: u64, own: Own) -> Result<(), Own>
-        ensures ok { OnOk result (self.new ≡ self.old ++ numbered commit txn own.entries) }
+        ensures ok { OnOk result (self.new ≡ self.old ++ numbered commit txn (edits_of own)) }
         ensures err { OnErr result (self.new ≡ self.old) }
-        ensures back { IfErr result (λ back. back.entries ≡ own.entries) }
+        ensures back { IfErr result (λ back. back ≡ own) }
     {
-        match make_room(&mut self.list, &mut self.index, &own) {
-            Ok(()) => {
-                add_all(&mut self.list, &mut self.index, commit, txn, own);
-                Ok(())
-            }
-            Err(Memory) => Err(own),
+        match make_room(&mut self.list, &mut self.index, own.as_slice()) {
+            Ok(()) => {}
+            Err(Memory) => return Err(own),
         }
+        let writes = own.into_vec(*self.list.allocator())?;
+        add_all(&mut self.list, &mut self.index, commit, txn, writes);
+        Ok(())
     }
 
     /// The transaction and the commit number of a key's newest change.
@@ -106,17 +108,14 @@ impl Changes {
 ghost use Rattle.std.specs.Prelude.{◌≡◌};
 ghost use Rattle.cs_model.specs.Changes.{laid, table};
 ghost use Rattle.cs_model.specs.Obstacles.{has_row};
+ghost use Rattle.change_list.specs.Edits.{edits_of};
 
 /// Whether a key has a row in the table of a snapshot with these writes laid over it. It takes no memory.
 pub fn has_row_over(changes: &Changes, own: &Own, key: Key, s: u64) -> bool
-    ensures { result ≡ has_row (laid (table changes.now s) own.now.entries) key }
+    ensures { result ≡ has_row (laid (table changes.now s) (edits_of own.now)) key }
 {
-    // a transaction that has written nothing reads its snapshot alone
-    if own.len() == 0 {
-        return changes.has_row_at(key, s);
-    }
-    match own.get(&key) {
-        Some(row) => row.is_some(),
+    match own.find(key) {
+        Some(at) => own.get(at).row.is_some(),
         None => changes.has_row_at(key, s),
     }
 }

@@ -1,21 +1,19 @@
 // The list of changes and the index of their places.
 ghost use Rattle.std.specs.Prelude.{◌≡◌, ◌+◌, ◌<◌, ◌≤◌, ◌||◌, ◌++◌, [], ◌∷◌, length, vec_len, vec_capacity, if◌then◌else◌, IsTrue, is_some, IsSome, OnOk, Some};
 ghost use Rattle.std.specs.Option.{option_copied};
-ghost use Rattle.std.specs.List.{list_any};
-ghost use Rattle.std.specs.BTreeMap.{btree_map_len, get, keys, is_at};
+ghost use Rattle.std.specs.BTreeMap.{get, is_at};
 ghost use Rattle.std.specs.Map.{lookup};
 ghost use Rattle.cs_model.specs.Keys.{key_cmp, same_key};
 ghost use Rattle.cs_model.specs.Changes.{table};
 ghost use Rattle.cs_model.specs.Steps.{numbered};
+ghost use Rattle.change_list.specs.Edits.{edits_of, writes_key};
 ghost use Rattle.change_list.specs.Places.{change_of, changes_of, last_place, AreLinked, place_in, IsIndex};
 
 use cs_base::Memory;
 use cs_types::{Key, Row};
+use own_writes::Write;
 use std::collections::BTreeMap;
 use std::mem;
-
-/// Writes by key: a row, or nothing.
-pub type Own = BTreeMap<Key, Option<Row>>;
 
 /// The place of each key's newest change; None where room was made for a key that has no change yet.
 pub type Index = BTreeMap<Key, Option<usize>>;
@@ -52,25 +50,25 @@ fn make_room_for(index: &mut Index, key: Key) -> Result<(), Memory>
 }
 
 /// Makes room for the keys of these writes.
-fn make_room_for_keys(index: &mut Index, own: &Own) -> Result<(), Memory>
+fn make_room_for_keys(index: &mut Index, writes: &[Write]) -> Result<(), Memory>
     ensures places { (q : Key) → place_in index.new q ≡ place_in index.old q }
-    ensures keys { OnOk result ((q : Key) → is_some (get key_cmp index.new q) ≡ (is_some (get key_cmp index.old q) || list_any (same_key q) (keys own.now))) }
+    ensures keys { OnOk result ((q : Key) → is_some (get key_cmp index.new q) ≡ (is_some (get key_cmp index.old q) || writes_key writes.now q)) }
 {
-    for key in own.keys() {
-        make_room_for(index, *key)?;
+    for write in writes {
+        make_room_for(index, write.key)?;
     }
     Ok(())
 }
 
 /// Makes room for these writes. The changes and their places stay.
-pub fn make_room(list: &mut Vec<Kept>, index: &mut Index, own: &Own) -> Result<(), Memory>
+pub fn make_room(list: &mut Vec<Kept>, index: &mut Index, writes: &[Write]) -> Result<(), Memory>
     ensures items { list.new.items ≡ list.old.items }
     ensures places { (q : Key) → place_in index.new q ≡ place_in index.old q }
-    ensures room { OnOk result (vec_len list.new + btree_map_len own.now ≤ vec_capacity list.new) }
-    ensures keys { OnOk result ((q : Key) → IsTrue (list_any (same_key q) (keys own.now)) → IsSome (get key_cmp index.new q)) }
+    ensures room { OnOk result (vec_len list.new + length writes.now ≤ vec_capacity list.new) }
+    ensures keys { OnOk result ((q : Key) → IsTrue (writes_key writes.now q) → IsSome (get key_cmp index.new q)) }
 {
-    list.reserve(own.len())?;
-    make_room_for_keys(index, own)
+    list.reserve(writes.len())?;
+    make_room_for_keys(index, writes)
 }
 
 /// Gives a key that has room another newest place, and answers the one that it had.
@@ -110,18 +108,17 @@ fn add(list: &mut Vec<Kept>, index: &mut Index, commit: u64, txn: u64, key: Key,
 }
 
 /// Adds the changes of a commit, for which there is room.
-pub fn add_all(list: &mut Vec<Kept>, index: &mut Index, commit: u64, txn: u64, own: Own)
-    requires room { vec_len list.old + btree_map_len own ≤ vec_capacity list.old }
-    requires keys { (q : Key) → IsTrue (list_any (same_key q) (keys own)) → IsSome (get key_cmp index.old q) }
+pub fn add_all(list: &mut Vec<Kept>, index: &mut Index, commit: u64, txn: u64, writes: Vec<Write>)
+    requires room { vec_len list.old + vec_len writes ≤ vec_capacity list.old }
+    requires keys { (q : Key) → IsTrue (writes_key writes.items q) → IsSome (get key_cmp index.old q) }
     requires indexed { IsIndex index.old list.old.items }
     requires linked { AreLinked list.old.items }
-    ensures changes { changes_of list.new.items ≡ changes_of list.old.items ++ numbered commit txn own.entries }
+    ensures changes { changes_of list.new.items ≡ changes_of list.old.items ++ numbered commit txn (edits_of writes.items) }
     ensures indexed { IsIndex index.new list.new.items }
     ensures linked { AreLinked list.new.items }
 {
-    let mut own = own;
-    while let Some((key, row)) = own.pop_first() {
-        add(list, index, commit, txn, key, row);
+    for write in writes {
+        add(list, index, commit, txn, write.key, write.row);
     }
 }
 

@@ -4,10 +4,11 @@ ghost use Rattle.std.specs.Map.{remove_entry};
 ghost use Rattle.std.specs.BTreeMap.{is_at, insert_entry};
 ghost use Rattle.cs_model.specs.Keys.{key_cmp};
 ghost use Rattle.cs_model.specs.Changes.{edited_by, laid};
+ghost use Rattle.change_list.specs.Edits.{edits_of};
 
-use crate::list::Own;
 use cs_base::Memory;
 use cs_types::{Key, Row};
+use own_writes::Own;
 use std::collections::BTreeMap;
 
 /// Rows by key.
@@ -42,10 +43,10 @@ fn edit(rows: &mut Rows, key: Key, row: &Option<Row>) -> Result<(), Memory>
 
 /// Lays copies of writes over the rows. After `Memory` some of them may be laid.
 pub fn lay(rows: &mut Rows, own: &Own) -> Result<(), Memory>
-    ensures { OnOk result (rows.new.entries ≡ laid rows.old.entries own.now.entries) }
+    ensures { OnOk result (rows.new.entries ≡ laid rows.old.entries (edits_of own.now)) }
 {
-    for (key, row) in own.iter() {
-        edit(rows, *key, row)?;
+    for write in own.as_slice() {
+        edit(rows, write.key, &write.row)?;
     }
     Ok(())
 }

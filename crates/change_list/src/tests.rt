@@ -1,8 +1,8 @@
-use super::*;
+use crate::{Changes, has_row_over, lay};
 use cs_base::Memory;
 use cs_types::{Key, Row, Value};
+use own_writes::{Own, Write};
 use std::alloc::Global;
-use std::collections::BTreeMap;
 use std::test::Fail;
 
 /// A row of one number, where there is one.
@@ -19,10 +19,16 @@ fn row(alloc: Global, number: Option<i64>) -> Result<Option<Row>, Memory> {
 
 /// Writes of numbers by key.
 fn own(alloc: Global, writes: &[(i64, Option<i64>)]) -> Result<Own, Memory> {
-    let mut own = BTreeMap::new(alloc);
+    let mut list = Vec::new(alloc);
     for (key, number) in writes {
-        own.insert(Key(*key), row(alloc, *number)?)?;
+        list.push(Write {
+            key: Key(*key),
+            row: row(alloc, *number)?,
+            replaces: false,
+        })?;
     }
+    let mut own = Own::empty();
+    own.stage(list)?;
     Ok(own)
 }
 
