@@ -14,6 +14,7 @@ use Rattle.row_laws.specs.Laws.{AreDistinct}
 use Rattle.row_laws.proofs.Logs.{legal_push}
 use Rattle.row_laws.proofs.Numbers.{small}
 use Rattle.row_laws.proofs.Room.{owed_first}
+use Rattle.txn_table.specs.Txns.{txn_of}
 use Rattle.statement_core.specs.declared.held.Held.{Held}
 use Rattle.statement_core.specs.declared.started.Outcome.{Outcome}
 use Rattle.statement_core.specs.Seats.{seat}
@@ -53,8 +54,8 @@ done_at schema log m s o l d = record { bound = d.bound; short = d.short; rows =
 fit_start : (schema : Schema) → IsFitState schema start
 fit_start schema = record { changes = All-nil (λ (change : Change). IsFit schema change.edit); txns = λ s. tt; halves = λ s. tt }
 
-pub core_new : (schema : Schema) (held : Held) (cap : ℕ) (sessions : List ℕ) → held.changes ≡ [] → held.clock ≡ 0 → held.next ≡ 1
-    → ((s : ℕ) → seat held.txns s ≡ None) → ((s : ℕ) → seat held.halves s ≡ None)
+pub core_new : (schema : Schema) (held : Held) (cap : ℕ) (sessions : List ℕ) → held.changes ≡ [] → held.clock ≡ 0 → held.txns.next ≡ 1
+    → ((s : ℕ) → txn_of held.txns s ≡ None) → ((s : ℕ) → seat held.halves s ≡ None)
     → 64 ≤ cap → All (λ s. s < 65) sessions → length sessions ≤ 64 → AreDistinct sessions → IsCore schema held [] cap sessions
 core_new schema held cap sessions c k n txns halves room numbers few distinct =
     let first : state_of held ≡ start = λ i. record {

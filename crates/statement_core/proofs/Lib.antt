@@ -1,5 +1,6 @@
 pub mod Placing
 pub mod States
+pub mod Staging
 pub mod Least
 pub mod Owning
 pub mod Settled

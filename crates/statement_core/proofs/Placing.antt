@@ -1,5 +1,5 @@
 -- A session's seat is set.
-use Rattle.std.proofs.Common.{◌≡◌, ℕ, ◌<◌, ◌≤◌, zero, suc, List, [], ◌∷◌, length, refl, sym, ap, ◌∙◌, cond, Bool, true, false, arith, slice_get, slice_set, Option, None, Some, All, ◌⊎◌, inl, inr}
+use Rattle.std.proofs.Common.{◌≡◌, ℕ, ◌<◌, zero, suc, List, [], ◌∷◌, length, refl, sym, ap, ◌∙◌, cond, Bool, true, false, arith, slice_get, slice_set, Option, None, Some, All}
 use Rattle.std.specs.Prelude.{◌==◌}
 use Rattle.std.proofs.lemmas.Bool.Decides.{nat_tests}
 use Rattle.cs_model.specs.State.{with}
@@ -52,17 +52,3 @@ pub no_seat : {A : Type 0} (seats : List (Option A)) (s : ℕ) → All (λ o. o 
 no_seat [] s h = refl
 no_seat (o ∷ seats) zero h = h 0 o (omega arith)
 no_seat (o ∷ seats) (suc s) h = no_seat seats s (λ k d lt. h (suc k) d (omega arith))
-
-pub past_seats : {A : Type 0} (seats : List (Option A)) (s : ℕ) → length seats ≤ s → seat seats s ≡ None
-past_seats [] s h = refl
-past_seats (o ∷ seats) zero h = absurd (omega (arith, h))
-past_seats (o ∷ seats) (suc s) h = past_seats seats s (omega (arith, h))
-
-pub below_or : (a b : ℕ) → (a < b) ⊎ (b ≤ a)
-below_or a zero = inr (omega arith)
-below_or zero (suc b) = inl (omega arith)
-below_or (suc a) (suc b) = at (below_or a b)
-  where
-    at : (a < b) ⊎ (b ≤ a) → (suc a < suc b) ⊎ (suc b ≤ suc a)
-    at (inl l) = inl (omega (arith, l))
-    at (inr l) = inr (omega (arith, l))

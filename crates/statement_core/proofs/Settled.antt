@@ -66,8 +66,8 @@ memory_settles schema m after session b short r e a = record { reply = inl e; st
 pub memory_mid : (schema : Schema) (m mid after : State) (session : ℕ) (b : Bound) (short : Bool) (r : Reply) → r ≡ reply.Refused Memory → after ≡ refused mid session Memory → mid ≡ m → Settles schema m session b short r after
 memory_mid schema m mid after session b short r e a k = memory_settles schema m after session b short r e (a ∙ ap (λ x. refused x session Memory) k)
 
-pub memory_writes : (m mid after : State) (session : ℕ) (b : Bound) (edits : List Edit) (r : Reply) → r ≡ reply.Refused Memory → after ≡ refused mid session Memory → mid ≡ m → WriteSettles m session b edits r after
-memory_writes m mid after session b edits r e a k = record { reply = inl e; state = a ∙ ap (λ x. refused x session Memory) k ∙ ap (wrote_or m session edits) (sym e) }
+pub memory_writes : (m mid after : State) (session : ℕ) (b : Bound) (edits : List Edit) (r : Reply) → r ≡ reply.Refused Memory → after ≡ refused mid session Memory → refused mid session Memory ≡ refused m session Memory → WriteSettles m session b edits r after
+memory_writes m mid after session b edits r e a k = record { reply = inl e; state = a ∙ k ∙ ap (wrote_or m session edits) (sym e) }
 
 pub memory_replies : (m mid after : State) (session : ℕ) (given r : Reply) → r ≡ reply.Refused Memory → after ≡ refused mid session Memory → mid ≡ m → Replies m session given r after
 memory_replies m mid after session given r e a k = record { reply = inl e; state = a ∙ ap (λ x. refused x session Memory) k ∙ ap (wrote_or m session []) (sym e) }

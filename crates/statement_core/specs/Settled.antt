@@ -3,6 +3,7 @@ use Rattle.std.specs.Prelude.{◌≡◌, ◌⊎◌, ℕ, ◌+◌, ◌++◌, List
 use Rattle.std.specs.BTreeMap.{BTreeMap}
 use Rattle.cs_types.specs.declared.Key.{Key}
 use Rattle.cs_types.specs.declared.Schema.{Schema}
+use Rattle.own_writes.specs.declared.write.Write.{Write}
 use Rattle.cs_model.specs.declared.entry.Bound.{Bound}
 use Rattle.cs_model.specs.declared.entry.Bound.TheVariants as bound
 use Rattle.cs_model.specs.declared.entry.Refusal.{Refusal}
@@ -13,7 +14,7 @@ use Rattle.cs_model.specs.Changes.{Edit, Table}
 use Rattle.cs_model.specs.Keys.{same_key}
 use Rattle.cs_model.specs.State.{Txn, State, seen}
 use Rattle.cs_model.specs.Answers.{is_of_table}
-use Rattle.cs_model.specs.Obstacles.{keys_of, is_present, IsObstacle, IsJudged}
+use Rattle.cs_model.specs.Obstacles.{has_row, keys_of, is_present, IsObstacle, IsJudged}
 use Rattle.cs_model.specs.Steps.{IsReply, IsWritten, is_empty, numbered, replied, wrote, refused, commits, fixed, txn_opened}
 use Rattle.row_laws.specs.Started.{Shows, IsPinned, seen_in}
 use Rattle.statement_core.specs.declared.started.Outcome.{Outcome}
@@ -42,15 +43,15 @@ pub record WriteSettles (m : State) (session : ℕ) (b : Bound) (edits : List Ed
   pub reply : (r ≡ reply.Refused Memory) ⊎ IsWrittenIn m session (m.txns session) b edits r
   pub state : after ≡ wrote_or m session edits r
 
+-- an edit as a write over a table
+abbrev pub write_on : Table → Edit → Write
+write_on table edit = record { key = edit.0; row = edit.1; replaces = has_row table edit.0 }
+
 -- these edits are committed under the next number, if there are any
 abbrev pub recorded : State → ℕ → List Edit → State
 recorded m txn edits =
     if is_empty edits then m
     else record m { changes = m.changes ++ numbered (m.clock + 1) txn edits; clock = m.clock + 1 }
-
-abbrev pub deepened : Option Txn → ℕ → Option Txn
-deepened None depth = None
-deepened (Some txn) depth = Some (record txn { depth = depth })
 
 -- the session's transaction is committed, if it has one
 abbrev pub committed_in : State → ℕ → Option Txn → State

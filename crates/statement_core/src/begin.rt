@@ -7,7 +7,7 @@ ghost use Rattle.row_laws.specs.Started.{Starts, reads_rows};
 ghost use Rattle.statement_core.specs.Held.{state_of, IsWithin};
 ghost use Rattle.statement_core.specs.Settled.{IsRead};
 
-use crate::held::{HalfDone, Held, pin, set_half, txn_of};
+use crate::held::{HalfDone, Held, pin, set_half};
 use change_list::{Rows, lay};
 use cs_base::Memory;
 use cs_model::Bound;
@@ -45,13 +45,10 @@ fn seen(alloc: Global, held: &Held, session: u32) -> Result<Rows, Memory>
     requires { session < 65 }
     ensures { IfOk result (λ rows. rows.entries ≡ seen (state_of held.now).changes (fixed (txn_opened ((state_of held.now).txns session) (state_of held.now).next) false (state_of held.now).clock)) }
 {
-    let Some(txn) = txn_of(held, session) else {
+    let Some(txn) = held.txns.get(session) else {
         return held.changes.rows_at(alloc, held.clock);
     };
-    let snapshot = match txn.snapshot {
-        Some(s) => s,
-        None => held.clock,
-    };
+    let snapshot = txn.snapshot.unwrap_or(held.clock);
     let mut rows = held.changes.rows_at(alloc, snapshot)?;
     lay(&mut rows, &txn.own)?;
     Ok(rows)
@@ -79,7 +76,7 @@ fn start_on_table(alloc: Global, held: &mut Held, session: u32, bound: Arc<Bound
 {
     let rows = rows_for(alloc, held, session, &bound);
     let short = rows.is_err();
-    pin(alloc, held, session, short);
+    pin(held, session, short);
     set_half(held, session, Some(HalfDone { bound, short }));
     match rows {
         Ok(rows) => (rows, false),

@@ -5,14 +5,16 @@ ghost use Rattle.cs_model.specs.Changes.{Edit, table, laid};
 ghost use Rattle.cs_model.specs.Keys.{same_key};
 ghost use Rattle.cs_model.specs.Obstacles.{is_above, keys_of, IsObstacle, IsJudged};
 ghost use Rattle.cs_model.specs.declared.entry.Refusal.{Refusal};
+ghost use Rattle.change_list.specs.Edits.{edits_of};
 ghost use Rattle.statement_core.specs.Held.{state_of};
 ghost use Rattle.statement_core.specs.Least.{count_in, is_taken, lesser_of, HasLeast, IsChanged};
 
 use crate::held::{Held, holder};
-use change_list::{Own, has_row_over};
+use change_list::has_row_over;
 use cs_base::Memory;
 use cs_model::Refusal;
 use cs_types::{Key, Row};
+use own_writes::Own;
 use std::alloc::Global;
 use std::collections::BTreeMap;
 
@@ -72,7 +74,7 @@ fn changed(held: &Held, snapshot: u64, key: Key) -> Option<Refusal>
 
 /// Whether an INSERT whose keys were counted would make a key stand twice, over the table of a snapshot and own writes.
 fn is_taken(held: &Held, snapshot: u64, own: &Own, counts: &Option<Counts>, key: Key) -> bool
-    ensures { result ≡ is_taken counts.now (laid (table held.now.changes snapshot) own.now.entries) key }
+    ensures { result ≡ is_taken counts.now (laid (table held.now.changes snapshot) (edits_of own.now)) key }
 {
     match counts {
         Some(counts) => {
@@ -91,7 +93,7 @@ fn obstacle(
     counts: &Option<Counts>,
     key: Key,
 ) -> Option<Refusal>
-    ensures { IsObstacle (state_of held.now) session (Some snapshot) (is_taken counts.now (laid (table held.now.changes snapshot) own.now.entries)) key result }
+    ensures { IsObstacle (state_of held.now) session (Some snapshot) (is_taken counts.now (laid (table held.now.changes snapshot) (edits_of own.now))) key result }
 {
     if let Some(txn) = holder(held, key, session) {
         return Some(Refusal::Locked { key, txn });
@@ -127,7 +129,7 @@ fn least(
     counts: &Option<Counts>,
     keys: &[Key],
 ) -> Option<(Key, Refusal)>
-    ensures { HasLeast (IsObstacle (state_of held.now) session (Some snapshot) (is_taken counts.now (laid (table held.now.changes snapshot) own.now.entries))) keys.now result }
+    ensures { HasLeast (IsObstacle (state_of held.now) session (Some snapshot) (is_taken counts.now (laid (table held.now.changes snapshot) (edits_of own.now)))) keys.now result }
 {
     let mut least = None;
     for key in keys {
@@ -147,7 +149,7 @@ pub fn judge(
     counts: &Option<Counts>,
     keys: &[Key],
 ) -> Option<Refusal>
-    ensures { IsJudged (IsObstacle (state_of held.now) session (Some snapshot) (is_taken counts.now (laid (table held.now.changes snapshot) own.now.entries))) keys.now result }
+    ensures { IsJudged (IsObstacle (state_of held.now) session (Some snapshot) (is_taken counts.now (laid (table held.now.changes snapshot) (edits_of own.now)))) keys.now result }
 {
     match least(held, session, snapshot, own, counts, keys) {
         Some(least) => Some(least.1),

@@ -25,6 +25,7 @@ use cs_types::Schema;
 use std::alloc::Global;
 use std::marker::Model;
 use std::sync::Arc;
+use txn_table::Txns;
 
 /// The most sessions, and so the most entries that can be owed beside a Start: a Finish and an End for each.
 const SESSIONS: usize = 64;
@@ -71,9 +72,8 @@ impl Core {
         let held = Held {
             changes: Changes::new(alloc),
             clock: 0,
-            txns: Seats::new(alloc)?,
+            txns: Txns::new(),
             halves: Seats::new(alloc)?,
-            next: 1,
         };
         let mut log = Vec::new(alloc);
         log.reserve(SESSIONS)?;

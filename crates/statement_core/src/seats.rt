@@ -1,5 +1,5 @@
 // A value for some sessions, by their numbers.
-ghost use Rattle.std.specs.Prelude.{◌≡◌, ◌<◌, IfOk, ℕ, None, length};
+ghost use Rattle.std.specs.Prelude.{◌≡◌, ◌<◌, IfOk, ℕ, None};
 ghost use Rattle.cs_model.specs.State.{with};
 ghost use Rattle.statement_core.specs.Seats.{seat};
 
@@ -36,22 +36,6 @@ impl<T: Drop> Seats<T> {
             seats.push(None)?;
         }
         Ok(Seats { seats })
-    }
-
-    /// How many seats there are.
-    pub fn len(&self) -> u32
-        ensures len { result ≡ length self.now }
-        ensures seats { result ≡ 65 }
-    {
-        self.seats.len() as u32
-    }
-
-    /// What a session has.
-    pub fn get(&self, session: u32) -> &Option<T>
-        requires { session < 65 }
-        ensures { result.now ≡ seat self.now session }
-    {
-        self.seats.at(session as usize)
     }
 
     /// Gives a session another value, and answers the one that it had.

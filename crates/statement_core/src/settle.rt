@@ -1,26 +1,28 @@
 // What a Finish does.
-ghost use Rattle.std.specs.Prelude.{Bool, ◌≡◌, ◌+◌, ◌<◌, ◌^◌, ℕ, IfOk, IfErr, OnOk, OnErr, IsTrue, ◌↔◌, All, false, true, None, Some, is_some, [], if◌then◌else◌};
-ghost use Rattle.std.specs.BTreeMap.{insert_entry};
+ghost use Rattle.std.specs.Prelude.{Bool, ◌≡◌, ◌+◌, ◌<◌, ◌^◌, IfOk, IfErr, OnOk, OnErr, false, true, None, is_some, map, []};
 ghost use Rattle.cs_types.specs.declared.Schema.{Schema};
-ghost use Rattle.cs_model.specs.Keys.{key_cmp};
-ghost use Rattle.cs_model.specs.State.{State, txn_set};
-ghost use Rattle.cs_model.specs.Steps.{is_changed, ends_txn, refused, staged, settled, wrote, began, IsStep};
+ghost use Rattle.txn_table.specs.Txns.{txn_of};
+ghost use Rattle.change_list.specs.Edits.{edits_of};
+ghost use Rattle.cs_model.specs.Changes.{table};
+ghost use Rattle.cs_model.specs.State.{State};
+ghost use Rattle.cs_model.specs.Steps.{is_changed, ends_txn, refused, wrote, began, IsStep};
 ghost use Rattle.cs_model.specs.Text.{IsPrintableReply};
 ghost use Rattle.cs_model.specs.declared.entry.Bound.TheVariants as bound;
 ghost use Rattle.cs_model.specs.declared.entry.Entry.TheVariants.{Finish, End};
-ghost use Rattle.statement_core.specs.Held.{txn_as, txn_in, state_of, IsWithin};
+ghost use Rattle.statement_core.specs.Held.{txn_in, state_of, IsWithin};
 ghost use Rattle.statement_core.specs.Fit.{IsFitState, IsReady};
-ghost use Rattle.statement_core.specs.Settled.{Settles, WriteSettles, Replies, GivesIn, IsDoneAt, IsJudgedIn, AreCountsFor, is_insert, deepened, recorded, committed_in};
+ghost use Rattle.statement_core.specs.Settled.{Settles, WriteSettles, Replies, GivesIn, IsDoneAt, IsJudgedIn, AreCountsFor, is_insert, write_on, recorded, committed_in};
 
-use crate::held::{Held, OpenTxn, set_half, set_txn, txn_of};
+use crate::held::{Held, deepen, set_half, set_txn, stage};
 use crate::judge::{Counts, count_keys, judge, keys_of};
 use crate::started::Outcome;
-use change_list::Own;
+use change_list::Changes;
 use cs_base::{Items, Memory};
 use cs_model::{Bound, Refusal, Reply};
 use cs_types::{Key, Row};
+use own_writes::{Own, Write};
 use std::alloc::Global;
-use std::collections::BTreeMap;
+use txn_table::Txn;
 
 /// The deepest that BEGINs are nested.
 const DEEPEST: u32 = 32;
@@ -40,7 +42,7 @@ fn is_changed(refusal: Refusal) -> bool
 }
 
 /// Whether a refusal ends the transaction.
-fn ends_txn(txn: &Option<OpenTxn>, refusal: Refusal) -> bool
+fn ends_txn(txn: &Option<Txn>, refusal: Refusal) -> bool
     ensures { result ≡ ends_txn (txn_in txn.now) refusal }
 {
     match txn {
@@ -55,7 +57,7 @@ fn refuse(held: &mut Held, session: u32, refusal: Refusal) -> Reply
     ensures reply { result ≡ Reply.Refused refusal }
     ensures state { state_of held.new ≡ refused (state_of held.old) session refusal }
 {
-    if ends_txn(txn_of(held, session), refusal) {
+    if ends_txn(held.txns.get(session), refusal) {
         set_txn(held, session, None);
     }
     Reply::Refused(refusal)
@@ -65,9 +67,9 @@ fn refuse(held: &mut Held, session: u32, refusal: Refusal) -> Reply
 /// writes come back.
 fn record(held: &mut Held, txn: u64, own: Own) -> Result<(), Own>
     requires clock { held.old.clock + 1 < 2 ^ 64 }
-    ensures ok { OnOk result (state_of held.new ≡ recorded (state_of held.old) txn own.entries) }
+    ensures ok { OnOk result (state_of held.new ≡ recorded (state_of held.old) txn (edits_of own)) }
     ensures err { OnErr result (state_of held.new ≡ state_of held.old) }
-    ensures back { IfErr result (λ back. back.entries ≡ own.entries) }
+    ensures back { IfErr result (λ back. back ≡ own) }
 {
     if own.is_empty() {
         return Ok(());
@@ -76,138 +78,6 @@ fn record(held: &mut Held, txn: u64, own: Own) -> Result<(), Own>
     held.changes.commit(commit, txn, own)?;
     held.clock = commit;
     Ok(())
-}
-
-fn stage(own: &mut Own, key: Key, row: Option<Row>) -> Result<(), Memory>
-    ensures { OnOk result (own.new.entries ≡ insert_entry key_cmp own.old.entries key row) }
-{
-    own.insert(key, row)?;
-    Ok(())
-}
-
-/// A copy of own writes.
-fn copy_of(own: &Own) -> Result<Own, Memory>
-    ensures { IfOk result (λ copy. copy.entries ≡ own.now.entries) }
-{
-    Ok(own.clone()?)
-}
-
-/// Own writes with more laid over them; the last for a key stands.
-fn staged(own: &Own, writes: Items<(Key, Option<Row>)>) -> Result<Own, Memory>
-    ensures { IfOk result (λ after. after.entries ≡ staged own.now.entries writes) }
-{
-    let mut after = copy_of(own)?;
-    for (key, row) in writes.into_vec() {
-        stage(&mut after, key, row)?;
-    }
-    Ok(after)
-}
-
-/// Leaves a transaction as it is after its statement: an implicit one commits. Where memory is not there nothing has
-/// changed.
-fn settle_txn(held: &mut Held, session: u32, txn: OpenTxn) -> Result<(), Memory>
-    requires within { IsWithin held.old session }
-    ensures ok { OnOk result (state_of held.new ≡ settled (state_of held.old) session (txn_as txn)) }
-    ensures err { OnErr result (state_of held.new ≡ state_of held.old) }
-{
-    if txn.depth != 0 {
-        set_txn(held, session, Some(txn));
-        return Ok(());
-    }
-    match record(held, txn.number, txn.own) {
-        Ok(()) => {
-            set_txn(held, session, None);
-            Ok(())
-        }
-        Err(_) => Err(Memory),
-    }
-}
-
-/// Lays writes over the own ones of the session's transaction; an implicit one commits. After `Memory` nothing has changed.
-fn write(held: &mut Held, session: u32, writes: Items<(Key, Option<Row>)>) -> Result<(), Memory>
-    requires within { IsWithin held.old session }
-    ensures ok { OnOk result (state_of held.new ≡ wrote (state_of held.old) session ((state_of held.old).txns session) writes) }
-    ensures err { OnErr result (state_of held.new ≡ state_of held.old) }
-{
-    let Some(txn) = txn_of(held, session) else {
-        return Ok(());
-    };
-    let own = staged(&txn.own, writes)?;
-    let after = OpenTxn {
-        number: txn.number,
-        depth: txn.depth,
-        snapshot: txn.snapshot,
-        own,
-    };
-    settle_txn(held, session, after)
-}
-
-/// The transaction at another depth.
-fn at_depth(txn: Option<OpenTxn>, depth: u32) -> Option<OpenTxn>
-    ensures { txn_in result ≡ deepened (txn_in txn) depth }
-{
-    match txn {
-        Some(txn) => {
-            let OpenTxn {
-                number,
-                snapshot,
-                own,
-                ..
-            } = txn;
-            Some(OpenTxn {
-                number,
-                depth,
-                snapshot,
-                own,
-            })
-        }
-        None => None,
-    }
-}
-
-/// Gives the session's transaction another depth.
-fn set_depth(held: &mut Held, session: u32, depth: u32)
-    requires { session < 65 }
-    ensures { state_of held.new ≡ txn_set (state_of held.old) session (deepened ((state_of held.old).txns session) depth) }
-{
-    let txn = set_txn(held, session, None);
-    set_txn(held, session, at_depth(txn, depth));
-}
-
-/// Opens a transaction by BEGIN.
-fn open(alloc: Global, held: &mut Held, session: u32)
-    requires { IsWithin held.old session }
-    ensures { state_of held.new ≡ began (state_of held.old) session None }
-{
-    let txn = OpenTxn {
-        number: held.next,
-        depth: 1,
-        snapshot: None,
-        own: BTreeMap::new(alloc),
-    };
-    set_txn(held, session, Some(txn));
-    held.next += 1;
-}
-
-/// The Finish of a BEGIN.
-fn begin(alloc: Global, held: &mut Held, session: u32) -> Reply
-    requires { IsWithin held.old session }
-    ensures { (schema : Schema) → Settles schema (state_of held.old) session bound.Begin false result (state_of held.new) }
-{
-    let Some(txn) = txn_of(held, session) else {
-        open(alloc, held, session);
-        return Reply::Done;
-    };
-    let depth = txn.depth;
-    if depth < DEEPEST {
-        set_depth(held, session, depth + 1);
-        return Reply::Done;
-    }
-    let refusal = Refusal::Reading {
-        number: 50_001,
-        at: 1,
-    };
-    refuse(held, session, refusal)
 }
 
 /// Commits the session's transaction. Where memory is not there nothing has changed.
@@ -219,7 +89,7 @@ fn commit_txn(held: &mut Held, session: u32) -> Result<(), Memory>
     let Some(txn) = set_txn(held, session, None) else {
         return Ok(());
     };
-    let OpenTxn {
+    let Txn {
         number,
         depth,
         snapshot,
@@ -228,7 +98,7 @@ fn commit_txn(held: &mut Held, session: u32) -> Result<(), Memory>
     match record(held, number, own) {
         Ok(()) => Ok(()),
         Err(own) => {
-            let txn = OpenTxn {
+            let txn = Txn {
                 number,
                 depth,
                 snapshot,
@@ -240,17 +110,105 @@ fn commit_txn(held: &mut Held, session: u32) -> Result<(), Memory>
     }
 }
 
+/// Leaves the session's transaction as it is after its statement: an implicit one commits. Where memory is not there
+/// nothing has changed.
+fn settle_txn(held: &mut Held, session: u32) -> Result<(), Memory>
+    requires within { IsWithin held.old session }
+    ensures ok { OnOk result (state_of held.new ≡ wrote (state_of held.old) session ((state_of held.old).txns session) []) }
+    ensures err { OnErr result (state_of held.new ≡ state_of held.old) }
+    ensures ends { OnErr result (ends_txn ((state_of held.old).txns session) Refusal.Memory ≡ true) }
+{
+    let Some(txn) = held.txns.get(session) else {
+        return Ok(());
+    };
+    if txn.depth != 0 {
+        return Ok(());
+    }
+    commit_txn(held, session)
+}
+
+/// Edits as writes over the table of a snapshot.
+fn writes_of(
+    alloc: Global,
+    changes: &Changes,
+    snapshot: u64,
+    edits: Items<(Key, Option<Row>)>,
+) -> Result<Vec<Write>, Memory>
+    ensures { IfOk result (λ writes. writes.items ≡ map (write_on (table changes.now snapshot)) edits) }
+{
+    let mut writes = Vec::with_capacity(alloc, edits.len())?;
+    for (key, row) in edits.into_vec() {
+        writes.push(Write {
+            key,
+            row,
+            replaces: changes.has_row_at(key, snapshot),
+        })?;
+    }
+    Ok(writes)
+}
+
+/// Lays writes over the own ones of the session's transaction; an implicit one commits. After `Memory` the own writes of an
+/// explicit one are as they were. An implicit one may have more: the refusal for want of memory ends it.
+fn write(
+    alloc: Global,
+    held: &mut Held,
+    session: u32,
+    edits: Items<(Key, Option<Row>)>,
+) -> Result<(), Memory>
+    requires within { IsWithin held.old session }
+    ensures ok { OnOk result (state_of held.new ≡ wrote (state_of held.old) session ((state_of held.old).txns session) edits) }
+    ensures err { OnErr result (refused (state_of held.new) session Refusal.Memory ≡ refused (state_of held.old) session Refusal.Memory) }
+{
+    let Some(txn) = held.txns.get(session) else {
+        return Ok(());
+    };
+    let snapshot = txn.snapshot.unwrap_or(held.clock);
+    let writes = writes_of(alloc, &held.changes, snapshot, edits)?;
+    stage(held, session, writes)?;
+    settle_txn(held, session)
+}
+
+/// Opens a transaction by BEGIN.
+fn open(held: &mut Held, session: u32)
+    requires within { IsWithin held.old session }
+    requires closed { txn_of held.old.txns session ≡ None }
+    ensures { state_of held.new ≡ began (state_of held.old) session None }
+{
+    held.txns.begin(session, 1);
+}
+
+/// The Finish of a BEGIN.
+fn begin(held: &mut Held, session: u32) -> Reply
+    requires { IsWithin held.old session }
+    ensures { (schema : Schema) → Settles schema (state_of held.old) session bound.Begin false result (state_of held.new) }
+{
+    let Some(txn) = held.txns.get(session) else {
+        open(held, session);
+        return Reply::Done;
+    };
+    let depth = txn.depth;
+    if depth < DEEPEST {
+        deepen(held, session, depth + 1);
+        return Reply::Done;
+    }
+    let refusal = Refusal::Reading {
+        number: 50_001,
+        at: 1,
+    };
+    refuse(held, session, refusal)
+}
+
 /// The Finish of a COMMIT.
 fn commit(held: &mut Held, session: u32) -> Reply
     requires within { IsWithin held.old session }
     ensures { (schema : Schema) → Settles schema (state_of held.old) session bound.Commit false result (state_of held.new) }
 {
-    let Some(txn) = txn_of(held, session) else {
+    let Some(txn) = held.txns.get(session) else {
         return refuse(held, session, Refusal::NoTxn { number: 3902 });
     };
     let depth = txn.depth;
     if depth > 1 {
-        set_depth(held, session, depth - 1);
+        deepen(held, session, depth - 1);
         return Reply::Done;
     }
     match commit_txn(held, session) {
@@ -264,7 +222,7 @@ fn rollback(held: &mut Held, session: u32) -> Reply
     requires { session < 65 }
     ensures { (schema : Schema) → Settles schema (state_of held.old) session bound.Rollback false result (state_of held.new) }
 {
-    if txn_of(held, session).is_none() {
+    if held.txns.get(session).is_none() {
         return refuse(held, session, Refusal::NoTxn { number: 3903 });
     }
     set_txn(held, session, None);
@@ -273,12 +231,12 @@ fn rollback(held: &mut Held, session: u32) -> Reply
 
 /// The Finish of a statement that is none of the table. One of the table never comes here; want of memory may stand in place
 /// of any reply.
-fn plain(alloc: Global, held: &mut Held, session: u32, bound: &Bound) -> Reply
+fn plain(held: &mut Held, session: u32, bound: &Bound) -> Reply
     requires within { IsWithin held.old session }
     ensures { (schema : Schema) → Settles schema (state_of held.old) session bound.now false result (state_of held.new) }
 {
     match bound {
-        Bound::Begin => begin(alloc, held, session),
+        Bound::Begin => begin(held, session),
         Bound::Commit => commit(held, session),
         Bound::Rollback => rollback(held, session),
         Bound::Nothing => Reply::Done,
@@ -290,14 +248,14 @@ fn plain(alloc: Global, held: &mut Held, session: u32, bound: &Bound) -> Reply
 }
 
 /// The Finish of a statement whose work gave its reply.
-fn answered(alloc: Global, held: &mut Held, session: u32, reply: Reply) -> Reply
+fn answered(held: &mut Held, session: u32, reply: Reply) -> Reply
     requires within { IsWithin held.old session }
     ensures { Replies (state_of held.old) session reply result (state_of held.new) }
 {
     if let Reply::Refused(refusal) = reply {
         return refuse(held, session, refusal);
     }
-    match write(held, session, Items::new(alloc)) {
+    match settle_txn(held, session) {
         Ok(()) => reply,
         Err(_) => refuse(held, session, Refusal::Memory),
     }
@@ -341,7 +299,7 @@ fn obstacle_of(
     requires { session < 65 }
     ensures { IfOk result (IsJudgedIn (state_of held.now) session ((state_of held.now).txns session) bound.now writes.now) }
 {
-    let Some(txn) = txn_of(held, session) else {
+    let Some(txn) = held.txns.get(session) else {
         return Err(Memory);
     };
     let Some(snapshot) = txn.snapshot else {
@@ -366,7 +324,7 @@ fn wrote(
     let count = writes.len() as u64;
     match obstacle_of(alloc, held, session, bound, writes.as_slice()) {
         Ok(Some(refusal)) => refuse(held, session, refusal),
-        Ok(None) => match write(held, session, writes) {
+        Ok(None) => match write(alloc, held, session, writes) {
             Ok(()) => Reply::Affected(count),
             Err(_) => refuse(held, session, Refusal::Memory),
         },
@@ -382,8 +340,8 @@ fn settle(alloc: Global, held: &mut Held, session: u32, bound: &Bound, outcome: 
         → IsFitState schema (state_of held.new) × IsPrintableReply schema result }
 {
     match outcome {
-        Outcome::Nothing => plain(alloc, held, session, bound),
-        Outcome::Answer(reply) => answered(alloc, held, session, reply),
+        Outcome::Nothing => plain(held, session, bound),
+        Outcome::Answer(reply) => answered(held, session, reply),
         Outcome::Writes(writes) => wrote(alloc, held, session, bound, writes),
         Outcome::Short => refuse(held, session, Refusal::Memory),
     }

@@ -1,12 +1,21 @@
-use Rattle.std.proofs.Common.{◌≡◌, ◌≢◌, ◌⊎◌, ℕ, ◌<◌, ◌≤◌, ap, inl, inr, false, arith, length}
-use Rattle.cs_model.specs.Obstacles.{owns}
-use Rattle.statement_core.specs.Held.{txns_of, txn_in}
-use Rattle.statement_core.proofs.Placing.{past_seats, below_or}
+use Rattle.std.proofs.Common.{Option, None, Some}
+use Rattle.std.specs.Prelude.{◌≢◌, ℕ, IfSome, IfNone}
+use Rattle.txn_table.specs.Txns.{txn_of, Owns, IsHolder}
+use Rattle.cs_model.specs.Obstacles.{IsLocked, IsFree}
+use Rattle.statement_core.specs.Held.{txns_of}
+use Rattle.statement_core.proofs.Owning.{locked_is, free_is}
 use Rattle.statement_core.proofs.held.holder.Goals as goal
 
-pub returns-clause-none : goal.returns-clause-none
-returns-clause-none c = λ other but. at other but (below_or other (length c.args.held.now.txns))
+pub returns-clause-some : goal.returns-clause-some
+returns-clause-some c = at c.holder.result c.holder.ensures.some
   where
-    at : (other : ℕ) → other ≢ c.args.but → (other < length c.args.held.now.txns) ⊎ (length c.args.held.now.txns ≤ other) → owns (txns_of c.args.held.now.txns other) c.args.key ≡ false
-    at other but (inl lt) = c.loop-session.invariant other (let len = c.len-session-end.ensures.len in let end = c.loop-session-test.false in omega (arith, lt, len, end)) but
-    at other but (inr le) = ap (λ o. owns (txn_in o) c.args.key) (past_seats c.args.held.now.txns other le)
+    at : (r : Option ℕ) → IfSome r (IsHolder (txn_of c.args.held.now.txns) c.args.key c.args.but) → IfSome r (IsLocked (txns_of c.args.held.now.txns) c.args.but c.args.key)
+    at None h = tt
+    at (Some number) h = locked_is c.args.held.now.txns c.args.key c.args.but number h
+
+pub returns-clause-none : goal.returns-clause-none
+returns-clause-none c = at c.holder.result c.holder.ensures.none
+  where
+    at : (r : Option ℕ) → IfNone r ((other : ℕ) → other ≢ c.args.but → Owns (txn_of c.args.held.now.txns other) c.args.key → ⊥) → IfNone r (IsFree (txns_of c.args.held.now.txns) c.args.but c.args.key)
+    at None h = free_is c.args.held.now.txns c.args.key c.args.but h
+    at (Some number) h = tt

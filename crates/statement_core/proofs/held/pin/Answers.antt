@@ -1,16 +1,19 @@
-use Rattle.std.proofs.Common.{ap, ◌∙◌, Some, None}
-use Rattle.cs_model.specs.State.{State, txn_set}
-use Rattle.statement_core.specs.Held.{state_of, txn_in}
-use Rattle.statement_core.proofs.States.{txn_twice, same_state}
+use Rattle.std.proofs.Common.{refl, ap, ◌∙◌, sym}
+use Rattle.txn_table.specs.Txns.{txn_of, fixed}
+use Rattle.cs_model.specs.State.{txn_set}
+use Rattle.cs_model.specs.Steps.{pinned}
+use Rattle.statement_core.specs.Held.{txn_in, state_of}
+use Rattle.statement_core.proofs.Placing.{with_map}
+use Rattle.statement_core.proofs.States.{same_state, fixed_as, takes}
 use Rattle.statement_core.proofs.held.pin.Goals as goal
 
-pub returns : goal.returns
-returns c =
+pub returns-then-not-short : goal.returns-then-not-short
+returns-then-not-short c =
+    let s = c.args.session in
     let held = state_of c.args.held.now in
-    let was = c.set_txn-txn.ensures.was in
-    let txn = rw was at c.opened-txn.ensures in
-    let both = c.set_txn.ensures.state ∙ ap (λ m. txn_set m c.args.session (txn_in (Some c.opened-txn.result))) c.set_txn-txn.ensures.state
-    ∙ txn_twice held c.args.session None (txn_in (Some c.opened-txn.result))
-    ∙ ap (λ t. txn_set held c.args.session t) txn in
-    same_state _ _ (ap (λ (m : State). m.changes) both) (ap (λ (m : State). m.clock) both) (ap (λ (m : State). m.txns) both) (ap (λ (m : State). m.half) both) (ap (λ (m : State). m.statistics) both)
-    (rw was at c.next_opened-after.ensures)
+    let mid = c.open_implicit.new.held in
+    let old = txn_of mid.txns in
+    same_state _ _ refl refl (ap (λ f i. txn_in (f i)) c.fix.ensures.txns ∙ with_map txn_in old s (fixed mid.clock (old s))) refl refl c.fix.ensures.next
+    ∙ ap (txn_set (state_of mid) s) (fixed_as (old s) mid.clock)
+    ∙ takes held (state_of mid) s c.open_implicit.ensures.state
+    ∙ ap (pinned held s) (sym c.if-not-short.true)

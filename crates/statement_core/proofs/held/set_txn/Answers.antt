@@ -1,5 +1,5 @@
 use Rattle.std.proofs.Common.{refl, ap, ◌∙◌}
-use Rattle.statement_core.specs.Seats.{seat}
+use Rattle.txn_table.specs.Txns.{txn_of}
 use Rattle.statement_core.specs.Held.{txn_in}
 use Rattle.statement_core.proofs.Placing.{with_map}
 use Rattle.statement_core.proofs.States.{same_state}
@@ -7,4 +7,4 @@ use Rattle.statement_core.proofs.held.set_txn.Goals as goal
 
 pub returns-clause-state : goal.returns-clause-state
 returns-clause-state c =
-    same_state _ _ refl refl (ap (λ f s. txn_in (f s)) c.set.ensures.after ∙ with_map txn_in (seat c.args.held.now.txns) c.args.session c.args.txn) refl refl refl
+    same_state _ _ refl refl (ap (λ f s. txn_in (f s)) c.replace.ensures.txns ∙ with_map txn_in (txn_of c.args.held.now.txns) c.args.session c.args.txn) refl refl c.replace.ensures.next

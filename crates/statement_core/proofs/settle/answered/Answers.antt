@@ -4,5 +4,5 @@ use Rattle.statement_core.proofs.settle.answered.Goals as goal
 
 pub returns-in-Err : goal.returns-in-Err
 returns-in-Err c =
-    memory_replies (state_of c.args.held.now) (state_of c.write.new.held) (state_of c.refuse-in-Err.new.held) c.args.session c.args.reply c.refuse-in-Err.result
+    memory_replies (state_of c.args.held.now) (state_of c.settle_txn.new.held) (state_of c.refuse-in-Err.new.held) c.args.session c.args.reply c.refuse-in-Err.result
     c.refuse-in-Err.ensures.reply c.refuse-in-Err.ensures.state c.in-Err.ensures.err

@@ -6,5 +6,5 @@ use Rattle.statement_core.proofs.settle.obstacle_of.Goals as goal
 pub returns : goal.returns
 returns c =
     judged_in (state_of c.args.held.now) c.args.session c.args.bound.now c.args.writes.now c.judge.result (txn_as c.in-Some.txn) c.in-Some-snapshot.snapshot c.in_ok-counts.counts c.in_ok-keys.keys.items
-    (sym c.txn_of.ensures ∙ ap txn_in c.in-Some.is) c.in-Some-snapshot.is c.in_ok-keys.ensures
+    (ap txn_in (sym c.get.ensures ∙ c.in-Some.is)) c.in-Some-snapshot.is c.in_ok-keys.ensures
     (rw c.as_slice.ensures.value at c.in_ok-counts.ensures) (rw c.as_slice-2.ensures.value at c.judge.ensures)

@@ -1,0 +1,16 @@
+use Rattle.std.proofs.Common.{◌+◌, ◌++◌, sym, ap, ◌∙◌, refl, cond}
+use Rattle.change_list.specs.Edits.{edits_of}
+use Rattle.cs_model.specs.State.{State}
+use Rattle.cs_model.specs.Steps.{numbered}
+use Rattle.statement_core.specs.Held.{state_of}
+use Rattle.statement_core.proofs.States.{same_state}
+use Rattle.statement_core.proofs.Staging.{some_edits}
+use Rattle.statement_core.proofs.settle.record.Goals as goal
+
+pub returns-clause-ok : goal.returns-clause-ok
+returns-clause-ok c =
+    let m = state_of c.args.held.now in
+    let edits = edits_of c.args.own in
+    let after : State = record m { changes = m.changes ++ numbered (m.clock + 1) c.args.txn edits; clock = m.clock + 1 } in
+    same_state _ after c.in_ok-commit.ensures.ok refl refl refl refl refl
+    ∙ ap (λ b. cond b m after) (sym (some_edits c.args.own (λ e. cc (c.if-is_empty.false, c.is_empty.ensures.1 e))))
