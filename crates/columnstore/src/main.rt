@@ -2,7 +2,7 @@
 //!
 //! The one contract, on the top call: what is written is the text of a log that is legal from the empty state, follows the
 //! script line by line and has each session's statements once and in order; and every other status has its cause. It
-//! stands on `cs_outside` and `statement_core`.
+//! stands on `cs_outside`, `script_reader`, `script_schedule`, `statement_work` and `cs_model`.
 #![tactic(auto)]
 
 mod answer;

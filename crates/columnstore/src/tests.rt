@@ -302,6 +302,14 @@ const CASES: [&str; 24] = [
     writes::CHANGES,
 ];
 
+/// Runs a script to its end, and compares its log.
+fn check_log(rt: &impl Abort, alloc: Global, script: &str, log: &str) -> Result<(), Fail> {
+    let (status, held) = run(alloc, "replay", script.as_bytes(), 0, 0)?;
+    assert_eq!(rt; status, Status::Done);
+    assert_eq!(rt; held.as_slice(), log.as_bytes(), "{script}");
+    Ok(())
+}
+
 /// Runs the lines of a case that are no replies as a script, and compares the log with the one that the replies make.
 fn check_replies(rt: &impl Abort, alloc: Global, case: &str) -> Result<(), Fail> {
     let mut script = String::new(alloc);
@@ -326,10 +334,7 @@ fn check_replies(rt: &impl Abort, alloc: Global, case: &str) -> Result<(), Fail>
         }
     }
     log.push_str(format!(in alloc; "{event} s1 end\n")?.as_str())?;
-    let (status, held) = run(alloc, "replay", script.as_bytes(), 0, 0)?;
-    assert_eq!(rt; status, Status::Done);
-    assert_eq!(rt; held.as_slice(), log.as_bytes(), "{script}");
-    Ok(())
+    check_log(rt, alloc, script.as_str(), log.as_str())
 }
 
 #[test]
@@ -375,10 +380,7 @@ fn check_told(rt: &impl Abort, alloc: Global, told: &str) -> Result<(), Fail> {
             script.push_str("\n")?;
         }
     }
-    let (status, held) = run(alloc, "replay", script.as_bytes(), 0, 0)?;
-    assert_eq!(rt; status, Status::Done);
-    assert_eq!(rt; held.as_slice(), log.as_bytes(), "{script}");
-    Ok(())
+    check_log(rt, alloc, script.as_str(), log.as_str())
 }
 
 #[test]

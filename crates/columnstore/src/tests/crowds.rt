@@ -1,6 +1,5 @@
 // Scripts that are built line by line beside the logs that they make: the deepest transaction, and all sessions at once.
-use super::{SETUP, run};
-use crate::status::Status;
+use super::{SETUP, check_log};
 use std::alloc::Global;
 use std::process::Abort;
 use std::test::Fail;
@@ -74,10 +73,7 @@ impl Tale {
 
     /// Runs the script and compares the logs.
     pub fn check(&self, rt: &impl Abort) -> Result<(), Fail> {
-        let (status, held) = run(self.alloc, "replay", self.script.as_bytes(), 0, 0)?;
-        assert_eq!(rt; status, Status::Done);
-        assert_eq!(rt; held.as_slice(), self.log.as_bytes());
-        Ok(())
+        check_log(rt, self.alloc, self.script.as_str(), self.log.as_str())
     }
 }
 
