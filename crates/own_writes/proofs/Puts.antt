@@ -18,10 +18,10 @@ use Rattle.own_writes.specs.Writes.{key_cmp, Ascend, put, IsFoundAt, IsGapFor}
 pub key_total : IsTotalOrder key_cmp
 key_total = on_total (λ (key : Key). key.0) int_cmp_total
 
-key_is : (a b : Key) → key_cmp a b ≡ Equal → a ≡ b
+pub key_is : (a b : Key) → key_cmp a b ≡ Equal → a ≡ b
 key_is a b e = let n = int_cmp-IsAntisymmetric a.0 b.0 e in λ i. record { 0 = n i }
 
-tied : (a b : Key) → a ≡ b → key_cmp a b ≡ Equal
+pub tied : (a b : Key) → a ≡ b → key_cmp a b ≡ Equal
 tied a b e = subst (λ (k : Key). key_cmp a k ≡ Equal) e (tied_itself key_total a)
 
 pub greater : (a b : Key) → key_cmp b a ≡ Less → key_cmp a b ≡ Greater
@@ -82,14 +82,14 @@ put-gap (v ∷ vs) w (suc i) gap =
       after = λ k d from l. gap.after (suc k) d (omega arith) (omega arith);
     }))
 
-all_cons : (P : Write → Type 0) (v : Write) (vs : List Write) → P v → All P vs → All P (v ∷ vs)
+pub all_cons : (P : Write → Type 0) (v : Write) (vs : List Write) → P v → All P vs → All P (v ∷ vs)
 all_cons P v vs p ps zero d l = p
 all_cons P v vs p ps (suc k) d l = ps k d (omega arith)
 
 pub all_tail : (P : Write → Type 0) (v : Write) (vs : List Write) → All P (v ∷ vs) → All P vs
 all_tail P v vs ps k d l = ps (suc k) d (omega arith)
 
-all_none : (P : Write → Type 0) → All P []
+pub all_none : (P : Write → Type 0) → All P []
 all_none P k d l = absurd (omega (arith, l))
 
 All-put : (P : Write → Type 0) (writes : List Write) (w : Write) → P w → All P writes → All P (put writes w)

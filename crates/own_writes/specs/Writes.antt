@@ -1,5 +1,5 @@
 -- Writes in the order of their keys.
-use Rattle.std.specs.Prelude.{◌≡◌, ◌≢◌, ℕ, ◌<◌, ◌≤◌, List, [], ◌∷◌, length, fold, slice_index_or, All, AllPairs, Bool, false, if◌then◌else◌, Option, None, Some}
+use Rattle.std.specs.Prelude.{◌≡◌, ◌≢◌, ℕ, ◌<◌, ◌≤◌, List, [], ◌∷◌, length, map, fold, slice_index_or, All, AllPairs, Bool, false, if◌then◌else◌, Option, None, Some}
 use Rattle.std.specs.declared.cmp.Ordering.{Ordering}
 use Rattle.std.specs.declared.cmp.Ordering.TheVariants.{Less, Greater}
 use Rattle.std.specs.List.{HoldsAt}
@@ -23,6 +23,10 @@ put (other ∷ writes) write = match_ordering (key_cmp write.key other.key) (wri
 -- the own writes with more laid over them; the last for a key stands
 abbrev pub staged : List Write → List Write → List Write
 staged own writes = fold put own writes
+
+-- each write at its key
+abbrev pub keyed : List Write → List (Key × Write)
+keyed writes = map (λ (write : Write). (write.key, write)) writes
 
 -- the first write has a smaller key; the first write is of the key
 abbrev pub is_front_below : List Write → Key → Bool

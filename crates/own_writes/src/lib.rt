@@ -7,6 +7,7 @@
 
 mod list;
 mod merge;
+mod order;
 mod own;
 mod write;
 

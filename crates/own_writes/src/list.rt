@@ -3,6 +3,7 @@ ghost use Rattle.std.specs.Prelude.{◌≡◌, ◌+◌, ◌<◌, ◌≤◌, IfOk
 ghost use Rattle.own_writes.specs.Writes.{Ascend, IsFoundAt, IsGapFor, IsPlaceOf, put, staged};
 
 use crate::merge::lay_all;
+use crate::order::{in_order, is_in_order};
 use crate::write::Write;
 use cs_base::Memory;
 use cs_types::Key;
@@ -69,12 +70,13 @@ impl Writes {
         if is_put_each(&self.items, &writes) {
             self.items.reserve(writes.len())?;
             put_all(&mut self.items, writes);
-        } else {
-            let alloc = *self.items.allocator();
-            let room = Vec::with_capacity(alloc, self.items.len() + writes.len())?;
-            let own = mem::replace(&mut self.items, room);
-            lay_all(&mut self.items, own, writes);
+            return Ok(());
         }
+        let writes = in_order(writes)?;
+        let alloc = *self.items.allocator();
+        let room = Vec::with_capacity(alloc, self.items.len() + writes.len())?;
+        let own = mem::replace(&mut self.items, room);
+        lay_all(&mut self.items, own, writes);
         Ok(())
     }
 }
@@ -82,12 +84,17 @@ impl Writes {
 /// So many writes are put each in its place.
 const FEW: usize = 8;
 
-/// Whether it is faster to put each write in its place than to go over the whole list: they are few, or they follow it.
+/// Whether it is faster to put each write in its place than to go over the whole list: they are few, or they follow it in
+/// the order of their keys.
 fn is_put_each(own: &[Write], writes: &[Write]) -> bool {
-    match (own.last(), writes.first()) {
-        (Some(last), Some(first)) => writes.len() <= FEW || last.key < first.key,
-        _ => true,
+    if writes.len() <= FEW {
+        return true;
     }
+    let follow = match (own.last(), writes.first()) {
+        (Some(last), Some(first)) => last.key < first.key,
+        _ => true,
+    };
+    follow && is_in_order(writes)
 }
 
 fn copy_items(alloc: Global, items: &[Write]) -> Result<Vec<Write>, Memory>

@@ -63,3 +63,34 @@ fn writes_are_staged(rt: HostRuntime) -> Result<(), Fail> {
     }
     Ok(())
 }
+
+/// A write of the number, at a key that goes up and down with it.
+fn scattered(alloc: Global, number: i64) -> Result<Write, Memory> {
+    write(alloc, number.saturating_mul(17) % 23, Some(number))
+}
+
+/// Writes in no order, with keys that come again: the last for a key stands, over what was staged before.
+#[test]
+fn many_writes_are_staged(rt: HostRuntime) -> Result<(), Fail> {
+    let alloc = rt.alloc();
+    let mut own = Own::empty();
+    for from in [0i64, 60, 7] {
+        let mut writes = Vec::new(alloc);
+        for i in 0..40 {
+            writes.push(scattered(alloc, from.saturating_add(i))?)?;
+        }
+        own.stage(writes)?;
+    }
+    let numbers = [
+        46, 42, 38, 34, 30, 26, 45, 41, 37, 33, 29, 25, 44, 40, 36, 32, 28, 24, 43, 39, 35, 31, 27,
+    ];
+    assert_eq!(rt; own.len(), numbers.len());
+    for (write, number) in own.as_slice().iter().zip(numbers) {
+        let expected = scattered(alloc, number)?;
+        assert!(rt;
+            write.key == expected.key && write.row == expected.row,
+            "of {number}"
+        );
+    }
+    Ok(())
+}
