@@ -2,7 +2,8 @@
 //! the open transactions; and the text of a log.
 //!
 //! Its one contract: `print_log` gives exactly the text of a log. What a legal log is stands in specs/, and the laws of
-//! those definitions are proved here. It stands on `cs_types`.
+//! those definitions are proved here. It stands on `cs_types`, `cs_plans`, `cs_predicate`, `batch_aggregate` and
+//! `tsql_names`.
 #![tactic(auto)]
 
 mod entry;

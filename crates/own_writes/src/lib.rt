@@ -1,8 +1,9 @@
 //! The own writes of a transaction: what it has made of its keys and not committed yet.
 //!
 //! Its one contract: an `Own` is its list of writes, one for each key, in the order of keys, and each call has exactly the
-//! stated effect on that list. The list is shared, so that a statement keeps the writes of its start without a copy. It
-//! stands on `cs_base` and `cs_types`. Microsoft's pages on SNAPSHOT isolation say that a transaction sees its own writes.
+//! stated effect on that list. The list can be shared, so that whoever reads it keeps it without a copy; where it is not,
+//! writes are staged in place. It stands on `cs_base` and `cs_types`. Microsoft's pages on SNAPSHOT isolation say that a
+//! transaction sees its own writes.
 #![tactic(auto)]
 
 mod list;
