@@ -22,6 +22,23 @@ fn write(alloc: Global, key: i64, number: Option<i64>) -> Result<Write, Memory> 
 }
 
 #[test]
+fn writes_are_listed(rt: HostRuntime) -> Result<(), Fail> {
+    let alloc = rt.alloc();
+    let none = Own::new(alloc, Vec::new(alloc))?;
+    assert!(rt; none.is_empty() && none.len() == 0 && none.find(Key(0)).is_none());
+    let only = write(alloc, -3, Some(30))?;
+    let own = Own::new(alloc, vec![in alloc; only.copy()?]?)?;
+    assert_eq!(rt;
+        (own.len(), own.find(Key(-3)), own.find(Key(3))),
+        (1, Some(0), None)
+    );
+    for listed in own.as_slice() {
+        assert!(rt; listed.key == only.key && listed.row == only.row);
+    }
+    Ok(())
+}
+
+#[test]
 fn writes_are_staged(rt: HostRuntime) -> Result<(), Fail> {
     let alloc = rt.alloc();
     let mut own = Own::empty();
