@@ -69,8 +69,8 @@ impl Recent {
         }
     }
 
-    /// The commit and the transaction of the key's newest change. None exactly where no change of the key was noted
-    /// above the last prune.
+    /// The commit and the transaction of the key's newest change. None exactly where none stands: none was noted, or a prune
+    /// has dropped it.
     pub fn newest(&self, key: Key) -> Option<(u64, u64)>
         ensures { result ≡ map.get self.now.changes key }
     {
