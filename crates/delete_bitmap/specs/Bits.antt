@@ -11,6 +11,6 @@ bit_in words position = bit_at (slice_index words (position / 64)) (position % 6
 abbrev pub bits_in : ℕ → List ℕ → List Bool
 bits_in n words = map (bit_in words) (range_with_len 0 n)
 
--- there is no word, or the words have n bits
+-- there is no word, or the words have at least n bits
 abbrev pub IsCovered : ℕ → List ℕ → Type 0
 IsCovered n words = 0 < length words → n ≤ 64 * length words

@@ -21,7 +21,7 @@ abbrev pub AreEndedButLast : List KeyedVersion → Type 0
 AreEndedButLast [] = Unit {0}
 AreEndedButLast (v ∷ vs) = ((is_none (last_place vs v.key) || is_ended v) ≡ true) × AreEndedButLast vs
 
--- the index has the last place of each key
+-- the index has the last place of each key, and each version but the last of its key has an end
 pub record IsIndexed (versions : List KeyedVersion) (pairs : List (Key × ℕ)) : Type 0 where
   pub places : (key : Key) → place_in pairs key ≡ last_place versions key
   pub ended : AreEndedButLast versions

@@ -71,7 +71,7 @@ pub record ArePlacesOf (group : Group) (key : Key) (from to : ℕ) : Type 0 wher
   pub of_key : (i : ℕ) → from ≤ i → i < to → key_at_place group i ≡ key
   pub every : (position : ℕ) → position < length group.rows → key_in group.key (row_at group position).cells ≡ key → (i : ℕ) × (from ≤ i) × (i < to) × (slice_index group.places i ≡ position)
 
--- the first place whose key does not come before this one
+-- the first place whose key does not come before this one, or, where those of this key are passed over, comes after it
 pub record IsFirstPlace (group : Group) (key : Key) (tied : Bool) (place : ℕ) : Type 0 where
   pub within : place ≤ length group.places
   pub before : (i : ℕ) → i < place → precedes tied (key_cmp (key_at_place group i) key) ≡ true
