@@ -2,10 +2,8 @@
 use Rattle.std.proofs.Common.{◌≡◌, ℕ, zero, suc, List, [], ◌∷◌, refl, sym, ap, ◌∙◌, subst, cond, Bool, true, false, arith, All, None, Some, slice_get}
 use Rattle.std.specs.Prelude.{◌≢◌}
 use Rattle.std.specs.List.{AllByRecursion}
-use Rattle.std.specs.declared.cmp.Ordering.{Ordering}
-use Rattle.std.specs.declared.cmp.Ordering.TheVariants.{Less, Equal, Greater}
-use Rattle.std.specs.Ordering.{is_eq, match_ordering, ordering_reverse}
-use Rattle.std.specs.BTreeMap.{insert_entry}
+use Rattle.std.specs.declared.cmp.Ordering.TheVariants.{Less}
+use Rattle.std.specs.Ordering.{is_eq, ordering_reverse}
 use Rattle.std.specs.Map.{keys_of}
 use Rattle.std.specs.List.Sorted.{IsStrictlySortedBy}
 use Rattle.std.proofs.lemmas.Cmp.{tied_itself}
@@ -14,28 +12,19 @@ use Rattle.cs_types.specs.declared.Key.{Key}
 use Rattle.own_writes.specs.declared.write.Write.{Write}
 use Rattle.own_writes.specs.Writes as writes
 use Rattle.own_writes.specs.Writes.{put, IsFoundAt, Ascend}
+use Rattle.own_writes.proofs.Orders.{put_entry}
 use Rattle.own_writes.proofs.Puts.{head, tail}
 use Rattle.cs_model.specs.Keys.{key_cmp, same_key}
 use Rattle.cs_model.specs.Steps.{staged}
-use Rattle.change_list.specs.Edits.{edit_of, edits_of}
-use Rattle.change_list.proofs.Keys.{key_total, exact_key, one_key}
+use Rattle.change_list.specs.Edits.{edits_of}
+use Rattle.change_list.proofs.Keys.{key_total, one_key}
 use Rattle.change_list.proofs.Tables.{Ascends, at}
 
 -- ---- writes that are staged
 
-put_as_edits : (own : List Write) (w : Write) → edits_of (put own w) ≡ insert_entry key_cmp (edits_of own) w.key w.row
-put_as_edits [] w = refl
-put_as_edits (v ∷ vs) w = go (key_cmp w.key v.key) refl (put_as_edits vs w)
-  where
-    go : (o : Ordering) → key_cmp w.key v.key ≡ o → edits_of (put vs w) ≡ insert_entry key_cmp (edits_of vs) w.key w.row
-        → edits_of (match_ordering o (w ∷ v ∷ vs) (w ∷ vs) (v ∷ put vs w)) ≡ match_ordering o ((w.key, w.row) ∷ edit_of v ∷ edits_of vs) ((v.key, w.row) ∷ edits_of vs) (edit_of v ∷ insert_entry key_cmp (edits_of vs) w.key w.row)
-    go Less e rest = refl
-    go Equal e rest = ap (λ (k : Key). (k, w.row) ∷ edits_of vs) (exact_key w.key v.key e)
-    go Greater e rest = ap (λ es. edit_of v ∷ es) rest
-
 pub staged_edits : (own more : List Write) → edits_of (writes.staged own more) ≡ staged (edits_of own) (edits_of more)
 staged_edits own [] = refl
-staged_edits own (w ∷ more) = staged_edits (put own w) more ∙ ap (λ es. staged es (edits_of more)) (put_as_edits own w)
+staged_edits own (w ∷ more) = staged_edits (put own w) more ∙ ap (λ es. staged es (edits_of more)) (put_entry (λ v. v.row) own w)
 
 -- ---- their order
 

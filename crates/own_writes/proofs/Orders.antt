@@ -1,10 +1,11 @@
 -- Writes laid in another order.
-use Rattle.std.proofs.Common.{◌≡◌, List, [], ◌∷◌, ◌++◌, get_or, refl, sym, ◌∙◌, ap, subst, arith, Result, Ok, Err, IfOk, All}
+use Rattle.std.proofs.Common.{◌≡◌, List, [], ◌∷◌, ◌++◌, map, get_or, refl, sym, ◌∙◌, ap, subst, arith, Result, Ok, Err, IfOk, All}
 use Rattle.std.specs.declared.cmp.Ordering.{Ordering}
 use Rattle.std.specs.declared.cmp.Ordering.TheVariants.{Less, Equal, Greater}
 use Rattle.std.specs.Ordering.{match_ordering}
 use Rattle.std.specs.BTreeMap.{insert_entry}
 use Rattle.std.specs.Map.{values_of}
+use Rattle.cs_types.specs.declared.Key.{Key}
 use Rattle.own_writes.specs.declared.write.Write.{Write}
 use Rattle.own_writes.specs.Writes.{key_cmp, Ascend, keyed, put, staged}
 use Rattle.own_writes.proofs.Puts.{key_total, key_is, greater, tied, Rises, head, tail, all_cons, all_tail, Ascend-put}
@@ -93,22 +94,28 @@ result_alike items ws (Err error) e = tt
 
 -- ---- writes by key
 
-keyed_put : (own : List Write) (w : Write) → keyed (put own w) ≡ insert_entry key_cmp (keyed own) w.key w
-keyed_put [] w = refl
-keyed_put (v ∷ vs) w = go (key_cmp w.key v.key) refl (keyed_put vs w)
-  where
-    go : (o : Ordering) → key_cmp w.key v.key ≡ o → keyed (put vs w) ≡ insert_entry key_cmp (keyed vs) w.key w
-        → keyed (at w v vs o) ≡ match_ordering o ((w.key, w) ∷ (v.key, v) ∷ keyed vs) ((v.key, w) ∷ keyed vs) ((v.key, v) ∷ insert_entry key_cmp (keyed vs) w.key w)
-    go Less e ih = refl
-    go Equal e ih = ap (λ k. (k, w) ∷ keyed vs) (key_is w.key v.key e)
-    go Greater e ih = ap (λ es. (v.key, v) ∷ es) ih
+-- what is kept of each write at its key
+module _ {V : Type 0} (of : Write → V) where
+  abbrev pub at_keys : List Write → List (Key × V)
+  at_keys writes = map (λ (write : Write). (write.key, of write)) writes
+
+  -- a write put in is an entry of a map put in
+  pub put_entry : (own : List Write) (w : Write) → at_keys (put own w) ≡ insert_entry key_cmp (at_keys own) w.key (of w)
+  put_entry [] w = refl
+  put_entry (v ∷ vs) w = go (key_cmp w.key v.key) refl (put_entry vs w)
+    where
+      go : (o : Ordering) → key_cmp w.key v.key ≡ o → at_keys (put vs w) ≡ insert_entry key_cmp (at_keys vs) w.key (of w)
+          → at_keys (at w v vs o) ≡ match_ordering o ((w.key, of w) ∷ (v.key, of v) ∷ at_keys vs) ((v.key, of w) ∷ at_keys vs) ((v.key, of v) ∷ insert_entry key_cmp (at_keys vs) w.key (of w))
+      go Less e ih = refl
+      go Equal e ih = ap (λ k. (k, of w) ∷ at_keys vs) (key_is w.key v.key e)
+      go Greater e ih = ap (λ es. (v.key, of v) ∷ es) ih
 
 staged_more : (own writes : List Write) (w : Write) → staged own (writes ++ w ∷ []) ≡ put (staged own writes) w
 staged_more own [] w = refl
 staged_more own (v ∷ vs) w = staged_more (put own v) vs w
 
 pub keyed_more : (writes : List Write) (w : Write) → keyed (staged [] (writes ++ w ∷ [])) ≡ insert_entry key_cmp (keyed (staged [] writes)) w.key w
-keyed_more writes w = ap keyed (staged_more [] writes w) ∙ keyed_put (staged [] writes) w
+keyed_more writes w = ap keyed (staged_more [] writes w) ∙ put_entry (λ v. v) (staged [] writes) w
 
 pub values_keyed : (ws : List Write) → values_of (keyed ws) ≡ ws
 values_keyed [] = refl
