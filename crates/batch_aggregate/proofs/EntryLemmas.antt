@@ -10,12 +10,12 @@ use Rattle.indexmap.specs.Layout.{set_value_at}
 use Rattle.cs_types.specs.declared.Schema.{Schema}
 use Rattle.cs_types.specs.declared.Value.{Value}
 use Rattle.cs_types.specs.contracts.ValuePartialEq.TheImpl.{eq-value}
-use Rattle.cs_plans.specs.declared.plan.Item.{Item}
-use Rattle.cs_plans.specs.declared.plan.Query.{Query}
+use Rattle.cs_model.specs.declared.plan.Item.{Item}
+use Rattle.cs_model.specs.declared.plan.Query.{Query}
 use Rattle.batch_aggregate.specs.declared.tally.Tally.{Tally}
 use Rattle.batch_aggregate.specs.declared.partial.Partial.{Partial}
-use Rattle.batch_aggregate.specs.Answers.{keeps, kept}
-use Rattle.batch_aggregate.specs.Groups.{Group, cells_of, same_cells, groups_of}
+use Rattle.cs_model.specs.Queries.{keeps, kept}
+use Rattle.cs_model.specs.Groups.{Group, cells_of, same_cells, groups_of}
 use Rattle.batch_aggregate.specs.Standing.{Entry, no_tally, with_row, tally_of, entry_of, entries_of, with_entry, Keeps, StandsFor}
 use Rattle.batch_aggregate.proofs.Gathered.{with_group, groups-more}
 use Rattle.batch_aggregate.proofs.Orders.{same_decides, rows_decide}

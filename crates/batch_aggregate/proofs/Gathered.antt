@@ -7,7 +7,7 @@ use Rattle.std.proofs.lemmas.List.Elements.{filter-append}
 use Rattle.std.proofs.lemmas.List.Folds.{list_any-append}
 use Rattle.std.proofs.lemmas.List.Sums.{fold_push}
 use Rattle.cs_types.specs.declared.Value.{Value}
-use Rattle.batch_aggregate.specs.Groups.{Group, cells_of, same_cells, each_once, gathered, groups_of}
+use Rattle.cs_model.specs.Groups.{Group, cells_of, same_cells, each_once, gathered, groups_of}
 use Rattle.batch_aggregate.proofs.Orders.{same_decides}
 
 same-is : (a b : List Value) → same_cells a b ≡ true → a ≡ b

@@ -17,8 +17,8 @@ use Rattle.cs_types.specs.contracts.ValueOrd.TheImpl.Laws.{total-law}
 use Rattle.cs_types.specs.contracts.ValuePartialEq.TheImpl.{eq-value}
 use Rattle.cs_types.specs.Rows.{cell_at}
 use Rattle.cs_types.specs.Values.{value_cmp}
-use Rattle.batch_aggregate.specs.Order.{column_cmp, row_cmp, comes_before}
-use Rattle.batch_aggregate.specs.Groups.{same_cells}
+use Rattle.cs_model.specs.Order.{column_cmp, row_cmp, comes_before}
+use Rattle.cs_model.specs.Groups.{same_cells}
 
 derived_cmp : (x y : Value) → cmp-value.it x y ≡ value_cmp x y
 derived_cmp Null Null = refl

@@ -5,15 +5,15 @@ use Rattle.cs_types.specs.declared.Schema.{Schema}
 use Rattle.cs_types.specs.declared.Value.{Value}
 use Rattle.cs_types.specs.declared.Value.TheVariants as value
 use Rattle.cs_types.specs.Rows.{cell_at, number_in}
-use Rattle.cs_plans.specs.declared.plan.Item.{Item}
-use Rattle.cs_plans.specs.declared.plan.Item.TheVariants as item
-use Rattle.cs_plans.specs.declared.plan.Query.{Query}
+use Rattle.cs_model.specs.declared.plan.Item.{Item}
+use Rattle.cs_model.specs.declared.plan.Item.TheVariants as item
+use Rattle.cs_model.specs.declared.plan.Query.{Query}
 use Rattle.batch_aggregate.specs.declared.tally.Tally.{Tally}
 use Rattle.batch_aggregate.specs.declared.partial.Partial.{Partial}
-use Rattle.batch_aggregate.specs.Answers.{group_order, group_row, rows_from, values_from, grouped_answer, answer, kept}
-use Rattle.batch_aggregate.specs.Groups.{Group, groups_of}
-use Rattle.batch_aggregate.specs.Items.{is_null, present, lesser, greater, group_item, sum_of, least_of, greatest_of}
-use Rattle.batch_aggregate.specs.Order.{put, in_order, comes_before}
+use Rattle.cs_model.specs.Queries.{group_order, group_row, rows_from, values_from, grouped_answer, answer, kept}
+use Rattle.cs_model.specs.Groups.{Group, groups_of}
+use Rattle.cs_model.specs.Items.{is_null, present, lesser, greater, group_item, sum_of, least_of, greatest_of}
+use Rattle.cs_model.specs.Order.{put, in_order, comes_before}
 use Rattle.batch_aggregate.specs.Standing.{Entry, no_tally, with_cell, with_row, with_row_by, tally_of, entry_of, entries_of, entry_row, answer_of, shown, Keeps, StandsFor}
 
 abbrev tally : Item → ℕ → ℤ → Value → Value → Tally

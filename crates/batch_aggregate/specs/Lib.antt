@@ -1,5 +1,1 @@
-pub mod Answers
-pub mod Groups
-pub mod Items
-pub mod Order
 pub mod Standing

@@ -3,21 +3,21 @@ use Rattle.std.specs.Prelude.{◌≡◌, ℕ, zero, suc, ◌+◌, ◌==◌, pos,
 use Rattle.cs_types.specs.declared.Value.{Value}
 use Rattle.cs_types.specs.declared.Value.TheVariants as value
 use Rattle.cs_types.specs.Rows.{cell_at, number_in}
-use Rattle.cs_plans.specs.declared.plan.Item.{Item}
-use Rattle.cs_plans.specs.declared.plan.Item.TheVariants as item
-use Rattle.cs_plans.specs.declared.plan.Query.{Query}
+use Rattle.cs_model.specs.declared.plan.Item.{Item}
+use Rattle.cs_model.specs.declared.plan.Item.TheVariants as item
+use Rattle.cs_model.specs.declared.plan.Query.{Query}
 use Rattle.cs_types.specs.declared.Schema.{Schema}
 use Rattle.batch_aggregate.specs.declared.tally.Tally.{Tally}
 use Rattle.batch_aggregate.specs.declared.partial.Partial.{Partial}
 use Rattle.cs_types.specs.declared.Loose.{Loose}
 use Rattle.cs_types.specs.declared.Loose.TheVariants.{Null}
-use Rattle.cs_predicate.specs.Cells.{loose_in}
-use Rattle.batch_aggregate.specs.declared.refusal.AnswerRefusal.{AnswerRefusal}
-use Rattle.batch_aggregate.specs.declared.refusal.AnswerRefusal.TheVariants.{Overflow, Memory}
-use Rattle.batch_aggregate.specs.Order.{comes_before, in_order}
-use Rattle.batch_aggregate.specs.Answers.{kept, values_from, rows_from, group_order}
-use Rattle.batch_aggregate.specs.Groups.{Group, groups_of, place_of, same_cells}
-use Rattle.batch_aggregate.specs.Items.{is_null, lesser, greater, count_of, of_sum_in}
+use Rattle.cs_model.specs.Cells.{loose_in}
+use Rattle.cs_model.specs.declared.answer_refusal.AnswerRefusal.{AnswerRefusal}
+use Rattle.cs_model.specs.declared.answer_refusal.AnswerRefusal.TheVariants.{Overflow, Memory}
+use Rattle.cs_model.specs.Order.{comes_before, in_order}
+use Rattle.cs_model.specs.Queries.{kept, values_from, rows_from, group_order}
+use Rattle.cs_model.specs.Groups.{Group, groups_of, place_of, same_cells}
+use Rattle.cs_model.specs.Items.{is_null, lesser, greater, count_of, of_sum_in}
 
 -- the tally of an item over no rows
 abbrev pub no_tally : Item → Tally

@@ -1,14 +1,14 @@
 //! The groups of a query, each with its tallies, found by their cells.
 
 ghost use Rattle.std.specs.Prelude.{◌≡◌, [], IfOk, OnOk};
-ghost use Rattle.batch_aggregate.specs.Groups as groups;
-ghost use Rattle.batch_aggregate.specs.Order.{comes_before, in_order, row_cmp};
+ghost use Rattle.cs_model.specs.Groups as groups;
+ghost use Rattle.cs_model.specs.Order.{comes_before, in_order, row_cmp};
 ghost use Rattle.batch_aggregate.specs.Standing.{entries_of, with_entry};
 
 use crate::order::{OrderColumn, compare_rows};
 use crate::tally::Tallies;
 use cs_base::Memory;
-use cs_plans::Query;
+use cs_model::Query;
 use cs_types::Row;
 use indexmap::IndexMap;
 use std::alloc::Global;

@@ -2,16 +2,15 @@
 
 ghost use Rattle.std.specs.Prelude.{◌≡◌, ◌++◌, ◌∷◌, [], IfOk, OnOk, List};
 ghost use Rattle.cs_types.specs.declared.Value.{Value};
-ghost use Rattle.batch_aggregate.specs.Answers as answers;
-ghost use Rattle.batch_aggregate.specs.Answers.{Gives};
+ghost use Rattle.cs_model.specs.Queries as answers;
+ghost use Rattle.cs_model.specs.Queries.{Gives};
 ghost use Rattle.batch_aggregate.specs.Standing.{StandsFor};
 
 use crate::entries::{Entries, add_row, no_rows};
-use crate::refusal::AnswerRefusal;
 use crate::shown::{grouped_answer, plain_answer};
 use cs_base::{Items, Memory};
-use cs_plans::{Pred, Query};
-use cs_predicate::{Truth, truth};
+use cs_model::{AnswerRefusal, Pred, Query, Truth};
+use cs_predicate::truth;
 use cs_types::{Loose, Row, Schema};
 use std::alloc::Global;
 

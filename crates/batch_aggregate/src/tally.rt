@@ -2,12 +2,12 @@
 
 ghost use Rattle.std.specs.Prelude.{◌≡◌, IfOk, OnOk, map};
 ghost use Rattle.cs_types.specs.Rows.{number_in};
-ghost use Rattle.batch_aggregate.specs.Items as spec;
+ghost use Rattle.cs_model.specs.Items as spec;
 ghost use Rattle.batch_aggregate.specs.Standing.{no_tally, with_cell, with_row};
 
 use crate::total::Total;
 use cs_base::Memory;
-use cs_plans::Item;
+use cs_model::Item;
 use cs_types::{Row, Value, compare};
 use std::alloc::Global;
 use std::marker::Model;

@@ -4,11 +4,11 @@ use Rattle.std.specs.Prelude.{Option, None, Some, is_some, unwrap_or}
 use Rattle.std.specs.BTreeMap.{BTreeMap, get, is_at, keys}
 use Rattle.std.specs.List.{list_any}
 use Rattle.cs_types.specs.declared.Key.{Key}
-use Rattle.cs_model.specs.Keys.{key_cmp, same_key}
+use Rattle.cs_types.specs.Keys.{key_cmp, same_key}
 use Rattle.cs_model.specs.Changes.{table}
-use Rattle.change_list.specs.declared.list.Kept.{Kept}
+use Rattle.change_list.specs.declared.list.LinkedChange.{LinkedChange}
 use Rattle.change_list.specs.Places.{changes_of, place_in, IsIndex}
-use Rattle.change_list.proofs.Keys.{one_key}
+use Rattle.cs_types.proofs.KeyLemmas.{one_key}
 use Rattle.change_list.proofs.Tables.{at, any_key}
 use Rattle.change_list.proofs.Walks.{no_row}
 
@@ -25,5 +25,5 @@ room_only old new key none updates q = ap (λ o. unwrap_or o None) (updates q) �
     by false s = refl
 
 -- a key that the index does not list has no row
-pub unlisted : (index : BTreeMap Key (Option ℕ)) (list : List Kept) (s : ℕ) → IsIndex index list → (q : Key) → list_any (same_key q) (keys index) ≡ false → at q (table (changes_of list) s) ≡ None
+pub unlisted : (index : BTreeMap Key (Option ℕ)) (list : List LinkedChange) (s : ℕ) → IsIndex index list → (q : Key) → list_any (same_key q) (keys index) ≡ false → at q (table (changes_of list) s) ≡ None
 unlisted index list s is q e = no_row q s list (sym (is q) ∙ ap (λ o. unwrap_or o None) (absent (get key_cmp index q) (sym (any_key q index.entries) ∙ e)))

@@ -9,9 +9,9 @@ use Rattle.std.specs.Map.{remove_entry}
 use Rattle.std.proofs.lemmas.List.Elements.{All-nil, All-cons, All-map, All-filter, All-contains_itself}
 use Rattle.cs_types.specs.declared.Key.{Key}
 use Rattle.cs_types.specs.declared.Value.{Value}
-use Rattle.cs_model.specs.Keys.{key_cmp}
+use Rattle.cs_types.specs.Keys.{key_cmp}
 use Rattle.cs_model.specs.Changes.{Edit, Table, Change, edited, edited_by, laid, until, table}
-use Rattle.change_list.proofs.Keys.{exact_key}
+use Rattle.cs_types.proofs.KeyLemmas.{exact_key}
 
 -- an entry as the edit that makes it
 abbrev pub Holds : (Edit → Type 0) → Key × List Value → Type 0

@@ -16,11 +16,11 @@ use Rattle.std.proofs.lemmas.Map.Keys.{sorted_tail, IsDistinct-from_sorted}
 use Rattle.std.proofs.lemmas.Option.{none-some, same_Some}
 use Rattle.cs_types.specs.declared.Key.{Key}
 use Rattle.cs_types.specs.declared.Value.{Value}
-use Rattle.cs_model.specs.Keys.{key_cmp, same_key}
+use Rattle.cs_types.specs.Keys.{key_cmp, same_key}
 use Rattle.cs_model.specs.Changes.{Edit, Table, Change, edited, laid, until}
 use Rattle.cs_model.specs.Steps.{numbered}
 use Rattle.cs_model.proofs.Tables.{table_ascends, edited_is}
-use Rattle.change_list.proofs.Keys.{key_total, exact_key, one_key}
+use Rattle.cs_types.proofs.KeyLemmas.{key_total, exact_key, one_key}
 
 abbrev pub Ascends : {X : Type 0} → List (Key × X) → Type 0
 Ascends es = IsStrictlySortedBy key_cmp (keys_of es)

@@ -9,15 +9,15 @@ use Rattle.std.specs.List.Sorted.{IsStrictlySortedBy}
 use Rattle.std.proofs.lemmas.Cmp.{tied_itself}
 use Rattle.std.proofs.lemmas.Option.{same_Some}
 use Rattle.cs_types.specs.declared.Key.{Key}
-use Rattle.own_writes.specs.declared.write.Write.{Write}
-use Rattle.own_writes.specs.Writes as writes
-use Rattle.own_writes.specs.Writes.{put, IsFoundAt, Ascend}
-use Rattle.own_writes.proofs.Orders.{put_entry}
-use Rattle.own_writes.proofs.Puts.{head, tail}
-use Rattle.cs_model.specs.Keys.{key_cmp, same_key}
+use Rattle.write_set.specs.declared.write.Write.{Write}
+use Rattle.write_set.specs.Writes as writes
+use Rattle.write_set.specs.Writes.{put, IsFoundAt, Ascend}
+use Rattle.write_set.proofs.Orders.{put_entry}
+use Rattle.write_set.proofs.Puts.{head, tail}
+use Rattle.cs_types.specs.Keys.{key_cmp, same_key}
 use Rattle.cs_model.specs.Steps.{staged}
 use Rattle.change_list.specs.Edits.{edits_of}
-use Rattle.change_list.proofs.Keys.{key_total, one_key}
+use Rattle.cs_types.proofs.KeyLemmas.{key_total, one_key}
 use Rattle.change_list.proofs.Tables.{Ascends, at}
 
 -- ---- writes that are staged

@@ -2,8 +2,8 @@
 use Rattle.std.specs.Prelude.{List, map, Bool}
 use Rattle.std.specs.List.{list_any}
 use Rattle.cs_types.specs.declared.Key.{Key}
-use Rattle.own_writes.specs.declared.write.Write.{Write}
-use Rattle.cs_model.specs.Keys.{same_key}
+use Rattle.write_set.specs.declared.write.Write.{Write}
+use Rattle.cs_types.specs.Keys.{same_key}
 use Rattle.cs_model.specs.Changes.{Edit}
 
 abbrev pub edit_of : Write → Edit

@@ -1,16 +1,16 @@
-use crate::list::{Index, Kept, add_all, find, make_room, row_at};
+use crate::list::{Index, LinkedChange, add_all, find, make_room, row_at};
 use crate::overlay::{Rows, put};
 use cs_base::Memory;
 use cs_types::{Key, Row};
-use own_writes::Own;
 use std::alloc::Global;
 use std::collections::BTreeMap;
 use std::marker::Model;
+use write_set::Own;
 
 /// The committed changes of a table, in the order of their commits. Contracts see them as a list.
 #[derive(Debug, Drop)]
 pub struct Changes {
-    list: Vec<Kept>,
+    list: Vec<LinkedChange>,
     index: Index,
 }
 
@@ -31,7 +31,7 @@ impl Changes {
     ghost use Rattle.std.specs.Option.{option_copied, option_map};
     ghost use Rattle.std.specs.BTreeMap.{is_at};
     ghost use Rattle.std.specs.Map.{lookup};
-    ghost use Rattle.cs_model.specs.Keys.{key_cmp};
+    ghost use Rattle.cs_types.specs.Keys.{key_cmp};
     ghost use Rattle.cs_model.specs.Changes.{newest, table};
     ghost use Rattle.cs_model.specs.Obstacles.{has_row};
     ghost use Rattle.cs_model.specs.Steps.{numbered};

@@ -5,11 +5,11 @@ ghost use Rattle.std.specs.Map.{keys_of, lookup};
 ghost use Rattle.std.specs.List.Sorted.{IsStrictlySortedBy};
 ghost use Rattle.cs_types.specs.declared.Key.{Key};
 ghost use Rattle.cs_types.specs.declared.Value.{Value};
-ghost use Rattle.cs_model.specs.Keys.{key_cmp};
+ghost use Rattle.cs_types.specs.Keys.{key_cmp};
 ghost use Rattle.cs_model.specs.Changes.{Change, Edit, Table, laid, until, table};
 ghost use Rattle.cs_model.specs.Steps.{staged};
-ghost use Rattle.own_writes.specs.declared.write.Write.{Write};
-ghost use Rattle.own_writes.specs.Writes as writes;
+ghost use Rattle.write_set.specs.declared.write.Write.{Write};
+ghost use Rattle.write_set.specs.Writes as writes;
 ghost use Rattle.change_list.specs.Edits.{edits_of};
 
 /// The row of a key in a table with edits laid over it, the keys of both ascending: what the edits make of the key, and

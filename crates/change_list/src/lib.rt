@@ -4,8 +4,8 @@
 //! Its one contract: a `Changes` is the list of the changes that were committed to it, and each call answers what the
 //! definitions of `cs_model` say of that list. The newest change of a key is found by its key, and each change leads to
 //! the one before it, as the versions of a row do in Larson et al., PVLDB 2011, "High-performance concurrency control
-//! mechanisms for main-memory databases". What is committed or laid over rows are the writes of `own_writes`. It
-//! stands on `cs_base`, `cs_types`, `own_writes` and `cs_model`.
+//! mechanisms for main-memory databases". What is committed or laid over rows are the writes of `write_set`. It
+//! stands on `cs_base`, `cs_types`, `write_set` and `cs_model`.
 #![tactic(auto)]
 
 mod changes;

@@ -3,7 +3,7 @@ ghost use Rattle.std.specs.Prelude.{◌≡◌, ◌+◌, ◌<◌, ◌≤◌, ◌|
 ghost use Rattle.std.specs.Option.{option_copied};
 ghost use Rattle.std.specs.BTreeMap.{get, is_at};
 ghost use Rattle.std.specs.Map.{lookup};
-ghost use Rattle.cs_model.specs.Keys.{key_cmp, same_key};
+ghost use Rattle.cs_types.specs.Keys.{key_cmp, same_key};
 ghost use Rattle.cs_model.specs.Changes.{table};
 ghost use Rattle.cs_model.specs.Steps.{numbered};
 ghost use Rattle.change_list.specs.Edits.{edits_of, writes_key};
@@ -11,16 +11,16 @@ ghost use Rattle.change_list.specs.Places.{change_of, changes_of, last_place, Ar
 
 use cs_base::Memory;
 use cs_types::{Key, Row};
-use own_writes::Write;
 use std::collections::BTreeMap;
 use std::mem;
+use write_set::Write;
 
 /// The place of each key's newest change; None where room was made for a key that has no change yet.
 pub type Index = BTreeMap<Key, Option<usize>>;
 
 /// A committed change, with the place of its key's change before it.
 #[derive(Debug, Drop)]
-pub struct Kept {
+pub struct LinkedChange {
     pub commit: u64,
     pub txn: u64,
     pub key: Key,
@@ -61,7 +61,11 @@ fn make_room_for_keys(index: &mut Index, writes: &[Write]) -> Result<(), Memory>
 }
 
 /// Makes room for these writes. The changes and their places stay.
-pub fn make_room(list: &mut Vec<Kept>, index: &mut Index, writes: &[Write]) -> Result<(), Memory>
+pub fn make_room(
+    list: &mut Vec<LinkedChange>,
+    index: &mut Index,
+    writes: &[Write],
+) -> Result<(), Memory>
     ensures items { list.new.items ≡ list.old.items }
     ensures places { (q : Key) → place_in index.new q ≡ place_in index.old q }
     ensures room { OnOk result (vec_len list.new + length writes.now ≤ vec_capacity list.new) }
@@ -85,7 +89,14 @@ fn renew(index: &mut Index, key: Key, place: usize) -> Option<usize>
 }
 
 /// Adds a change, for which there is room.
-fn add(list: &mut Vec<Kept>, index: &mut Index, commit: u64, txn: u64, key: Key, row: Option<Row>)
+fn add(
+    list: &mut Vec<LinkedChange>,
+    index: &mut Index,
+    commit: u64,
+    txn: u64,
+    key: Key,
+    row: Option<Row>,
+)
     requires room { vec_len list.old < vec_capacity list.old }
     requires key { IsSome (get key_cmp index.old key) }
     requires indexed { IsIndex index.old list.old.items }
@@ -98,7 +109,7 @@ fn add(list: &mut Vec<Kept>, index: &mut Index, commit: u64, txn: u64, key: Key,
     ensures keys { (q : Key) → is_some (get key_cmp index.new q) ≡ is_some (get key_cmp index.old q) }
 {
     let previous = renew(index, key, list.len());
-    list.push_reserved(Kept {
+    list.push_reserved(LinkedChange {
         commit,
         txn,
         key,
@@ -108,7 +119,13 @@ fn add(list: &mut Vec<Kept>, index: &mut Index, commit: u64, txn: u64, key: Key,
 }
 
 /// Adds the changes of a commit, for which there is room.
-pub fn add_all(list: &mut Vec<Kept>, index: &mut Index, commit: u64, txn: u64, writes: Vec<Write>)
+pub fn add_all(
+    list: &mut Vec<LinkedChange>,
+    index: &mut Index,
+    commit: u64,
+    txn: u64,
+    writes: Vec<Write>,
+)
     requires room { vec_len list.old + vec_len writes ≤ vec_capacity list.old }
     requires keys { (q : Key) → IsTrue (writes_key writes.items q) → IsSome (get key_cmp index.old q) }
     requires indexed { IsIndex index.old list.old.items }
@@ -124,7 +141,7 @@ pub fn add_all(list: &mut Vec<Kept>, index: &mut Index, commit: u64, txn: u64, w
 
 /// The row that a key has in the table of a snapshot: what the key's last change numbered at most the snapshot made of
 /// it. It looks at the key's newer changes, and no others.
-pub fn row_at<'a>(list: &'a [Kept], index: &Index, key: Key, s: u64) -> Option<&'a Row>
+pub fn row_at<'a>(list: &'a [LinkedChange], index: &Index, key: Key, s: u64) -> Option<&'a Row>
     requires indexed { IsIndex index.now list.now }
     requires linked { AreLinked list.now }
     ensures { option_copied result ≡ lookup (is_at (key_cmp key)) (table (changes_of list.now) s) }

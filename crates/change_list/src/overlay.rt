@@ -2,14 +2,14 @@
 ghost use Rattle.std.specs.Prelude.{◌≡◌, OnOk};
 ghost use Rattle.std.specs.Map.{remove_entry};
 ghost use Rattle.std.specs.BTreeMap.{is_at, insert_entry};
-ghost use Rattle.cs_model.specs.Keys.{key_cmp};
+ghost use Rattle.cs_types.specs.Keys.{key_cmp};
 ghost use Rattle.cs_model.specs.Changes.{edited_by, laid};
 ghost use Rattle.change_list.specs.Edits.{edits_of};
 
 use cs_base::Memory;
 use cs_types::{Key, Row};
-use own_writes::Own;
 use std::collections::BTreeMap;
+use write_set::Own;
 
 /// Rows by key.
 pub type Rows = BTreeMap<Key, Row>;

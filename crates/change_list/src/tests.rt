@@ -1,9 +1,9 @@
 use crate::{Changes, has_row_over, lay};
 use cs_base::Memory;
 use cs_types::{Key, Row, Value};
-use own_writes::{Own, Write};
 use std::alloc::Global;
 use std::test::Fail;
+use write_set::{Own, Write};
 
 /// A row of one number, where there is one.
 fn row(alloc: Global, number: Option<i64>) -> Result<Option<Row>, Memory> {

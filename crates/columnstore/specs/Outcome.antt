@@ -6,7 +6,7 @@ use Rattle.cs_model.specs.declared.entry.Entry.{Entry}
 use Rattle.cs_model.specs.Text.{text}
 use Rattle.script_reader.specs.declared.script.Script.{Script}
 use Rattle.script_reader.specs.Scripts.{IsScript, IsBadLine}
-use Rattle.script_schedule.specs.Logs.{IsLogOf, IsFrontLogOf}
+use Rattle.script_runner.specs.Logs.{IsLogOf, IsFrontLogOf}
 use Rattle.columnstore.specs.declared.status.Status.{Status}
 use Rattle.columnstore.specs.declared.status.Status.TheVariants as status
 
@@ -39,8 +39,9 @@ setup_error_text number = if number == 0 then [] else codes " error " ++ decimal
 abbrev pub bad_line_text : ℕ → ℕ → ℕ → List ℕ
 bad_line_text line reason number = codes "refused line " ++ decimal line ++ codes " reason " ++ decimal reason ++ setup_error_text number ++ codes "\n"
 
--- the script has a first bad line, and this is the refusal that names it
+-- the bytes are no script: they have a first bad line, and this is the refusal that names it
 pub record HasBadLine (bytes whole : List ℕ) : Type 0 where
+  pub none : (script : Script) → IsScript bytes script → ⊥
   pub line : ℕ
   pub reason : ℕ
   pub number : ℕ

@@ -4,7 +4,7 @@ ghost use Rattle.cs_model.specs.declared.entry.Entry.{Entry};
 ghost use Rattle.cs_model.specs.Text.{text};
 ghost use Rattle.script_reader.specs.declared.script.Script.{Script};
 ghost use Rattle.script_reader.specs.Scripts.{IsScript, IsRunnable};
-ghost use Rattle.script_schedule.specs.Logs.{IsLogOf};
+ghost use Rattle.script_runner.specs.Logs.{IsLogOf};
 ghost use Rattle.columnstore.specs.Outcome.{IsAnswered, setup_error_text, bad_line_text};
 
 use crate::status::Status;
@@ -12,7 +12,7 @@ use cs_base::Memory;
 use cs_model::print_log;
 use cs_types::Line;
 use script_reader::{Script, ScriptRefusal, read_script};
-use script_schedule::run_schedule;
+use script_runner::run_schedule;
 use statement_core::Core;
 use statement_work::Clerk;
 use std::alloc::Global;

@@ -1,6 +1,9 @@
 // How the program ends.
 ghost use Rattle.std.specs.Prelude.{◌≡◌};
+ghost use Rattle.std.specs.Process.{exit_status};
 ghost use Rattle.columnstore.specs.Outcome.{code_of};
+
+use std::process::ExitCode;
 
 /// How the program ended.
 #[derive(Clone, Copy, Debug, PartialEq, Eq)]
@@ -19,9 +22,9 @@ pub enum Status {
     Memory,
 }
 
-/// The exit status of the program, 0 to 5 in the order of the variants.
-pub fn exit_code(status: Status) -> u8
-    ensures { result ≡ code_of status }
+/// The exit code whose status, 0 to 5, is the place of the variant.
+pub fn exit_code(status: Status) -> ExitCode
+    ensures { exit_status result ≡ code_of status }
 {
-    status as u8
+    ExitCode::from(status as u8)
 }

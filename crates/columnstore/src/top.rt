@@ -1,16 +1,20 @@
 // The top call.
-ghost use Rattle.std.specs.Prelude.{◌≡◌, ◌≤◌, List, ℕ, map, length, string_bytes, true, Some};
+ghost use Rattle.std.specs.Prelude.{◌≡◌, ◌⊎◌, ◌≤◌, List, ℕ, map, length, string_bytes, true, Some};
+ghost use Rattle.std.specs.Result.{ForOk};
+ghost use Rattle.std.specs.Iterator.{IsFinite};
 ghost use Rattle.cs_base.specs.Counts.{Rose};
 ghost use Rattle.cs_outside.specs.Outside.{Takes, Adds};
+ghost use Rattle.cs_outside.specs.Words.{AreWords};
 ghost use Rattle.script_reader.specs.declared.script.Script.{Script};
 ghost use Rattle.script_reader.specs.Scripts.{IsScript};
-ghost use Rattle.columnstore.specs.Outcome.{are_words, limit, Ends, IsDoneOrStopped};
+ghost use Rattle.columnstore.specs.Outcome.{Words, are_words, limit, Ends, IsDoneOrStopped};
 ghost use Rattle.columnstore.specs.Written.{IsWritten};
 
 use crate::answer::answer;
 use crate::status::Status;
-use cs_outside::{InputRefusal, Sink, Source, read_all, write_whole};
+use cs_outside::{InputRefusal, Sink, Source, read_all, words, write_whole};
 use std::alloc::Global;
+use std::io;
 
 /// The longest script in bytes, 16 MiB.
 const LIMIT: usize = 16_777_216;
@@ -67,6 +71,32 @@ pub fn columnstore<I: Source, O: Sink>(
     };
     match answer(alloc, bytes.as_slice()) {
         Ok((status, text)) => finish(output, text.as_slice(), status),
+        Err(_) => Status::Memory,
+    }
+}
+
+/// Runs the program for its arguments, as the system gave them, over an input and an output: `columnstore` for the words
+/// after the program's name. Arguments of which one is no text are no words. Where there is no memory for the words the
+/// status is `Memory`, and nothing was read or written.
+pub fn program<A: Iterator<Item = String> + Drop, I: Source, O: Sink>(
+    alloc: Global,
+    args: io::Result<A>,
+    input: &mut I,
+    output: &mut O,
+) -> Status
+    requires can { ForOk args (λ a. A.can_next a) }
+    requires ends { ForOk args (λ a. IsFinite (A.remaining a)) }
+    // The words were had and the program ran for them, or there was no memory for them.
+    ensures ran { ((words : Words) × (came : List ℕ) × (added : List ℕ) × AreWords A.next_gives args words
+        × Takes (I.left input.old) (I.left input.new) came
+        × Adds (O.held output.old) (O.held output.new) added
+        × Ends words came (I.left input.new) added result)
+        ⊎ ((result ≡ Status.Memory) × (input.new ≡ input.old) × (output.new ≡ output.old)) }
+    ensures read_fault { result ≡ Status.ReadFault → Rose (I.faults input.old) (I.faults input.new) }
+    ensures write_fault { result ≡ Status.WriteFault → Rose (O.faults output.old) (O.faults output.new) }
+{
+    match words(alloc, args) {
+        Ok(words) => columnstore(alloc, words.as_slice(), input, output),
         Err(_) => Status::Memory,
     }
 }

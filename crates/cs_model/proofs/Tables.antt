@@ -4,29 +4,27 @@ use Rattle.std.specs.Prelude.{Option, None, Some}
 use Rattle.std.specs.declared.cmp.Ordering.{Ordering}
 use Rattle.std.specs.declared.cmp.Ordering.TheVariants.{Less, Equal, Greater}
 use Rattle.std.specs.Ordering.{is_eq, eq_by_cmp, match_ordering, ordering_reverse}
-use Rattle.std.specs.Cmp.{IsTotalOrder, Equal-is}
+use Rattle.std.specs.Cmp.{Equal-is}
 use Rattle.std.specs.BTreeMap.{insert_entry, is_at}
 use Rattle.std.specs.Map.{keys_of, lookup, remove_entry}
 use Rattle.std.specs.List.{AllByRecursion}
 use Rattle.std.specs.List.Sorted.{IsStrictlySortedBy}
-use Rattle.std.proofs.lemmas.Cmp.{int_cmp_total, eq_by_cmp_equiv}
+use Rattle.std.proofs.lemmas.Cmp.{eq_by_cmp_equiv}
 use Rattle.std.proofs.lemmas.Map.{lookup-remove_entry}
 use Rattle.std.proofs.lemmas.Map.Keys.{IsDistinct-from_sorted}
 use Rattle.cs_types.specs.declared.Key.{Key}
 use Rattle.cs_types.specs.declared.Value.{Value}
-use Rattle.cs_model.specs.Keys.{key_cmp, same_key}
+use Rattle.cs_types.specs.Keys.{key_cmp, same_key}
+use Rattle.cs_types.proofs.KeyLemmas.{key_total}
 use Rattle.cs_model.specs.Changes.{Edit, Table, Change, edited_by, edited, laid, until, table, last_change, made}
 
 -- ---- the order of keys
 
 turned : (a b : Key) → key_cmp a b ≡ ordering_reverse (key_cmp b a)
-turned a b = int_cmp_total.antisymm a.0 b.0
-
-through : (a b c : Key) → key_cmp a b ≡ Less → key_cmp b c ≡ Less → key_cmp a c ≡ Less
-through a b c e f = int_cmp_total.trans a.0 b.0 c.0 e f
+turned a b = key_total.antisymm a b
 
 alike : (a b c : Key) → key_cmp a b ≡ Equal → key_cmp a c ≡ key_cmp b c
-alike a b c e = int_cmp_total.congr a.0 b.0 c.0 e
+alike a b c e = key_total.congr a b c e
 
 above_turned : (a b : Key) → key_cmp a b ≡ Greater → key_cmp b a ≡ Less
 above_turned a b e = turned b a ∙ ap ordering_reverse e
@@ -62,9 +60,6 @@ module _ (key k : Key) (v : List Value) where
 
 -- ---- one key taken away
 
-key_total : IsTotalOrder key_cmp
-key_total = record { antisymm = turned; trans = through; congr = alike }
-
 take_is : (key k : Key) (es : Table) → IsStrictlySortedBy key_cmp (keys_of es) → lookup (is_at (key_cmp key)) (remove_entry (is_at (key_cmp k)) es) ≡ cond (same_key k key) None (lookup (is_at (key_cmp key)) es)
 take_is key k es sorted =
     lookup-remove_entry {eq = eq_by_cmp key_cmp} (eq_by_cmp_equiv key_total) (is_at (key_cmp k)) (λ x y at. ap is_eq (alike k x y ((Equal-is (key_cmp k x)).0 at))) key es
@@ -98,7 +93,7 @@ all_take P k (e ∷ es) all = at (all_take P k es all.1) (is_at (key_cmp k) e.0)
 
 all_below : (a b : Key) (ks : List Key) → Below a b → AllByRecursion (Below b) ks → AllByRecursion (Below a) ks
 all_below a b [] below all = tt
-all_below a b (k ∷ ks) below all = (through a b k below all.0, all_below a b ks below all.1)
+all_below a b (k ∷ ks) below all = (key_total.trans a b k below all.0, all_below a b ks below all.1)
 
 sorted_put : (k : Key) (v : List Value) (es : Table) → IsStrictlySortedBy key_cmp (keys_of es) → IsStrictlySortedBy key_cmp (keys_of (insert_entry key_cmp es k v))
 unfolding IsStrictlySortedBy

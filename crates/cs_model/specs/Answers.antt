@@ -11,13 +11,13 @@ use Rattle.cs_types.specs.declared.Key.{Key}
 use Rattle.cs_types.specs.declared.refusal.ValueRefusal.{ValueRefusal}
 use Rattle.cs_types.specs.Fit.{fit, refusal_number}
 use Rattle.cs_types.specs.Rows.{cell_at, key_in}
-use Rattle.cs_plans.specs.declared.expr.Expr.{Expr}
-use Rattle.cs_plans.specs.declared.pred.Pred.{Pred}
-use Rattle.cs_plans.specs.declared.plan.InsertPlan.{InsertPlan}
-use Rattle.cs_plans.specs.declared.plan.UpdatePlan.{UpdatePlan}
-use Rattle.cs_predicate.specs.Expressions.{Computed, compute, refusal_number as expr_number}
-use Rattle.tsql_names.specs.Names.{series_schema}
-use Rattle.batch_aggregate.specs.Answers.{keeps}
+use Rattle.cs_model.specs.declared.expr.Expr.{Expr}
+use Rattle.cs_model.specs.declared.pred.Pred.{Pred}
+use Rattle.cs_model.specs.declared.plan.InsertPlan.{InsertPlan}
+use Rattle.cs_model.specs.declared.plan.UpdatePlan.{UpdatePlan}
+use Rattle.cs_model.specs.Expressions.{Computed, compute, refusal_number as expr_number}
+use Rattle.cs_model.specs.Series.{series_schema}
+use Rattle.cs_model.specs.Queries.{keeps}
 use Rattle.cs_model.specs.declared.entry.Bound.{Bound}
 use Rattle.cs_model.specs.declared.entry.Bound.TheVariants.{Begin, Commit, Rollback, Nothing, Insert, Update, Delete, Select, Refused}
 use Rattle.cs_model.specs.declared.entry.Refusal.{Refusal}

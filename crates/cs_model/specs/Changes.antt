@@ -4,7 +4,7 @@ use Rattle.std.specs.BTreeMap.{insert_entry, is_at}
 use Rattle.std.specs.Map.{remove_entry}
 use Rattle.cs_types.specs.declared.Value.{Value}
 use Rattle.cs_types.specs.declared.Key.{Key}
-use Rattle.cs_model.specs.Keys.{key_cmp, same_key}
+use Rattle.cs_types.specs.Keys.{key_cmp, same_key}
 
 -- a key, and what becomes of it: a row, or nothing
 abbrev pub Edit : Type 0

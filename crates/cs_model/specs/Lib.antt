@@ -1,4 +1,12 @@
-pub mod Keys
+pub mod Series
+pub mod Cells
+pub mod Expressions
+pub mod Likes
+pub mod Truths
+pub mod Groups
+pub mod Order
+pub mod Items
+pub mod Queries
 pub mod Changes
 pub mod State
 pub mod Answers

@@ -9,7 +9,7 @@ use Rattle.cs_model.specs.declared.entry.Bound.{Bound}
 use Rattle.cs_model.specs.declared.entry.Bound.TheVariants.{Begin, Commit, Rollback, Nothing, Insert, Update, Delete, Select, Refused}
 use Rattle.cs_model.specs.declared.entry.Refusal.{Refusal}
 use Rattle.cs_model.specs.declared.entry.Refusal.TheVariants.{Reading, Valued, Locked, Changed, Duplicate, NoTxn, Memory}
-use Rattle.cs_model.specs.Keys.{key_cmp, same_key}
+use Rattle.cs_types.specs.Keys.{key_cmp, same_key}
 use Rattle.cs_model.specs.Changes.{Edit, Table, Change, newest}
 use Rattle.cs_model.specs.State.{Txn, State}
 

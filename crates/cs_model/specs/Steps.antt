@@ -4,7 +4,7 @@ use Rattle.std.specs.BTreeMap.{insert_entry}
 use Rattle.std.specs.Map.{values_of}
 use Rattle.cs_types.specs.declared.Loose.{Loose}
 use Rattle.cs_types.specs.declared.Schema.{Schema}
-use Rattle.cs_plans.specs.declared.plan.Query.{Query}
+use Rattle.cs_model.specs.declared.plan.Query.{Query}
 use Rattle.cs_model.specs.declared.entry.Bound.{Bound}
 use Rattle.cs_model.specs.declared.entry.Bound.TheVariants as bound
 use Rattle.cs_model.specs.declared.entry.Refusal.{Refusal}
@@ -13,10 +13,10 @@ use Rattle.cs_model.specs.declared.entry.Reply.{Reply}
 use Rattle.cs_model.specs.declared.entry.Reply.TheVariants as reply
 use Rattle.cs_model.specs.declared.entry.Entry.{Entry}
 use Rattle.cs_model.specs.declared.entry.Entry.TheVariants.{Start, Finish, End}
-use Rattle.cs_model.specs.Keys.{key_cmp}
+use Rattle.cs_types.specs.Keys.{key_cmp}
 use Rattle.cs_model.specs.Changes.{Edit, Table, Change}
 use Rattle.cs_model.specs.State.{Txn, Half, State, start, with, txn_set, half_set, seen}
-use Rattle.batch_aggregate.specs.Answers.{answer}
+use Rattle.cs_model.specs.Queries.{answer}
 use Rattle.cs_model.specs.Answers.{is_of_table, writes}
 use Rattle.cs_model.specs.Obstacles.{keys_of, is_present, IsObstacle, IsJudged}
 

@@ -1,13 +1,15 @@
 // Statements, replies and events.
-use cs_base::Items;
-use cs_plans::{InsertPlan, Pred, Query, UpdatePlan};
+use crate::plan::{InsertPlan, Query, UpdatePlan};
+use crate::pred::Pred;
+use cs_base::{Boxed, Items};
 use cs_types::{Key, Loose};
 use std::sync::Arc;
 
 /// A row of an answer: a value for each item of the query.
 pub type AnswerRow = Items<Loose>;
 
-/// A statement as it is bound to the table, or why it is refused.
+/// A statement as it is bound to the table, or why it is refused. What it is bound to stands on the heap, so that a
+/// statement without it is small.
 #[derive(Debug, Drop)]
 pub enum Bound {
     /// BEGIN TRANSACTION: opens a transaction, or makes the open one a level deeper.
@@ -20,14 +22,14 @@ pub enum Bound {
     /// lock, since no statement waits.
     Nothing,
     /// INSERT of the rows of VALUES, or of a row over each number of a series.
-    Insert(InsertPlan),
+    Insert(Boxed<InsertPlan>),
     /// UPDATE of the rows for which its filter is true.
-    Update(UpdatePlan),
+    Update(Boxed<UpdatePlan>),
     /// DELETE of the rows for which the condition is true, or of all rows.
-    Delete(Option<Pred>),
+    Delete(Boxed<Option<Pred>>),
     /// SELECT from the table.
-    Select(Query),
-    /// Reading or binding refused the text, or there was no memory for it.
+    Select(Boxed<Query>),
+    /// Reading or binding refused the text, or there was no memory for it: no other refusal stands here.
     Refused(Refusal),
 }
 

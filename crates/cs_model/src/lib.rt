@@ -1,17 +1,35 @@
-//! The model of the columnstore: bound statements, replies and events; what each event does to the committed changes and
-//! the open transactions; and the text of a log.
+//! The model of the columnstore: bound statements, replies and events; the truth of predicates, the values of expressions
+//! and the answers of queries over plain rows; what each event does to the committed changes and the open transactions; and
+//! the text of a log.
 //!
 //! Its one contract: `print_log` gives exactly the text of a log. What a legal log is stands in specs/, and the laws of
-//! those definitions are proved here. It stands on `cs_types`, `cs_plans`, `cs_predicate`, `batch_aggregate` and
-//! `tsql_names`.
+//! those definitions are proved here. It stands on `cs_types` alone: the crates that compute what is defined here stand
+//! above it.
 #![tactic(auto)]
 
+mod answer_refusal;
 mod entry;
+mod expr;
+mod expr_refusal;
 mod laws;
 mod log;
+mod plan;
+mod pred;
 mod print;
+mod series;
+mod truth;
 
+pub use answer_refusal::AnswerRefusal;
 pub use entry::{AnswerRow, Bound, Entry, Refusal, Reply};
-pub use laws::table_by_last_change;
+pub use expr::{Expr, Times};
+pub use expr_refusal::ExprRefusal;
+pub use laws::{like_is_tested, quotient_is_cut, table_by_last_change};
 pub use log::print_log;
+pub use plan::{InsertPlan, Item, Query, UpdatePlan};
+pub use pred::{Operand, Pred, Relation};
 pub use print::print_entry;
+pub use series::series_schema;
+pub use truth::Truth;
+
+#[cfg(test)]
+mod tests;

@@ -1,10 +1,12 @@
-//! The outside of the program: a source of bytes and a sink for them, each with a count of its faults, and the two calls
-//! that read all of a source and write all of a text.
+//! The outside of the program: its words, a source of bytes and a sink for them, each with a count of its faults, and the
+//! two calls that read all of a source and write all of a text.
 //!
 //! Its one contract: bytes move from the front of what a source has left and to the end of what a sink holds, and a call
 //! fails only where the count of faults rose. It stands on `cs_base`.
 #![tactic(auto)]
 
+mod arguments;
+mod counted;
 mod memory;
 mod sink;
 mod source;
@@ -12,6 +14,7 @@ mod standard;
 #[cfg(test)]
 mod tests;
 
+pub use arguments::words;
 pub use memory::{MemorySink, MemorySource};
 pub use sink::{Sink, WriteRefusal, write_whole};
 pub use source::{InputRefusal, Source, read_all};

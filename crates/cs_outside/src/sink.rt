@@ -8,6 +8,9 @@ ghost use Rattle.cs_outside.specs.Outside.{HasCause, Adds, AddsFront};
 use super::Failed;
 use thiserror::Error;
 
+/// How many bytes one call of `write` is handed at most.
+const PIECE: usize = 65_536;
+
 /// Bytes that are added at the end.
 pub trait Sink {
     /// The bytes that are held, where the sink tells them. No call changes whether it does.
@@ -38,8 +41,15 @@ pub enum WriteRefusal {
     Fault,
 }
 
-/// Writes all of the bytes. It takes no memory of its own, and calls `write` at most once for each byte. Error: `Fault`
-/// only where the count of faults rose; a front of the bytes was added then.
+/// The front of these bytes that one call of `write` is handed.
+fn first_piece(bytes: &[u8]) -> &[u8]
+    ensures { result.now ≡ take PIECE bytes.now }
+{
+    &bytes[..PIECE.min(bytes.len())]
+}
+
+/// Writes all of the bytes, in pieces of at most 65,536. It takes no memory of its own, and calls `write` at most once for
+/// each byte. Error: `Fault` only where the count of faults rose; a front of the bytes was added then.
 pub fn write_whole<O: Sink>(sink: &mut O, bytes: &[u8]) -> Result<(), WriteRefusal>
     ensures ok { OnOk result (Adds (O.held sink.old) (O.held sink.new) bytes.now) }
     ensures err { OnErr result (AddsFront (O.held sink.old) (O.held sink.new) bytes.now) }
@@ -48,7 +58,7 @@ pub fn write_whole<O: Sink>(sink: &mut O, bytes: &[u8]) -> Result<(), WriteRefus
 {
     let mut done = 0;
     while done < bytes.len() {
-        match sink.write(&bytes[done..]) {
+        match sink.write(first_piece(&bytes[done..])) {
             Ok(n) => done += n,
             Err(_) => return Err(WriteRefusal::Fault),
         }

@@ -5,15 +5,15 @@ ghost use Rattle.cs_base.specs.Counts.{count_up};
 ghost use Rattle.cs_outside.specs.Outside.{HasCause, Takes, Adds, IsAtEnd, untold};
 ghost use Rattle.cs_outside.specs.Memory.{counted};
 
+use super::counted::{Counts, read_counted, write_counted};
 use super::{Failed, Sink, Source};
-use std::io::{Read, Stdin, Stdout, Write};
+use std::io::{Stdin, Stdout};
 
 /// The program's standard input.
 #[derive(Drop)]
 pub struct StdSource {
     stream: Stdin,
-    faults: u64,
-    calls: u64,
+    counts: Counts,
 }
 
 impl StdSource {
@@ -26,8 +26,7 @@ impl StdSource {
     {
         StdSource {
             stream,
-            faults: 0,
-            calls: 0,
+            counts: Counts::new(),
         }
     }
 }
@@ -35,27 +34,20 @@ impl StdSource {
 impl Source for StdSource {
     ghost left = { λ _. untold };
 
-    ghost faults = { λ s. s.faults };
+    ghost faults = { λ s. s.counts.faults };
 
-    ghost calls = { λ s. s.calls };
+    ghost calls = { λ s. s.counts.calls };
 
     fn read(&mut self, buf: &mut [u8]) -> Result<usize, Failed>
         ensures bound { ReadsAtMost result buf.new }
         ensures ok { IfOk result (λ n. Takes untold untold (take n buf.new)) }
         ensures end { IfOk result (λ n. n ≡ 0 → 0 < length buf.old → IsAtEnd untold) }
         ensures err { OnErr result (untold ≡ untold) }
-        ensures cause { HasCause self.old.faults self.new.faults result }
-        ensures called { self.new.calls ≡ count_up self.old.calls }
-        ensures faults { self.new.faults ≡ counted (is_err result) self.old.faults }
+        ensures cause { HasCause self.old.counts.faults self.new.counts.faults result }
+        ensures called { self.new.counts.calls ≡ count_up self.old.counts.calls }
+        ensures faults { self.new.counts.faults ≡ counted (is_err result) self.old.counts.faults }
     {
-        self.calls = self.calls.saturating_add(1);
-        match self.stream.read(buf) {
-            Ok(count) => Ok(count),
-            Err(_) => {
-                self.faults = self.faults.saturating_add(1);
-                Err(Failed)
-            }
-        }
+        read_counted(&mut self.stream, buf, &mut self.counts)
     }
 }
 
@@ -63,8 +55,7 @@ impl Source for StdSource {
 #[derive(Drop)]
 pub struct StdSink {
     stream: Stdout,
-    faults: u64,
-    calls: u64,
+    counts: Counts,
 }
 
 impl StdSink {
@@ -77,8 +68,7 @@ impl StdSink {
     {
         StdSink {
             stream,
-            faults: 0,
-            calls: 0,
+            counts: Counts::new(),
         }
     }
 }
@@ -86,27 +76,19 @@ impl StdSink {
 impl Sink for StdSink {
     ghost held = { λ _. untold };
 
-    ghost faults = { λ s. s.faults };
+    ghost faults = { λ s. s.counts.faults };
 
-    ghost calls = { λ s. s.calls };
+    ghost calls = { λ s. s.counts.calls };
 
     fn write(&mut self, piece: &[u8]) -> Result<usize, Failed>
         ensures bound { WritesAtMost result piece.now }
         ensures progress { IfOk result (λ n. 0 < length piece.now → 0 < n) }
         ensures ok { IfOk result (λ n. Adds untold untold (take n piece.now)) }
         ensures err { OnErr result (untold ≡ untold) }
-        ensures cause { HasCause self.old.faults self.new.faults result }
-        ensures called { self.new.calls ≡ count_up self.old.calls }
-        ensures faults { self.new.faults ≡ counted (is_err result) self.old.faults }
+        ensures cause { HasCause self.old.counts.faults self.new.counts.faults result }
+        ensures called { self.new.counts.calls ≡ count_up self.old.counts.calls }
+        ensures faults { self.new.counts.faults ≡ counted (is_err result) self.old.counts.faults }
     {
-        self.calls = self.calls.saturating_add(1);
-        match self.stream.write(piece) {
-            // A write of nothing on a piece that has a byte would never end, so it is a fault.
-            Ok(count) if count > 0 || piece.is_empty() => Ok(count),
-            _ => {
-                self.faults = self.faults.saturating_add(1);
-                Err(Failed)
-            }
-        }
+        write_counted(&mut self.stream, piece, &mut self.counts)
     }
 }

@@ -2,7 +2,7 @@
 use Rattle.std.specs.Prelude.{◌≡◌, ℕ, suc, Bool, true, false, length, ⊤}
 use Rattle.cs_predicate.specs.declared.pattern.Verdict.{Verdict}
 use Rattle.cs_predicate.specs.declared.pattern.Verdict.TheVariants.{Like, Unlike, Open}
-use Rattle.cs_predicate.specs.Likes.{has_end, is_like}
+use Rattle.cs_model.specs.Likes.{has_end, is_like}
 
 -- what a comparison up to the next `%` says: for `Open` that an end of the text that is left is like the pattern behind
 abbrev pub says : Verdict → Bool

@@ -1,13 +1,12 @@
 //! Arithmetic on whole numbers.
 
 ghost use Rattle.std.specs.Prelude.{◌≡◌, Err, MatchOption};
-ghost use Rattle.cs_predicate.specs.Expressions as spec;
-ghost use Rattle.cs_predicate.specs.Expressions.{on_one, on_two};
-ghost use Rattle.cs_predicate.specs.declared.refusal.ExprRefusal.TheVariants as refusal;
+ghost use Rattle.cs_model.specs.Expressions as spec;
+ghost use Rattle.cs_model.specs.Expressions.{on_one, on_two};
+ghost use Rattle.cs_model.specs.declared.expr_refusal.ExprRefusal.TheVariants as refusal;
 
-use crate::refusal::ExprRefusal;
+use cs_model::{ExprRefusal, Times};
 use cs_types::Loose;
-use tsql_trees::Times;
 
 /// The least number of bigint.
 const LEAST: i128 = -9_223_372_036_854_775_808;

@@ -1,16 +1,14 @@
 //! Expressions.
 
 ghost use Rattle.std.specs.Prelude.{◌≡◌, IfOk, map};
-ghost use Rattle.cs_predicate.specs.Cells as cells;
-ghost use Rattle.cs_predicate.specs.Expressions as spec;
-ghost use Rattle.cs_predicate.specs.Expressions.{chain, Gives};
+ghost use Rattle.cs_model.specs.Cells as cells;
+ghost use Rattle.cs_model.specs.Expressions as spec;
+ghost use Rattle.cs_model.specs.Expressions.{chain, Gives};
 
 use crate::arithmetic::{product_of, signed, sum_of};
-use crate::refusal::ExprRefusal;
 use cs_base::Memory;
-use cs_plans::Expr;
+use cs_model::{Expr, ExprRefusal, Times};
 use cs_types::{Loose, Row, Schema, loose_of};
-use tsql_trees::Times;
 
 /// What a row's cell in a column stands for; NULL past the columns.
 fn loose_at(schema: &Schema, row: &Row, column: usize) -> Result<Loose, Memory>

@@ -1,8 +1,8 @@
 //! Texts and patterns.
 
 ghost use Rattle.std.specs.Prelude.{◌≡◌, ◌≤◌, length};
-ghost use Rattle.cs_predicate.specs.Likes as spec;
-ghost use Rattle.cs_predicate.specs.Likes.{has_end};
+ghost use Rattle.cs_model.specs.Likes as spec;
+ghost use Rattle.cs_model.specs.Likes.{has_end};
 ghost use Rattle.cs_predicate.specs.Verdicts.{says, SaysOfEnds, to_compare};
 
 /// What is known of a text and a pattern once they are compared up to the pattern's next `%`.

@@ -1,13 +1,12 @@
 //! Predicates.
 
 ghost use Rattle.std.specs.Prelude.{◌≡◌, map};
-ghost use Rattle.cs_predicate.specs.Truths as spec;
+ghost use Rattle.cs_model.specs.Truths as spec;
 ghost use Rattle.cs_predicate.specs.Sides.{lent};
 
-use crate::logic::Truth;
 use crate::pattern::is_like;
 use crate::side::Side;
-use cs_plans::{Pred, Relation};
+use cs_model::{Pred, Relation, Truth};
 use cs_types::{Loose, Row, Schema};
 use std::cmp::Ordering;
 

@@ -5,12 +5,12 @@ ghost use Rattle.std.specs.Int.{w128};
 ghost use Rattle.std.specs.Option.{SomeIff};
 ghost use Rattle.std.specs.Ordering.{int_cmp};
 ghost use Rattle.cs_types.specs.Text.{loose_of};
-ghost use Rattle.cs_predicate.specs.Cells as cells;
-ghost use Rattle.cs_predicate.specs.Truths as spec;
+ghost use Rattle.cs_model.specs.Cells as cells;
+ghost use Rattle.cs_model.specs.Truths as spec;
 ghost use Rattle.cs_predicate.specs.Sides.{lent};
-ghost use Rattle.cs_predicate.specs.Truths.{number_cmp, order_of};
+ghost use Rattle.cs_model.specs.Truths.{number_cmp, order_of};
 
-use cs_plans::Operand;
+use cs_model::Operand;
 use cs_types::{ColumnType, Loose, Row, Schema, Value};
 use std::cmp::Ordering;
 

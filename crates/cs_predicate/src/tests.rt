@@ -1,10 +1,9 @@
 use crate::{ExprRefusal, Truth, compute, is_like, truth};
 use cs_base::{Boxed, Items, Memory};
-use cs_plans::{Expr, Operand, Pred, Relation};
+use cs_model::{Expr, Operand, Pred, Relation, Times};
 use cs_types::{Column, ColumnType, Loose, Row, Schema, Value};
 use std::alloc::Global;
 use std::test::Fail;
-use tsql_trees::Times;
 
 /// The whole number, or NULL for None.
 fn whole(number: Option<i128>) -> Loose {

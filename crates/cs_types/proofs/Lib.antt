@@ -2,5 +2,6 @@ pub mod CalendarLemmas
 pub mod DateLemmas
 pub mod DayLemmas
 pub mod FitLemmas
+pub mod KeyLemmas
 pub mod Rounding
 pub mod RowLemmas

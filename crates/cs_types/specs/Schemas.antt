@@ -1,5 +1,6 @@
 -- Schemas, and the rows that fit them.
-use Rattle.std.specs.Prelude.{◌≡◌, ℕ, ◌+◌, ◌<◌, ◌≤◌, nat_le, Bool, true, false, ◌&&◌, IsTrue, List, length, map, slice_get, Some, if◌then◌else◌}
+use Rattle.std.specs.Prelude.{◌≡◌, ℕ, ◌<◌, ◌≤◌, Bool, true, false, IsTrue, List, length, slice_get, Some}
+use Rattle.cs_base.specs.Names.{same_name}
 use Rattle.cs_types.specs.declared.ColumnType.{ColumnType}
 use Rattle.cs_types.specs.declared.ColumnType.TheVariants.{TinyInt, SmallInt, Int, BigInt, Decimal, Date, VarChar}
 use Rattle.cs_types.specs.declared.Column.{Column}
@@ -8,14 +9,6 @@ use Rattle.cs_types.specs.declared.Value.{Value}
 use Rattle.cs_types.specs.declared.Value.TheVariants.{Null, Number, Text}
 use Rattle.cs_types.specs.Kinds.{IsColumnType, keeps_number, keeps_text}
 use Rattle.cs_types.specs.Rows.{cell_at}
-
--- a byte with a capital letter made small
-abbrev pub small_letter : ℕ → ℕ
-small_letter c = if nat_le 65 c && nat_le c 90 then c + 32 else c
-
--- two names are the same but for the case of their letters
-abbrev pub SameName : List ℕ → List ℕ → Type 0
-SameName a b = map small_letter a ≡ map small_letter b
 
 -- the types of keys: the integers and dates
 abbrev pub is_key_kind : ColumnType → Bool
@@ -32,7 +25,7 @@ pub record IsSchema (schema : Schema) : Type 0 where
   pub some : 1 ≤ length schema.columns
   pub few : length schema.columns ≤ 32
   pub kinds : (i : ℕ) (column : Column) → slice_get schema.columns i ≡ Some column → IsColumnType column.kind
-  pub names : (i j : ℕ) (a b : Column) → i < j → slice_get schema.columns i ≡ Some a → slice_get schema.columns j ≡ Some b → SameName a.name b.name → ⊥
+  pub names : (i j : ℕ) (a b : Column) → i < j → slice_get schema.columns i ≡ Some a → slice_get schema.columns j ≡ Some b → same_name a.name b.name ≡ false
   pub key_there : schema.key < length schema.columns
   pub key_kind : (column : Column) → slice_get schema.columns schema.key ≡ Some column → IsTrue (is_key_kind column.kind)
   pub key_never_null : (column : Column) → slice_get schema.columns schema.key ≡ Some column → column.nullable ≡ false

@@ -20,7 +20,8 @@ use Rattle.column_segment.specs.Bodies.{cell_in}
 use Rattle.column_segment.specs.Segments.{IsSegmentOf}
 use Rattle.row_group.specs.Orders.{IsOrderOf}
 use Rattle.row_group.specs.Rows.{PackedRow}
-use Rattle.row_group.specs.Groups.{key_cmp, keys_of, key_of_cell}
+use Rattle.cs_types.specs.Keys.{key_cmp}
+use Rattle.row_group.specs.Groups.{keys_of, key_of_cell}
 use Rattle.row_group.specs.Fields.{cells_in, shown_row, shown_rows, AreFields}
 use Rattle.row_group.specs.Arranged.{IsColumnSegment, AreSegmentsOf, AreStamps, ArePicked, AreKeyCodes, AreNumbers, source_row}
 use Rattle.row_group.proofs.ArrangeLemmas.{slice_get-push}

@@ -10,14 +10,10 @@ use Rattle.cs_types.specs.declared.Key.{Key}
 use Rattle.cs_types.specs.Rows.{key_in}
 use Rattle.row_group.specs.Orders.{IsOrderOf}
 use Rattle.row_group.specs.Rows.{PackedRow}
-use Rattle.row_group.specs.Groups.{Group, row_at, key_cmp, keys_of, key_at_place, precedes, ArePlacesOf, IsFirstPlace, HasEachPosition}
+use Rattle.cs_types.specs.Keys.{key_cmp}
+use Rattle.cs_types.proofs.KeyLemmas.{key_total, exact_key}
+use Rattle.row_group.specs.Groups.{Group, row_at, keys_of, key_at_place, precedes, ArePlacesOf, IsFirstPlace, HasEachPosition}
 use Rattle.row_group.proofs.RankLemmas.{length-order, within-order, in-order, not_greater-order}
-
-pub key_total : IsTotalOrder key_cmp
-key_total = on_total (λ (k : Key). k.0) int_cmp_total
-
-same_key : (a b : Key) → key_cmp a b ≡ Equal → a ≡ b
-same_key a b e = let n = int_ranked a.0 b.0 Equal (sym e) in λ i. record { 0 = n i }
 
 -- what precedes still does, before what comes no later
 precedes-before : (tied : Bool) (a b key : Key) → key_cmp b a ≢ Greater → precedes tied (key_cmp a key) ≡ true → precedes tied (key_cmp b key) ≡ true
@@ -90,7 +86,7 @@ places_found group key from to each first last = record {
     | inr more ↦ more
   ];
   within = last.within;
-  of_key = λ i l m. same_key (key_at_place group i) key (tie (key_cmp (key_at_place group i) key) (first.after i l (omega (arith, last.within))) (last.before i m));
+  of_key = λ i l m. exact_key (key_at_place group i) key (tie (key_cmp (key_at_place group i) key) (first.after i l (omega (arith, last.within))) (last.before i m));
   every = λ position l e.
       let (i, m, is) = each position l in
       let same : key_at_place group i ≡ key = ap (λ p. key_in group.key (row_at group p).cells) is ∙ e in

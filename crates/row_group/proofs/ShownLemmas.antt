@@ -14,7 +14,8 @@ use Rattle.column_segment.specs.declared.segment.Segment.{Segment}
 use Rattle.column_segment.specs.Bodies.{cell_in}
 use Rattle.row_group.specs.Rows.{PackedRow, column_of}
 use Rattle.row_group.specs.Orders.{IsOrderOf}
-use Rattle.row_group.specs.Groups.{Group, begin_beside, begun_at, key_cmp, keys_of, key_of_cell, row_at}
+use Rattle.cs_types.specs.Keys.{key_cmp}
+use Rattle.row_group.specs.Groups.{Group, begin_beside, begun_at, keys_of, key_of_cell, row_at}
 use Rattle.row_group.specs.Fields.{cells_in, shown_row, shown_rows, stamp_in, stamp_of, begin_in, AreFields}
 
 -- a cell is the one at its place, or NULL past the end

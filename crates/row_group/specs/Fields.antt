@@ -7,7 +7,8 @@ use Rattle.column_segment.specs.Bodies.{cell_in}
 use Rattle.column_segment.specs.Segments.{IsSegmentOf}
 use Rattle.row_group.specs.Rows.{PackedRow}
 use Rattle.row_group.specs.Orders.{IsOrderOf}
-use Rattle.row_group.specs.Groups.{key_cmp, keys_of}
+use Rattle.cs_types.specs.Keys.{key_cmp}
+use Rattle.row_group.specs.Groups.{keys_of}
 
 -- the begin that stands at a position, if one does
 abbrev pub stamp_in : List (ℕ × ℕ) → ℕ → Option ℕ

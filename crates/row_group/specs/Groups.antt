@@ -1,12 +1,12 @@
 -- What contracts see of a packed group.
 use Rattle.std.specs.Prelude.{◌≡◌, ◌<◌, ◌≤◌, ℕ, ◌==◌, List, [], length, map, slice_index, slice_index_or, Option, None, Some, Bool, true, false, if◌then◌else◌, IsPermutation}
-use Rattle.std.specs.Ordering.{int_cmp}
 use Rattle.std.specs.declared.cmp.Ordering.{Ordering}
 use Rattle.std.specs.declared.cmp.Ordering.TheVariants.{Less, Equal, Greater}
 use Rattle.cs_types.specs.declared.Key.{Key}
 use Rattle.cs_types.specs.declared.Schema.{Schema}
 use Rattle.cs_types.specs.declared.row.Version.{Version}
 use Rattle.cs_types.specs.declared.Value.{Value}
+use Rattle.cs_types.specs.Keys.{key_cmp}
 use Rattle.cs_types.specs.Rows.{key_in, number_in}
 use Rattle.row_group.specs.Orders.{IsOrderOf}
 use Rattle.row_group.specs.Rows.{PackedRow, repacked, row_of, AreInOrder}
@@ -35,10 +35,6 @@ begun_at begin row = record row { begin = begin }
 -- the key that a cell is
 abbrev pub key_of_cell : Value → Key
 key_of_cell cell = record { 0 = number_in cell }
-
--- keys by their numbers
-abbrev pub key_cmp : Key → Key → Ordering
-key_cmp a b = int_cmp a.0 b.0
 
 -- the keys of rows
 abbrev pub keys_of : ℕ → List PackedRow → List Key

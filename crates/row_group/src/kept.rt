@@ -10,7 +10,7 @@ use std::mem;
 
 /// Versions taken apart: the cells of each column, and the begins, all in the versions' order.
 #[derive(Drop)]
-pub struct Kept {
+pub struct KeptColumns {
     /// A list of cells for each column.
     pub columns: Vec<Items<Value>>,
     /// The begin of each version.
@@ -24,11 +24,11 @@ pub fn kept_of(
     width: usize,
     versions: Items<Version>,
     floor: u64,
-) -> Result<Kept, Memory>
+) -> Result<KeptColumns, Memory>
     ensures { IfOk result (λ kept. IsKept width (repacked versions floor) kept.columns.items kept.begins.items) }
 {
     let count = versions.len();
-    let mut kept = Kept {
+    let mut kept = KeptColumns {
         columns: empty_columns(alloc, width, count)?,
         begins: Vec::with_capacity(alloc, count)?,
     };
@@ -42,7 +42,7 @@ pub fn kept_of(
     Ok(kept)
 }
 
-impl Kept {
+impl KeptColumns {
     /// Adds a version.
     fn add(&mut self, begin: u64, row: Row) -> Result<(), Memory>
         ensures columns { OnOk result (HaveCellsMore self.old.columns.items row self.new.columns.items) }

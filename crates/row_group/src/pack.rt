@@ -9,7 +9,7 @@ ghost use Rattle.row_group.specs.Kept.{IsKept};
 ghost use Rattle.row_group.specs.Arranged.{IsRowOrder, AreSegmentsOf, AreStamps, KeepColumns, AreKeyCodes, AreNumbers, IsArranged};
 
 use crate::arrange::{arranged, row_order};
-use crate::kept::{Kept, kept_of};
+use crate::kept::{KeptColumns, kept_of};
 use crate::order::number_order;
 use crate::packed::Packed;
 use column_segment::{Segment, encode};
@@ -45,7 +45,7 @@ pub fn pack_rows(
 fn packed_by(
     alloc: Global,
     schema: &Schema,
-    kept: Kept,
+    kept: KeptColumns,
     order: &[usize],
     key_codes: &[u64],
     floor: u64,
@@ -60,7 +60,7 @@ fn packed_by(
     requires apart { AllPairs (λ a b. a ≢ b) order.now }
     ensures { IfOk result (λ group. IsArranged kept.columns.items kept.begins.items order.now schema.now.key floor group) }
 {
-    let Kept { columns, begins } = kept;
+    let KeptColumns { columns, begins } = kept;
     let places = number_order(alloc, key_codes)?;
     let late = late_of(alloc, &begins, order, floor)?;
     let segments = segments_of(alloc, schema, columns, order)?;

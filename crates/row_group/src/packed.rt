@@ -47,7 +47,8 @@ impl Packed {
     ghost use Rattle.std.specs.Prelude.{◌≡◌, ◌<◌, ◌↔◌, length, IsTrue, IfOk, All, [], map, slice_index};
     ghost use Rattle.column_segment.specs.Segments.{IsSegmentOf};
     ghost use Rattle.row_group.specs.Rows.{column_of};
-    ghost use Rattle.row_group.specs.Groups.{row_at, begin_beside, begun_at, key_cmp, precedes, key_at_place, ArePlacesOf, IsFirstPlace, HasEachPosition};
+    ghost use Rattle.cs_types.specs.Keys.{key_cmp};
+    ghost use Rattle.row_group.specs.Groups.{row_at, begin_beside, begun_at, precedes, key_at_place, ArePlacesOf, IsFirstPlace, HasEachPosition};
     ghost use Rattle.cs_types.specs.Rows.{key_in};
 
     /// The number of rows.

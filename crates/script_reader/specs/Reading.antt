@@ -2,7 +2,7 @@
 use Rattle.std.specs.Prelude.{◌≡◌, ℕ, ◌≤◌, ◌<◌, List, [], ◌∷◌, length, Bool, false, slice_index_or, Option, None, Some}
 use Rattle.cs_types.specs.declared.Schema.{Schema}
 use Rattle.cs_types.specs.Schemas.{IsSchema}
-use Rattle.tsql_table.specs.Tables.{IsTable, IsNoTable}
+use Rattle.tsql_create.specs.Tables.{IsTable, IsNoTable}
 use Rattle.script_reader.specs.declared.form.Form.{Form}
 use Rattle.script_reader.specs.declared.form.Form.TheVariants.{Skipped, Setup, Ask, Other}
 use Rattle.script_reader.specs.declared.read.Reading.{Reading}

@@ -4,7 +4,7 @@ use Rattle.std.specs.List.{list_any, filter_map, last_or}
 use Rattle.std.specs.Option.{option_or}
 use Rattle.cs_types.specs.declared.Schema.{Schema}
 use Rattle.cs_types.specs.Schemas.{IsSchema}
-use Rattle.tsql_table.specs.Tables.{IsTable, IsNoTable}
+use Rattle.tsql_create.specs.Tables.{IsTable, IsNoTable}
 use Rattle.script_reader.specs.Lines.{lines, line_reason, form_of}
 use Rattle.script_reader.specs.declared.form.Form.{Form}
 use Rattle.script_reader.specs.declared.form.Form.TheVariants.{Skipped, Setup, Ask, Other}

@@ -2,7 +2,7 @@
 //! statement of a session, its start alone, or the finish of a started one.
 //!
 //! Its one contract: `read_script` gives the script that the grammar has for the bytes, and else the first bad line and
-//! its reason. Which events a script asks for stands in specs/. It stands on `tsql_table` for the setup statement and on
+//! its reason. Which events a script asks for stands in specs/. It stands on `tsql_create` for the setup statement and on
 //! `tsql_binder` for what a statement's text means.
 #![tactic(auto)]
 

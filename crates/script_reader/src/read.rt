@@ -15,8 +15,8 @@ use crate::script::{Script, ScriptRefusal, Step};
 use cs_base::{Items, Memory};
 use cs_types::Schema;
 use std::alloc::Global;
-use tsql_reader::ReadRefusal;
-use tsql_table::read_table;
+use tsql_create::read_table;
+use tsql_exprs::ReadRefusal;
 
 /// The greatest number of a session.
 const MOST_SESSION: u32 = 64;

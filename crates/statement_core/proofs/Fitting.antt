@@ -14,7 +14,7 @@ use Rattle.cs_model.specs.declared.entry.Refusal.{Refusal}
 use Rattle.cs_model.specs.declared.entry.Refusal.TheVariants as refusal
 use Rattle.cs_model.specs.declared.entry.Reply.{Reply}
 use Rattle.cs_model.specs.declared.entry.Reply.TheVariants as reply
-use Rattle.cs_model.specs.Keys.{key_cmp}
+use Rattle.cs_types.specs.Keys.{key_cmp}
 use Rattle.cs_model.specs.Changes.{Edit, Table, Change, table}
 use Rattle.cs_model.specs.Held.{IsFit, IsFitEntry, IsFitTable, AreFit}
 use Rattle.cs_model.specs.State.{State, Txn, Half, with, txn_set, half_set, seen, seen_at}
@@ -23,7 +23,7 @@ use Rattle.cs_model.specs.Obstacles.{keys_of, is_present, IsObstacle}
 use Rattle.cs_model.specs.Steps.{IsReply, began, unwound, settled, commits, wrote, gone, refused, replied, accepted, ends_txn, staged, is_empty, numbered, begin_reply, done_in, pinned, started, fixed, txn_opened}
 use Rattle.cs_model.specs.Text.{IsPrintableKey, IsPrintableRefusal, IsPrintableReply}
 use Rattle.change_list.proofs.Rows.{table_all, laid_all}
-use Rattle.statement_core.specs.Fit.{IsReady, IsFitTxn, IsReadyHalf, IsFitState}
+use Rattle.statement_core.specs.Fit.{IsOfReading, IsReady, IsFitTxn, IsReadyHalf, IsFitState}
 use Rattle.statement_core.specs.Settled.{wrote_or, IsWrittenIn, IsRead}
 
 module _ (schema : Schema) where
@@ -134,6 +134,15 @@ module _ (schema : Schema) where
   refused_prints : (r : Reply) (refusal : Refusal) → r ≡ reply.Refused refusal → IsPrintableRefusal schema refusal → IsPrintableReply schema r
   refused_prints r refusal e p = subst (IsPrintableReply schema) (sym e) p
 
+  reading_prints : (found : Refusal) → IsOfReading found → IsPrintableRefusal schema found
+  reading_prints (refusal.Reading number at) p = tt
+  reading_prints (refusal.Valued number row column) p = tt
+  reading_prints (refusal.Locked key txn) p = absurd p
+  reading_prints (refusal.Changed key txn commit) p = absurd p
+  reading_prints (refusal.Duplicate key) p = absurd p
+  reading_prints (refusal.NoTxn number) p = tt
+  reading_prints refusal.Memory p = tt
+
   begin_prints : (o : Option Txn) → IsPrintableReply schema (begin_reply o)
   begin_prints None = tt
   begin_prints (Some txn) = at (nat_lt txn.depth 32)
@@ -155,7 +164,7 @@ module _ (schema : Schema) where
   plain_prints_at m i (bound.Update plan) r e p h = absurd (cc e)
   plain_prints_at m i (bound.Delete condition) r e p h = absurd (cc e)
   plain_prints_at m i (bound.Select query) r e p h = absurd (cc e)
-  plain_prints_at m i (bound.Refused refusal) r e p h = refused_prints r refusal h p
+  plain_prints_at m i (bound.Refused refusal) r e p h = refused_prints r refusal h (reading_prints refusal p)
 
   pub plain_prints : (m : State) (i : ℕ) (b : Bound) (r : Reply) (short : Bool) → is_of_table b ≡ false → IsReady schema b → (r ≡ reply.Refused refusal.Memory) ⊎ ((short ≡ false) × IsReply schema m i b r) → IsPrintableReply schema r
   plain_prints m i b r short e p (inl h) = refused_prints r refusal.Memory h tt

@@ -10,20 +10,21 @@ use Rattle.cs_model.specs.Steps.{Legal, IsStep}
 use Rattle.cs_model.specs.Text.{IsPrintableEntry}
 use Rattle.cs_model.specs.Changes.{Change}
 use Rattle.cs_model.specs.Held.{IsFit}
-use Rattle.row_laws.specs.Laws.{AreDistinct}
-use Rattle.row_laws.proofs.Logs.{legal_push}
-use Rattle.row_laws.proofs.Numbers.{small}
-use Rattle.row_laws.proofs.Room.{owed_first}
+use Rattle.log_laws.specs.Laws.{AreDistinct}
+use Rattle.log_laws.proofs.Logs.{legal_push}
+use Rattle.log_laws.proofs.Numbers.{small}
+use Rattle.log_laws.proofs.Room.{owed_first}
 use Rattle.txn_table.specs.Txns.{txn_of}
-use Rattle.statement_core.specs.declared.held.Held.{Held}
+use Rattle.statement_core.specs.declared.core_state.CoreState.{CoreState}
 use Rattle.statement_core.specs.declared.started.Outcome.{Outcome}
 use Rattle.statement_core.specs.Seats.{seat}
-use Rattle.statement_core.specs.Held.{state_of, txn_in, half_in, IsWithin}
+use Rattle.statement_core.specs.CoreState.{state_of, txn_in, half_in, IsWithin}
+use Rattle.statement_core.specs.Replaced.{AllSayReplaced, AreReplaced}
 use Rattle.statement_core.specs.Fit.{IsFitState}
 use Rattle.statement_core.specs.Cores.{IsCore, IsDone}
 use Rattle.statement_core.specs.Settled.{IsDoneAt}
 
-pub within : (schema : Schema) (held : Held) (log : List Entry) (cap : ℕ) (sessions : List ℕ) (s : ℕ) → IsCore schema held log cap sessions → cap < 2 ^ 63 → Contains sessions s → IsWithin held s
+pub within : (schema : Schema) (held : CoreState) (log : List Entry) (cap : ℕ) (sessions : List ℕ) (s : ℕ) → IsCore schema held log cap sessions → cap < 2 ^ 63 → Contains sessions s → IsWithin held s
 within schema held log cap sessions s i fits has =
     let n = small schema log (state_of held) i.legal in
     let long : length log ≤ cap = let r = i.room in omega (arith, r) in
@@ -34,10 +35,11 @@ within schema held log cap sessions s i fits has =
     }
 
 -- one entry more
-pub core_push : (schema : Schema) (held after : Held) (log : List Entry) (cap new : ℕ) (sessions : List ℕ) (e : Entry) → IsCore schema held log cap sessions → IsStep schema (state_of held) e (state_of after)
-    → IsFitState schema (state_of after) → IsPrintableEntry schema e → length log + 1 + owed (log ++ e ∷ []) sessions ≤ new → IsCore schema after (log ++ e ∷ []) new sessions
-core_push schema held after log cap new sessions e i step fit prints len = record {
+pub core_push : (schema : Schema) (held after : CoreState) (log : List Entry) (cap new : ℕ) (sessions : List ℕ) (e : Entry) → IsCore schema held log cap sessions → IsStep schema (state_of held) e (state_of after)
+    → AreReplaced after → IsFitState schema (state_of after) → IsPrintableEntry schema e → length log + 1 + owed (log ++ e ∷ []) sessions ≤ new → IsCore schema after (log ++ e ∷ []) new sessions
+core_push schema held after log cap new sessions e i step replaced fit prints len = record {
   legal = legal_push schema log (state_of held) (state_of after) e i.legal step;
+  replaced = replaced;
   room = let l = length-append log (e ∷ []) in omega (arith, l, len);
   numbers = i.numbers;
   few = i.few;
@@ -54,7 +56,7 @@ done_at schema log m s o l d = record { bound = d.bound; short = d.short; rows =
 fit_start : (schema : Schema) → IsFitState schema start
 fit_start schema = record { changes = All-nil (λ (change : Change). IsFit schema change.edit); txns = λ s. tt; halves = λ s. tt }
 
-pub core_new : (schema : Schema) (held : Held) (cap : ℕ) (sessions : List ℕ) → held.changes ≡ [] → held.clock ≡ 0 → held.txns.next ≡ 1
+pub core_new : (schema : Schema) (held : CoreState) (cap : ℕ) (sessions : List ℕ) → held.changes ≡ [] → held.clock ≡ 0 → held.txns.next ≡ 1
     → ((s : ℕ) → txn_of held.txns s ≡ None) → ((s : ℕ) → seat held.halves s ≡ None)
     → 64 ≤ cap → All (λ s. s < 65) sessions → length sessions ≤ 64 → AreDistinct sessions → IsCore schema held [] cap sessions
 core_new schema held cap sessions c k n txns halves room numbers few distinct =
@@ -68,6 +70,7 @@ core_new schema held cap sessions c k n txns halves room numbers few distinct =
     } in
     record {
       legal = first;
+      replaced = record { each = λ s. subst (AllSayReplaced held.changes held.clock) (sym (txns s)) tt };
       room = let o = owed_first sessions in omega (arith, o, room, few);
       numbers = numbers;
       few = few;

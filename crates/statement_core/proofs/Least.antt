@@ -8,7 +8,7 @@ use Rattle.std.proofs.lemmas.List.Elements.{All-push, All-weaker, Contains-push,
 use Rattle.std.proofs.lemmas.Int.{ints}
 use Rattle.cs_types.specs.declared.Key.{Key}
 use Rattle.cs_model.specs.declared.entry.Refusal.{Refusal}
-use Rattle.cs_model.specs.Keys.{key_cmp}
+use Rattle.cs_types.specs.Keys.{key_cmp}
 use Rattle.statement_core.specs.Least.{IsLeast, HasLeast, lesser_of}
 
 -- the numbers of keys are ordered

@@ -3,6 +3,7 @@ pub mod States
 pub mod Staging
 pub mod Least
 pub mod Owning
+pub mod Replaced
 pub mod Settled
 pub mod Fitting
 pub mod Keeping

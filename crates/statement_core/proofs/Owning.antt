@@ -5,15 +5,15 @@ use Rattle.std.specs.Ordering.{is_eq}
 use Rattle.std.proofs.lemmas.Cmp.{tied_itself}
 use Rattle.std.proofs.lemmas.List.Folds.{list_any-from_Any, Any-from_list_any}
 use Rattle.cs_types.specs.declared.Key.{Key}
-use Rattle.own_writes.specs.declared.write.Write.{Write}
+use Rattle.write_set.specs.declared.write.Write.{Write}
 use Rattle.txn_table.specs.declared.txn.Txn.{Txn}
 use Rattle.txn_table.specs.Txns.{Table, txn_of, Owns, OwnsAs, IsHolder}
 use Rattle.change_list.specs.Edits.{edits_of, writes_key}
-use Rattle.change_list.proofs.Keys.{key_total, one_key}
+use Rattle.cs_types.proofs.KeyLemmas.{key_total, one_key}
 use Rattle.cs_model.specs.Changes.{Edit}
-use Rattle.cs_model.specs.Keys.{same_key}
+use Rattle.cs_types.specs.Keys.{same_key}
 use Rattle.cs_model.specs.Obstacles.{owns, IsOwner, IsLocked, IsFree}
-use Rattle.statement_core.specs.Held.{txn_in, txns_of}
+use Rattle.statement_core.specs.CoreState.{txn_in, txns_of}
 
 -- a key is among the edits where it is among the writes
 among : (key : Key) (own : List Write) → list_any (λ (edit : Edit). same_key key edit.0) (edits_of own) ≡ writes_key own key

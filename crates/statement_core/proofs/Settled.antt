@@ -1,11 +1,11 @@
 -- What a Finish leaves.
-use Rattle.std.proofs.Common.{◌≡◌, ℕ, List, [], refl, sym, ap, subst, ◌∙◌, inl, inr, ◌⊎◌, Bool, true, false, Option, None, Some, Result, Ok, Err}
+use Rattle.std.proofs.Common.{◌≡◌, ℕ, List, [], length, refl, sym, ap, subst, ◌∙◌, inl, inr, ◌⊎◌, Bool, true, false, Option, None, Some, Result, Ok, Err}
 use Rattle.std.specs.Prelude.{◌||◌, nat_lt}
 use Rattle.std.specs.BTreeMap.{BTreeMap}
 use Rattle.std.specs.Map.{values_of}
 use Rattle.cs_types.specs.declared.Key.{Key}
 use Rattle.cs_types.specs.declared.Schema.{Schema}
-use Rattle.batch_aggregate.specs.Answers.{answer}
+use Rattle.cs_model.specs.Queries.{answer}
 use Rattle.cs_model.specs.declared.entry.Bound.{Bound}
 use Rattle.cs_model.specs.declared.entry.Bound.TheVariants as bound
 use Rattle.cs_model.specs.declared.entry.Refusal.{Refusal}
@@ -17,12 +17,14 @@ use Rattle.cs_model.specs.State.{State, Txn, Half, seen, seen_at, half_set}
 use Rattle.cs_model.specs.Answers.{is_of_table, writes}
 use Rattle.cs_model.specs.Obstacles.{has_row, keys_of, is_present, IsObstacle, IsJudged}
 use Rattle.cs_model.specs.Steps.{IsReply, IsWriteReply, IsWriteReplyOf, IsAnswerIn, IsAnswer, IsFinish, edits_in, writes_in, replied, accepted, wrote, refused, rested}
-use Rattle.row_laws.specs.Started.{Shows, IsPinned, seen_in, reads_rows}
+use Rattle.log_laws.specs.Started.{Shows, IsPinnedAt, IsPinned, seen_in, reads_rows}
+use Rattle.txn_table.specs.declared.txn.Txn as kept
+use Rattle.statement_core.specs.CoreState.{txn_in}
 use Rattle.statement_core.specs.declared.started.Outcome.{Outcome}
 use Rattle.statement_core.specs.declared.started.Outcome.TheVariants as outcome
 use Rattle.statement_core.specs.Least.{is_taken}
 use Rattle.statement_core.specs.Outcomes.{is_write, IsValued, IsDecided, GivesOn}
-use Rattle.statement_core.specs.Settled.{Settles, WriteSettles, Replies, GivesIn, IsDoneAt, IsWrittenIn, IsJudgedIn, AreCountsFor, wrote_or}
+use Rattle.statement_core.specs.Settled.{Settles, WriteSettles, Replies, GivesIn, Suits, IsDoneAt, IsWrittenIn, IsJudgedIn, AreCountsFor, wrote_or}
 
 -- ---- the outcome, over other rows
 
@@ -137,6 +139,10 @@ answered_settles schema m after session b short given r set g h =
 
 -- ---- a write
 
+pub affected_in : (m : State) (session : ℕ) (o : Option Txn) (b : Bound) (edits : List Edit) (count : ℕ) → IsJudgedIn m session o b edits None → count ≡ length edits → IsWrittenIn m session o b edits (reply.Affected count)
+affected_in m session None b edits count h e = absurd h
+affected_in m session (Some txn) b edits count h e = (h, e)
+
 written_in : (schema : Schema) (m : State) (session : ℕ) (txn : Option Txn) (b : Bound) (edits : List Edit) (r : Reply) → writes schema (seen_in m.changes txn) b ≡ Ok edits → IsWrittenIn m session txn b edits r → IsWriteReply schema m session txn b r
 written_in schema m session None b edits r e h = absurd h
 written_in schema m session (Some txn) b edits r e h = subst (λ w. IsWriteReplyOf m session txn.snapshot (seen m.changes txn) b w r) (sym e) h
@@ -241,6 +247,32 @@ gives_half schema m mid session half o is e d =
     let g : GivesIn schema m session half.bound half.short o = subst (λ (h : Half). GivesIn schema m session h.bound h.short o) (sym same) (gives_at schema m session d.bound d.short d.rows o d.shows d.gives) in
     let g' : GivesIn schema (half_set m session None) session half.bound half.short o = record { gives = g.gives; pinned = g.pinned } in
     subst (λ x. GivesIn schema x session half.bound half.short o) (sym e) g'
+
+-- ---- what an outcome says of its statement
+
+write_of_table : (b : Bound) → is_write b ≡ true → is_of_table b ≡ true
+write_of_table bound.Begin e = absurd (cc e)
+write_of_table bound.Commit e = absurd (cc e)
+write_of_table bound.Rollback e = absurd (cc e)
+write_of_table bound.Nothing e = absurd (cc e)
+write_of_table (bound.Insert plan) e = refl
+write_of_table (bound.Update plan) e = refl
+write_of_table (bound.Delete condition) e = refl
+write_of_table (bound.Select query) e = absurd (cc e)
+write_of_table (bound.Refused refusal) e = absurd (cc e)
+
+pub suits : (schema : Schema) (m : State) (session : ℕ) (b : Bound) (short : Bool) (o : Outcome) → GivesIn schema m session b short o → Suits m session b o
+suits schema m session b short outcome.Nothing g = g.gives.1
+suits schema m session b short (outcome.Answer r) g = tt
+suits schema m session b short (outcome.Writes edits) g = g.pinned (write_of_table b g.gives.1) g.gives.0
+suits schema m session b short outcome.Short g = tt
+
+-- a session whose snapshot is taken has a transaction, and that its snapshot
+pub no_txn : (o : Option kept.Txn) (clock : ℕ) → IsPinned (txn_in o) clock → o ≡ None → ⊥
+no_txn o clock p e = subst (λ (x : Option kept.Txn). IsPinned (txn_in x) clock) e p
+
+pub no_snapshot : (o : Option kept.Txn) (txn : kept.Txn) (clock : ℕ) → IsPinned (txn_in o) clock → o ≡ Some txn → txn.snapshot ≡ None → ⊥
+no_snapshot o txn clock p e none = subst (λ s. IsPinnedAt s clock) none (subst (λ (x : Option kept.Txn). IsPinned (txn_in x) clock) e p)
 
 -- ---- how a write is judged
 

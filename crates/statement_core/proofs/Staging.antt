@@ -1,7 +1,7 @@
 -- Writes of the session's transaction, and what a refusal leaves of them.
 use Rattle.std.proofs.Common.{◌≡◌, ℕ, ◌+◌, ◌++◌, List, [], ◌∷◌, map, refl, sym, ap, ◌∙◌, cond, Bool, true, false, Option, None, Some, Result, Ok, Err}
 use Rattle.std.specs.Prelude.{◌==◌, OnErr}
-use Rattle.own_writes.specs.declared.write.Write.{Write}
+use Rattle.write_set.specs.declared.write.Write.{Write}
 use Rattle.txn_table.specs.declared.txn.Txn as kept
 use Rattle.txn_table.specs.Txns.{txn_of, widened}
 use Rattle.change_list.specs.Edits.{edits_of}
@@ -10,8 +10,8 @@ use Rattle.cs_model.specs.Changes.{Edit, Table}
 use Rattle.cs_model.specs.State.{State, Txn, txn_set}
 use Rattle.cs_model.specs.Steps.{staged, is_empty, numbered, gone, settled, wrote, ends_txn, refused}
 use Rattle.cs_model.specs.declared.entry.Refusal.TheVariants.{Memory}
-use Rattle.statement_core.specs.declared.held.Held.{Held}
-use Rattle.statement_core.specs.Held.{txn_as, txn_in, state_of}
+use Rattle.statement_core.specs.declared.core_state.CoreState.{CoreState}
+use Rattle.statement_core.specs.CoreState.{txn_as, txn_in, state_of}
 use Rattle.statement_core.specs.Settled.{write_on}
 use Rattle.statement_core.proofs.Placing.{with_own}
 use Rattle.statement_core.proofs.States.{txn_twice}
@@ -26,7 +26,7 @@ on_edits table [] = refl
 on_edits table (edit ∷ edits) = ap (λ es. edit ∷ es) (on_edits table edits)
 
 -- edits are staged as writes
-pub staged_as : (held : Held) (mid : State) (i : ℕ) (txn : kept.Txn) (writes : List Write) (table : Table) (edits : List Edit)
+pub staged_as : (held : CoreState) (mid : State) (i : ℕ) (txn : kept.Txn) (writes : List Write) (table : Table) (edits : List Edit)
     → txn_of held.txns i ≡ Some txn → mid ≡ txn_set (state_of held) i (txn_in (widened writes (txn_of held.txns i))) → writes ≡ map (write_on table) edits
     → mid ≡ txn_set (state_of held) i (Some (record (txn_as txn) { own = staged (txn_as txn).own edits }))
 staged_as held mid i txn writes table edits is e made =

@@ -7,7 +7,7 @@ use Rattle.txn_table.specs.Txns.{fixed as fixed_in}
 use Rattle.change_list.specs.Edits.{edits_of}
 use Rattle.cs_model.specs.State.{State, Txn, with, txn_set}
 use Rattle.cs_model.specs.Steps.{or_clock, fixed, txn_opened, next_opened, pinned}
-use Rattle.statement_core.specs.Held.{txn_in}
+use Rattle.statement_core.specs.CoreState.{txn_in}
 use Rattle.statement_core.proofs.Placing.{with_twice, with_same, with_own}
 
 pub same_state : (m n : State) → m.changes ≡ n.changes → m.clock ≡ n.clock → m.txns ≡ n.txns → m.half ≡ n.half → m.statistics ≡ n.statistics → m.next ≡ n.next → m ≡ n

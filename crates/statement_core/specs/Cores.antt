@@ -8,18 +8,20 @@ use Rattle.cs_model.specs.Actors.{owed}
 use Rattle.cs_model.specs.Changes.{Table}
 use Rattle.cs_model.specs.Steps.{Legal}
 use Rattle.cs_model.specs.Text.{IsPrintableEntry}
-use Rattle.row_laws.specs.Laws.{AreDistinct}
-use Rattle.row_laws.specs.Started.{IsStarted}
-use Rattle.statement_core.specs.declared.held.Held.{Held}
+use Rattle.log_laws.specs.Laws.{AreDistinct}
+use Rattle.log_laws.specs.Started.{IsStarted}
+use Rattle.statement_core.specs.declared.core_state.CoreState.{CoreState}
 use Rattle.statement_core.specs.declared.started.Outcome.{Outcome}
-use Rattle.statement_core.specs.Held.{state_of}
+use Rattle.statement_core.specs.CoreState.{state_of}
+use Rattle.statement_core.specs.Replaced.{AreReplaced}
 use Rattle.statement_core.specs.Outcomes.{GivesOn}
 use Rattle.statement_core.specs.Fit.{IsFitState}
 
--- the log is legal and leads to the state that the fields stand for; there is room for every Finish and End that is still
--- owed; and all of it fits the table
-pub record IsCore (schema : Schema) (held : Held) (log : List Entry) (capacity : ℕ) (sessions : List ℕ) : Type 0 where
+-- the log is legal and leads to the state that the fields stand for; own writes say which rows they replace; there is room
+-- for every Finish and End that is still owed; and all of it fits the table
+pub record IsCore (schema : Schema) (held : CoreState) (log : List Entry) (capacity : ℕ) (sessions : List ℕ) : Type 0 where
   pub legal : Legal schema log (state_of held)
+  pub replaced : AreReplaced held
   pub room : length log + owed log sessions ≤ capacity
   pub numbers : All (λ session. session < 65) sessions
   pub few : length sessions ≤ 64

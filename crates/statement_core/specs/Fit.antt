@@ -1,13 +1,24 @@
--- States and statements whose rows the columns hold, and whose refusals can be printed.
+-- States whose rows the columns hold, and statements that may be started.
 use Rattle.std.specs.Prelude.{ℕ, All, Option, None, Some}
 use Rattle.cs_types.specs.declared.Schema.{Schema}
 use Rattle.cs_model.specs.declared.entry.Bound.{Bound}
 use Rattle.cs_model.specs.declared.entry.Bound.TheVariants as bound
+use Rattle.cs_model.specs.declared.entry.Refusal.{Refusal}
+use Rattle.cs_model.specs.declared.entry.Refusal.TheVariants.{Reading, Valued, Locked, Changed, Duplicate, NoTxn, Memory}
 use Rattle.cs_model.specs.State.{Txn, Half, State}
 use Rattle.cs_model.specs.Held.{IsFit, AreFit}
-use Rattle.cs_model.specs.Text.{IsPrintableRefusal}
 
--- the refusal that a statement is bound to can be printed
+-- a refusal of reading, or want of memory: what binding alone may refuse a text for
+abbrev pub IsOfReading : Refusal → Type 0
+IsOfReading (Reading number at) = Unit {0}
+IsOfReading (Valued number row column) = ⊥
+IsOfReading (Locked key txn) = ⊥
+IsOfReading (Changed key txn commit) = ⊥
+IsOfReading (Duplicate key) = ⊥
+IsOfReading (NoTxn number) = ⊥
+IsOfReading Memory = Unit {0}
+
+-- what a statement may be bound to: where it is refused, reading or want of memory refused it
 abbrev pub IsReady : Schema → Bound → Type 0
 IsReady schema bound.Begin = Unit {0}
 IsReady schema bound.Commit = Unit {0}
@@ -17,7 +28,7 @@ IsReady schema (bound.Insert plan) = Unit {0}
 IsReady schema (bound.Update plan) = Unit {0}
 IsReady schema (bound.Delete condition) = Unit {0}
 IsReady schema (bound.Select query) = Unit {0}
-IsReady schema (bound.Refused refusal) = IsPrintableRefusal schema refusal
+IsReady schema (bound.Refused refusal) = IsOfReading refusal
 
 abbrev pub IsFitTxn : Schema → Option Txn → Type 0
 IsFitTxn schema None = Unit {0}

@@ -6,7 +6,7 @@ use Rattle.std.specs.BTreeMap.{BTreeMap, get}
 use Rattle.cs_types.specs.declared.Key.{Key}
 use Rattle.cs_model.specs.declared.entry.Refusal.{Refusal}
 use Rattle.cs_model.specs.declared.entry.Refusal.TheVariants.{Reading, Valued, Locked, Changed, Duplicate, NoTxn, Memory}
-use Rattle.cs_model.specs.Keys.{key_cmp}
+use Rattle.cs_types.specs.Keys.{key_cmp}
 use Rattle.cs_model.specs.Changes.{Table, newest}
 use Rattle.cs_model.specs.Obstacles.{has_row, is_above, IsChange}
 use Rattle.cs_model.specs.State.{State}

@@ -1,5 +1,6 @@
 pub mod Seats
-pub mod Held
+pub mod CoreState
+pub mod Replaced
 pub mod Least
 pub mod Outcomes
 pub mod Settled

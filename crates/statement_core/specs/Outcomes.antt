@@ -2,7 +2,7 @@
 use Rattle.std.specs.Prelude.{◌≡◌, List, Bool, true, false, All, Result, Ok, Err}
 use Rattle.std.specs.Map.{values_of}
 use Rattle.cs_types.specs.declared.Schema.{Schema}
-use Rattle.batch_aggregate.specs.Answers.{answer}
+use Rattle.cs_model.specs.Queries.{answer}
 use Rattle.cs_model.specs.declared.entry.Bound.{Bound}
 use Rattle.cs_model.specs.declared.entry.Bound.TheVariants as bound
 use Rattle.cs_model.specs.declared.entry.Refusal.{Refusal}

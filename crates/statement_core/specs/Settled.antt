@@ -3,7 +3,7 @@ use Rattle.std.specs.Prelude.{◌≡◌, ◌⊎◌, ℕ, ◌+◌, ◌++◌, List
 use Rattle.std.specs.BTreeMap.{BTreeMap}
 use Rattle.cs_types.specs.declared.Key.{Key}
 use Rattle.cs_types.specs.declared.Schema.{Schema}
-use Rattle.own_writes.specs.declared.write.Write.{Write}
+use Rattle.write_set.specs.declared.write.Write.{Write}
 use Rattle.cs_model.specs.declared.entry.Bound.{Bound}
 use Rattle.cs_model.specs.declared.entry.Bound.TheVariants as bound
 use Rattle.cs_model.specs.declared.entry.Refusal.{Refusal}
@@ -11,13 +11,14 @@ use Rattle.cs_model.specs.declared.entry.Refusal.TheVariants.{Memory}
 use Rattle.cs_model.specs.declared.entry.Reply.{Reply}
 use Rattle.cs_model.specs.declared.entry.Reply.TheVariants as reply
 use Rattle.cs_model.specs.Changes.{Edit, Table}
-use Rattle.cs_model.specs.Keys.{same_key}
+use Rattle.cs_types.specs.Keys.{same_key}
 use Rattle.cs_model.specs.State.{Txn, State, seen}
 use Rattle.cs_model.specs.Answers.{is_of_table}
 use Rattle.cs_model.specs.Obstacles.{has_row, keys_of, is_present, IsObstacle, IsJudged}
 use Rattle.cs_model.specs.Steps.{IsReply, IsWritten, is_empty, numbered, replied, wrote, refused, commits, fixed, txn_opened}
-use Rattle.row_laws.specs.Started.{Shows, IsPinned, seen_in}
+use Rattle.log_laws.specs.Started.{Shows, IsPinned, seen_in}
 use Rattle.statement_core.specs.declared.started.Outcome.{Outcome}
+use Rattle.statement_core.specs.declared.started.Outcome.TheVariants as outcome
 use Rattle.statement_core.specs.Least.{count_in}
 use Rattle.statement_core.specs.Outcomes.{GivesOn}
 
@@ -96,6 +97,13 @@ pub record IsDoneAt (schema : Schema) (m : State) (session : ℕ) (outcome : Out
 pub record GivesIn (schema : Schema) (m : State) (session : ℕ) (b : Bound) (short : Bool) (outcome : Outcome) : Type 0 where
   pub gives : GivesOn schema b short (seen_in m.changes (m.txns session)) outcome
   pub pinned : is_of_table b ≡ true → short ≡ false → IsPinned (m.txns session) m.clock
+
+-- what an outcome says of its statement: one without work is none of the table, and a write has its snapshot
+abbrev pub Suits : State → ℕ → Bound → Outcome → Type 0
+Suits m session b outcome.Nothing = is_of_table b ≡ false
+Suits m session b (outcome.Answer r) = Unit {0}
+Suits m session b (outcome.Writes edits) = IsPinned (m.txns session) m.clock
+Suits m session b outcome.Short = Unit {0}
 
 -- the rows that a Start gave: none, or those that the session's transaction sees once its snapshot is taken
 abbrev pub IsRead : State → ℕ → Table → Type 0

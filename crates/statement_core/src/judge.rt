@@ -2,21 +2,21 @@
 ghost use Rattle.std.specs.Prelude.{◌≡◌, ◌+◌, ◌<◌, ◌^◌, ℕ, count_by, map, IfOk, OnOk, None, Some, if◌then◌else◌};
 ghost use Rattle.cs_types.specs.declared.Key.{Key};
 ghost use Rattle.cs_model.specs.Changes.{Edit, table, laid};
-ghost use Rattle.cs_model.specs.Keys.{same_key};
+ghost use Rattle.cs_types.specs.Keys.{same_key};
 ghost use Rattle.cs_model.specs.Obstacles.{is_above, keys_of, IsObstacle, IsJudged};
 ghost use Rattle.cs_model.specs.declared.entry.Refusal.{Refusal};
 ghost use Rattle.change_list.specs.Edits.{edits_of};
-ghost use Rattle.statement_core.specs.Held.{state_of};
+ghost use Rattle.statement_core.specs.CoreState.{state_of};
 ghost use Rattle.statement_core.specs.Least.{count_in, is_taken, lesser_of, HasLeast, IsChanged};
 
-use crate::held::{Held, holder};
+use crate::core_state::{CoreState, holder};
 use change_list::has_row_over;
 use cs_base::Memory;
 use cs_model::Refusal;
 use cs_types::{Key, Row};
-use own_writes::Own;
 use std::alloc::Global;
 use std::collections::BTreeMap;
+use write_set::Own;
 
 /// How often each key stands in a list.
 pub type Counts = BTreeMap<Key, u64>;
@@ -63,7 +63,7 @@ pub fn count_keys(alloc: Global, keys: &[Key]) -> Result<Counts, Memory>
 }
 
 /// The key's newest change, where it is above the snapshot.
-fn changed(held: &Held, snapshot: u64, key: Key) -> Option<Refusal>
+fn changed(held: &CoreState, snapshot: u64, key: Key) -> Option<Refusal>
     ensures { IsChanged (state_of held.now) (Some snapshot) key result }
 {
     match held.changes.newest(key) {
@@ -73,7 +73,7 @@ fn changed(held: &Held, snapshot: u64, key: Key) -> Option<Refusal>
 }
 
 /// Whether an INSERT whose keys were counted would make a key stand twice, over the table of a snapshot and own writes.
-fn is_taken(held: &Held, snapshot: u64, own: &Own, counts: &Option<Counts>, key: Key) -> bool
+fn is_taken(held: &CoreState, snapshot: u64, own: &Own, counts: &Option<Counts>, key: Key) -> bool
     ensures { result ≡ is_taken counts.now (laid (table held.now.changes snapshot) (edits_of own.now)) key }
 {
     match counts {
@@ -86,7 +86,7 @@ fn is_taken(held: &Held, snapshot: u64, own: &Own, counts: &Option<Counts>, key:
 
 /// The obstacle of one key: the first that applies.
 fn obstacle(
-    held: &Held,
+    held: &CoreState,
     session: u32,
     snapshot: u64,
     own: &Own,
@@ -122,7 +122,7 @@ fn lesser(least: Option<(Key, Refusal)>, key: Key, found: Option<Refusal>) -> Op
 }
 
 fn least(
-    held: &Held,
+    held: &CoreState,
     session: u32,
     snapshot: u64,
     own: &Own,
@@ -142,7 +142,7 @@ fn least(
 /// The obstacle of the least of these keys that has one, to a write over the table of a snapshot and own writes. The counts of
 /// the keys are those of an INSERT, and None for another write.
 pub fn judge(
-    held: &Held,
+    held: &CoreState,
     session: u32,
     snapshot: u64,
     own: &Own,

@@ -15,16 +15,16 @@ use Rattle.cs_types.specs.declared.Value.TheVariants.{Null, Number, Text}
 use Rattle.cs_types.specs.Kinds.{keeps_number}
 use Rattle.cs_types.specs.Rows.{cell_at}
 use Rattle.cs_types.specs.Text.{loose_of, IsPrintable}
-use Rattle.cs_plans.specs.declared.plan.Item.{Item}
-use Rattle.cs_plans.specs.declared.plan.Item.TheVariants as item
-use Rattle.cs_plans.specs.declared.plan.Query.{Query}
-use Rattle.cs_predicate.specs.Cells.{loose_in}
+use Rattle.cs_model.specs.declared.plan.Item.{Item}
+use Rattle.cs_model.specs.declared.plan.Item.TheVariants as item
+use Rattle.cs_model.specs.declared.plan.Query.{Query}
+use Rattle.cs_model.specs.Cells.{loose_in}
 use Rattle.cs_model.specs.Text.{IsPrintableRow}
-use Rattle.batch_aggregate.specs.declared.refusal.AnswerRefusal.{AnswerRefusal}
-use Rattle.batch_aggregate.specs.Answers.{keeps, kept, row_order, group_order, before, values_from, group_row, rows_from, grouped_answer, plain_answer, answer, Gives}
-use Rattle.batch_aggregate.specs.Groups.{cells_of, same_cells, each_once, Group, groups_of, place_of}
-use Rattle.batch_aggregate.specs.Items.{is_null, present, lesser, greater, least_of, greatest_of, shown_if, of_sum, of_sum_in, sum_of, group_item, row_item}
-use Rattle.batch_aggregate.specs.Order.{comes_before, put, in_order}
+use Rattle.cs_model.specs.declared.answer_refusal.AnswerRefusal.{AnswerRefusal}
+use Rattle.cs_model.specs.Queries.{keeps, kept, row_order, group_order, before, values_from, group_row, rows_from, grouped_answer, plain_answer, answer, Gives}
+use Rattle.cs_model.specs.Groups.{cells_of, same_cells, each_once, Group, groups_of, place_of}
+use Rattle.cs_model.specs.Items.{is_null, present, lesser, greater, least_of, greatest_of, shown_if, of_sum, of_sum_in, sum_of, group_item, row_item}
+use Rattle.cs_model.specs.Order.{comes_before, put, in_order}
 use Rattle.cs_model.specs.Held.{holds, IsHeld}
 
 -- ---- cells

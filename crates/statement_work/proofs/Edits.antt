@@ -6,9 +6,9 @@ use Rattle.cs_types.specs.declared.Key.{Key}
 use Rattle.cs_types.specs.declared.Schema.{Schema}
 use Rattle.cs_types.specs.declared.Value.{Value}
 use Rattle.cs_types.specs.Rows.{key_in}
-use Rattle.cs_plans.specs.declared.expr.Expr.{Expr}
-use Rattle.cs_plans.specs.declared.pred.Pred.{Pred}
-use Rattle.batch_aggregate.specs.Answers.{keeps}
+use Rattle.cs_model.specs.declared.expr.Expr.{Expr}
+use Rattle.cs_model.specs.declared.pred.Pred.{Pred}
+use Rattle.cs_model.specs.Queries.{keeps}
 use Rattle.cs_model.specs.declared.entry.Refusal.{Refusal}
 use Rattle.cs_model.specs.Answers.{edits_of, at_key, row_onto, rows_from, chosen, deleted, updated_row, updated_entry}
 use Rattle.cs_model.specs.Changes.{Edit, Table}

@@ -13,8 +13,8 @@ use Rattle.cs_types.specs.declared.Value.TheVariants.{Null, Number, Text}
 use Rattle.cs_types.specs.Kinds.{keeps, is_short}
 use Rattle.cs_types.specs.Rows.{cell_at, number_in, key_in, IsNumber}
 use Rattle.cs_types.specs.Schemas.{IsSchema, is_key_kind}
-use Rattle.cs_plans.specs.declared.pred.Pred.{Pred}
-use Rattle.batch_aggregate.specs.Answers.{keeps as is_chosen}
+use Rattle.cs_model.specs.declared.pred.Pred.{Pred}
+use Rattle.cs_model.specs.Queries.{keeps as is_chosen}
 use Rattle.cs_model.specs.Answers.{edits_of, chosen, deleted}
 use Rattle.cs_model.specs.Changes.{Table}
 use Rattle.cs_model.specs.Held.{holds, IsHeld, IsFit, IsFitEntry, IsFitTable}

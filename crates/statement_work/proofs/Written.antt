@@ -15,10 +15,10 @@ use Rattle.cs_types.specs.declared.refusal.ValueRefusal.TheVariants.{NullHere, T
 use Rattle.cs_types.specs.Fit.{rounded, range_refusal}
 use Rattle.cs_types.specs.Kinds.{scale_of, is_short, keeps}
 use Rattle.cs_types.specs.Rows.{cell_at}
-use Rattle.cs_plans.specs.declared.expr.Expr.{Expr}
+use Rattle.cs_model.specs.declared.expr.Expr.{Expr}
 use Rattle.cs_model.specs.declared.entry.Refusal.{Refusal}
 use Rattle.cs_model.specs.declared.entry.Refusal.TheVariants.{Valued}
-use Rattle.cs_predicate.specs.Expressions.{Computed, compute}
+use Rattle.cs_model.specs.Expressions.{Computed, compute}
 use Rattle.cs_model.specs.Answers.{numbered, kept, computed_of, given, cell_onto, cells_from, row_onto, rows_from, inserted_cell, series_len, series, updated_by, updated_cell, updated_row}
 use Rattle.statement_work.specs.declared.refusal.WriteRefusal.{WriteRefusal}
 use Rattle.statement_work.specs.declared.refusal.WriteRefusal.TheVariants as refusal

@@ -16,11 +16,9 @@ use crate::refusal::WriteRefusal;
 use crate::select::answer;
 use crate::update::updated;
 use crate::write::Edit;
-use batch_aggregate::AnswerRefusal;
 use change_list::Rows;
 use cs_base::{Items, Memory};
-use cs_model::{Bound, Refusal, Reply};
-use cs_plans::{Pred, Query};
+use cs_model::{AnswerRefusal, Bound, Pred, Query, Refusal, Reply};
 use cs_types::Schema;
 use statement_core::{Desk, Outcome, Started};
 use std::alloc::Global;
@@ -89,10 +87,10 @@ impl Desk for Clerk {
             return Outcome::Short;
         }
         match &*started.bound {
-            Bound::Insert(plan) => written(inserted(alloc, schema, plan)),
-            Bound::Update(plan) => written(updated(alloc, schema, plan, &started.rows)),
-            Bound::Delete(condition) => delete(alloc, schema, condition, &started.rows),
-            Bound::Select(query) => select(alloc, schema, query, &started.rows),
+            Bound::Insert(plan) => written(inserted(alloc, schema, plan.get())),
+            Bound::Update(plan) => written(updated(alloc, schema, plan.get(), &started.rows)),
+            Bound::Delete(condition) => delete(alloc, schema, condition.get(), &started.rows),
+            Bound::Select(query) => select(alloc, schema, query.get(), &started.rows),
             Bound::Begin | Bound::Commit | Bound::Rollback | Bound::Nothing | Bound::Refused(_) =>
                 Outcome::Nothing,
         }

@@ -8,7 +8,7 @@ use crate::write::Edit;
 use batch_aggregate::keeps;
 use change_list::Rows;
 use cs_base::{Items, Memory};
-use cs_plans::Pred;
+use cs_model::Pred;
 use cs_types::Schema;
 use std::alloc::Global;
 

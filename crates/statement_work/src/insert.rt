@@ -10,7 +10,7 @@ ghost use Rattle.statement_work.specs.Gives.{GivesRows};
 use crate::refusal::WriteRefusal;
 use crate::write::{Edit, written_rows};
 use cs_base::{Items, Memory};
-use cs_plans::InsertPlan;
+use cs_model::InsertPlan;
 use cs_types::{Row, Schema, key_of};
 use std::alloc::Global;
 

@@ -2,14 +2,13 @@
 
 ghost use Rattle.std.specs.Prelude.{All, IfOk};
 ghost use Rattle.std.specs.Map.{values_of};
-ghost use Rattle.batch_aggregate.specs.Answers.{Gives, answer};
+ghost use Rattle.cs_model.specs.Queries.{Gives, answer};
 ghost use Rattle.cs_model.specs.Text.{IsPrintableRow};
 ghost use Rattle.cs_model.specs.Held.{IsHeld};
 
-use batch_aggregate::{AnswerRefusal, Partial};
+use batch_aggregate::Partial;
 use cs_base::Items;
-use cs_model::AnswerRow;
-use cs_plans::Query;
+use cs_model::{AnswerRefusal, AnswerRow, Query};
 use cs_types::{Key, Row, Schema};
 use std::alloc::Global;
 use std::collections::BTreeMap;

@@ -1,23 +1,22 @@
 //! The rows that an INSERT writes.
 
-ghost use Rattle.std.specs.Prelude.{◌≡◌, ◌<◌, ◌==◌, pos, ◌+ℤ◌, [], ◌∷◌, slice_get, unwrap_or, All, IfOk};
+ghost use Rattle.std.specs.Prelude.{◌≡◌, ◌<◌, ◌==◌, pos, ◌+◌, ◌+ℤ◌, length, [], ◌∷◌, slice_get, unwrap_or, All, IfOk};
 ghost use Rattle.std.specs.List.{position_from};
 ghost use Rattle.std.specs.Option.{option_copied};
 ghost use Rattle.cs_types.specs.Kinds.{IsColumnType};
 ghost use Rattle.cs_types.specs.Schemas.{IsSchema};
-ghost use Rattle.cs_predicate.specs.Expressions.{Computed, Gives};
+ghost use Rattle.cs_model.specs.Expressions.{Computed, Gives};
 ghost use Rattle.cs_model.specs.Held.{IsHeld};
 ghost use Rattle.cs_model.specs.Answers.{kept, computed_of, given, inserted_row, rows_from, series_len, series, inserted};
-ghost use Rattle.tsql_names.specs.Names.{series_schema};
+ghost use Rattle.cs_model.specs.Series.{series_schema};
 ghost use Rattle.statement_work.specs.Gives.{GivesCell, GivesRow, GivesRows};
 
 use crate::refusal::WriteRefusal;
 use cs_base::{Items, Memory};
-use cs_plans::{Expr, InsertPlan};
-use cs_predicate::{ExprRefusal, compute};
+use cs_model::{Expr, ExprRefusal, InsertPlan, series_schema};
+use cs_predicate::compute;
 use cs_types::{Column, Key, Loose, Row, Schema, Value, fits};
 use std::alloc::Global;
-use tsql_names::series_schema;
 
 /// What becomes of a key: a row, or nothing.
 pub type Edit = (Key, Option<Row>);
@@ -148,22 +147,18 @@ fn series_row(
     inserted_row(alloc, schema, source, columns, &read, row, exprs)
 }
 
-/// How many numbers a series has.
-fn series_len(start: i64, stop: i64) -> Result<u64, Memory>
-    ensures { IfOk result (λ count. count ≡ series_len start stop) }
+/// How many numbers a series has: at most 2^64.
+fn series_len(start: i64, stop: i64) -> u128
+    ensures { result ≡ series_len start stop }
 {
     if stop < start {
-        return Ok(0);
+        return 0;
     }
-    match stop.abs_diff(start).checked_add(1) {
-        Some(count) => Ok(count),
-        // The rows of all numbers find no room.
-        None => Err(Memory),
-    }
+    stop.abs_diff(start) as u128 + 1
 }
 
 /// The number of a series after i others.
-fn number_at(start: i64, stop: i64, i: u64) -> i64
+fn number_at(start: i64, stop: i64, i: u128) -> i64
     requires { i < series_len start stop }
     ensures { result ≡ start +ℤ pos i }
 {
@@ -171,6 +166,13 @@ fn number_at(start: i64, stop: i64, i: u64) -> i64
         Ok(number) => number,
         Err(_) => unreachable!(),
     }
+}
+
+/// The number of the row behind these, counted from 1.
+fn next_row(rows: &[Row]) -> u64
+    ensures { result ≡ length rows.now + 1 }
+{
+    rows.len() as u64 + 1
 }
 
 /// The rows over the numbers of a series.
@@ -186,11 +188,12 @@ fn series_rows(
     ensures { GivesRows (rows_from (λ number. inserted_row schema.now series_schema columns.now (Value.Number number ∷ []) exprs.now) 1 (series (start, stop))) result }
 {
     let source = series_schema(alloc)?;
-    let count = series_len(start, stop)?;
+    let count = series_len(start, stop);
     let mut written = Items::new(alloc);
     for i in 0..count {
         let number = number_at(start, stop, i);
-        let row = series_row(alloc, schema, &source, columns, number, i + 1, exprs)?;
+        let place = next_row(written.as_slice());
+        let row = series_row(alloc, schema, &source, columns, number, place, exprs)?;
         written.push(row)?;
     }
     Ok(written)

@@ -7,9 +7,10 @@ use Rattle.cs_model.specs.declared.entry.Bound.{Bound}
 use Rattle.cs_model.specs.declared.entry.Bound.TheVariants.{Refused}
 use Rattle.cs_model.specs.declared.entry.Refusal.TheVariants.{Reading}
 use Rattle.tsql_trees.specs.declared.statement.Statement.{Statement}
-use Rattle.tsql_reader.specs.declared.refusal.ReadRefusal.{ReadRefusal}
-use Rattle.tsql_reader.specs.declared.refusal.ReadRefusal.TheVariants as refusal
-use Rattle.tsql_reader.specs.Statements.{IsStatement, IsNoStatement, AnswersOnly}
+use Rattle.tsql_exprs.specs.declared.refusal.ReadRefusal.{ReadRefusal}
+use Rattle.tsql_exprs.specs.declared.refusal.ReadRefusal.TheVariants as refusal
+use Rattle.tsql_exprs.specs.Refusals.{AnswersOnly}
+use Rattle.tsql_reader.specs.Statements.{IsStatement, IsNoStatement}
 use Rattle.tsql_binder.specs.Meaning.{bound_of, bound_or, Means}
 
 module _ (schema : Schema) (text : List ℕ) where

@@ -7,11 +7,11 @@ use Rattle.cs_model.specs.declared.entry.Refusal.TheVariants.{Reading}
 use Rattle.tsql_trees.specs.declared.statement.Statement.{Statement}
 use Rattle.tsql_trees.specs.declared.statement.Statement.TheVariants as statements
 use Rattle.tsql_reader.specs.Statements.{IsStatement, IsNoStatement}
-use Rattle.tsql_faults.specs.declared.fault.Fault.{Fault}
-use Rattle.tsql_faults.specs.Least.{fault}
-use Rattle.tsql_faults.specs.Faults.{first_fault}
-use Rattle.tsql_plans.specs.Preds.{filter_of}
-use Rattle.tsql_plans.specs.Plans.{insert_plan, update_plan, query}
+use Rattle.bind_faults.specs.declared.fault.Fault.{Fault}
+use Rattle.bind_faults.specs.Least.{fault}
+use Rattle.bind_faults.specs.Faults.{first_fault}
+use Rattle.bind_forms.specs.Preds.{filter_of}
+use Rattle.bind_forms.specs.Plans.{insert_plan, update_plan, query}
 use Rattle.tsql_binder.specs.declared.refusal.BindRefusal.{BindRefusal}
 use Rattle.tsql_binder.specs.declared.refusal.BindRefusal.TheVariants.{At, Memory}
 use Rattle.tsql_binder.specs.Postponed.{is_postponed}

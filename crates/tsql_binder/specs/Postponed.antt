@@ -6,7 +6,7 @@ use Rattle.tsql_trees.specs.declared.leaf.NameTree.{NameTree}
 use Rattle.tsql_trees.specs.declared.leaf.TableTree.{TableTree}
 use Rattle.tsql_trees.specs.declared.statement.Statement.{Statement}
 use Rattle.tsql_trees.specs.declared.statement.Statement.TheVariants as statements
-use Rattle.tsql_names.specs.Names.{same_name}
+use Rattle.cs_base.specs.Names.{same_name}
 
 -- ---- reports, known by the last part of their names behind sys
 

@@ -3,7 +3,7 @@
 ghost use Rattle.std.specs.Prelude.{◌≡◌};
 ghost use Rattle.tsql_binder.specs.Postponed as spec;
 
-use tsql_names::is_same_name;
+use cs_base::is_same_name;
 use tsql_trees::{Statement, TableTree};
 
 /// The names of the reports, behind `sys.`.

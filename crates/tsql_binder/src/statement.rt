@@ -2,19 +2,21 @@
 
 ghost use Rattle.std.specs.Prelude.{◌≡◌, ◌≤◌, ℕ, List, length, Result, IfOk};
 ghost use Rattle.cs_model.specs.declared.entry.Bound.{Bound};
-ghost use Rattle.tsql_reader.specs.Statements.{IsNoStatement, RefusesStatement, AnswersOnly};
-ghost use Rattle.tsql_faults.specs.declared.fault.Fault.{Fault};
+ghost use Rattle.tsql_exprs.specs.Refusals.{AnswersOnly};
+ghost use Rattle.tsql_reader.specs.Statements.{IsNoStatement, RefusesStatement};
+ghost use Rattle.bind_faults.specs.declared.fault.Fault.{Fault};
 ghost use Rattle.tsql_binder.specs.Meaning.{plan_of, bound_of, bound_or, Means, GivesBound};
 
 use crate::postponed::is_postponed;
 use crate::refusal::BindRefusal;
-use cs_base::Memory;
+use bind_faults::{Fault, first_fault};
+use bind_forms::{filter_of, insert_plan, query, update_plan};
+use cs_base::{Boxed, Memory};
 use cs_model::{Bound, Refusal};
 use cs_types::Schema;
 use std::alloc::Global;
-use tsql_faults::{Fault, first_fault};
-use tsql_plans::{filter_of, insert_plan, query, update_plan};
-use tsql_reader::{ReadRefusal, read_statement};
+use tsql_exprs::ReadRefusal;
+use tsql_reader::read_statement;
 use tsql_trees::Statement;
 
 /// What a form that comes later is refused for.
@@ -32,37 +34,35 @@ fn plan_of(alloc: Global, schema: &Schema, statement: &Statement) -> Result<Boun
         Statement::Commit => Ok(Bound::Commit),
         Statement::Rollback => Ok(Bound::Rollback),
         Statement::SetSnapshot | Statement::SetLockTimeout { .. } => Ok(Bound::Nothing),
-        Statement::Insert { names, source, .. } => Ok(Bound::Insert(insert_plan(
-            alloc,
-            schema,
-            names.as_ref(),
-            source,
-        )?)),
-        Statement::Update { sets, filter, .. } => Ok(Bound::Update(update_plan(
-            alloc,
-            schema,
-            sets,
-            filter.as_ref(),
-        )?)),
-        Statement::Delete { filter, .. } => Ok(Bound::Delete(filter_of(
-            alloc,
-            schema,
-            filter.as_ref(),
-        )?)),
+        Statement::Insert { names, source, .. } => {
+            let plan = insert_plan(alloc, schema, names.as_ref(), source)?;
+            Ok(Bound::Insert(Boxed::new(alloc, plan)?))
+        }
+        Statement::Update { sets, filter, .. } => {
+            let plan = update_plan(alloc, schema, sets, filter.as_ref())?;
+            Ok(Bound::Update(Boxed::new(alloc, plan)?))
+        }
+        Statement::Delete { filter, .. } => {
+            let condition = filter_of(alloc, schema, filter.as_ref())?;
+            Ok(Bound::Delete(Boxed::new(alloc, condition)?))
+        }
         Statement::Select {
             items,
             filter,
             groups,
             order,
             ..
-        } => Ok(Bound::Select(query(
-            alloc,
-            schema,
-            items,
-            filter.as_ref(),
-            groups.as_ref(),
-            order.as_ref(),
-        )?)),
+        } => {
+            let query = query(
+                alloc,
+                schema,
+                items,
+                filter.as_ref(),
+                groups.as_ref(),
+                order.as_ref(),
+            )?;
+            Ok(Bound::Select(Boxed::new(alloc, query)?))
+        }
         // The forms that come later.
         _ => Ok(refused(LATER.number, LATER.at)),
     }

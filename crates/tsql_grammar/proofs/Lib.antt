@@ -5,3 +5,4 @@ pub mod Whole
 pub mod Loops
 pub mod Written
 pub mod Lines
+pub mod Names

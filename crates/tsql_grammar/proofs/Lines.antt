@@ -15,8 +15,8 @@ use Rattle.tsql_grammar.specs.declared.terminal.Terminal.TheVariants as terminal
 use Rattle.tsql_grammar.specs.declared.terminal.Symbol.{Symbol}
 use Rattle.tsql_grammar.specs.Terminals.{subset}
 use Rattle.tsql_grammar.specs.Forms.{Form}
-use Rattle.tsql_grammar.specs.Values.{name_of, number_of, sign_of, signed, text_of, factor_of, null_of, nested_of, times_of, term_of, expr_of, is_some, is_odd, null_const, cmp_of, nested_pred, neg_of, conj_of, pred_of, table_of, row_of, series_of, set_of, all_of, oitem_of, is_on, begin_of, commit_of, rollback_of, snapshot_of, all_indexes, one_index, alter_of, insert_of, update_of, delete_of, select_of}
-use Rattle.tsql_grammar.specs.Grammar.{all_names, other_names, column_aggregates, begins_part, begins_primary, atom_lines, item_lines, set_lines, with_left, with_name, with_low, with_list, with_pattern, with_null, with_not, applied, applied_const, counted_star, counted_name, named_or, name, sign, unsigned, literal, table, names, whole, constant, operand, cmp, maybe_not, compared, between, within_list, like, tested, maybe_tested, is_null, after_name, atom_read, atom, nots, neg_from, conj_from, pred_from, part_at, pred, plain, times, factor_from, term_from, expr_from, primary_at, expr, row, counted, aggregated, item_read, item, items, oitem, where_part, on_off, values, series, set_part, index, group_part, order_part, begin_statement, commit_statement, rollback_statement, set_snapshot, set_statistics, set_lock_timeout, set_read, set_statement, compress_part, alter_statement, insert_statement, update_statement, delete_statement, select_statement, statement, line}
+use Rattle.tsql_grammar.specs.Values.{name_of, number_of, sign_of, signed, text_of, factor_of, null_of, nested_of, times_of, term_of, expr_of, is_some, is_odd, null_const, cmp_of, nested_pred, neg_of, conj_of, pred_of, table_of, row_of, series_of, set_of, all_of, oitem_of, is_on, begin_of, commit_of, rollback_of, snapshot_of, all_indexes, one_index, alter_of, insert_of, update_of, delete_of, select_of, plain_of, decimal_of, varchar_of}
+use Rattle.tsql_grammar.specs.Grammar.{all_names, other_names, column_aggregates, begins_part, begins_primary, atom_lines, item_lines, set_lines, with_left, with_name, with_low, with_list, with_pattern, with_null, with_not, applied, applied_const, counted_star, counted_name, named_or, name, sign, unsigned, literal, table, names, whole, constant, operand, cmp, maybe_not, compared, between, within_list, like, tested, maybe_tested, is_null, after_name, atom_read, atom, nots, neg_from, conj_from, pred_from, part_at, pred, plain, times, factor_from, term_from, expr_from, primary_at, expr, row, counted, aggregated, item_read, item, items, oitem, where_part, on_off, values, series, set_part, index, group_part, order_part, begin_statement, commit_statement, rollback_statement, set_snapshot, set_statistics, set_lock_timeout, set_read, set_statement, compress_part, alter_index, alter_statement, insert_statement, update_statement, delete_statement, select_statement, statement, line, plain_types, decimal_types, digits_part, size_part, column_type}
 use Rattle.tsql_grammar.proofs.Laws.{Laws}
 use Rattle.tsql_grammar.proofs.Makers.{one_of, made, both, choose, maybe, repeated, declared_laws, word_laws, behind_laws, maybe_behind_laws, within_laws, listed_laws}
 use Rattle.tsql_grammar.proofs.Written.{written_laws, atom_to, atom_from, item_to, item_from, set_to, set_from}
@@ -48,6 +48,20 @@ names_laws text = listed_laws (name_laws text) refl refl
 pub whole_laws : (text : List ℕ) → Laws (whole text)
 unfolding name sign unsigned literal table names whole
 whole_laws text = made signed (both (maybe sign_laws refl) (unsigned_laws text) refl)
+
+pub digits_part_laws : (text : List ℕ) → Laws (digits_part text)
+unfolding unsigned digits_part
+digits_part_laws text = within_laws (both (unsigned_laws text) (maybe (behind_laws terminal.CommaSign refl (unsigned_laws text)) refl) refl) refl
+
+pub size_part_laws : (text : List ℕ) → Laws (size_part text)
+unfolding unsigned size_part
+size_part_laws text = within_laws (unsigned_laws text) refl
+
+pub column_type_laws : (text : List ℕ) → Laws (column_type text)
+unfolding unsigned digits_part size_part column_type
+column_type_laws text = choose (made plain_of (one_of plain_types terminal.Int refl))
+    (choose (made decimal_of (both (one_of decimal_types terminal.Decimal refl) (maybe (digits_part_laws text) refl) refl))
+    (made varchar_of (both (word_laws terminal.Varchar refl) (maybe (size_part_laws text) refl) refl)) refl refl refl) refl refl refl
 
 pub constant_laws : (text : List ℕ) → Laws (constant text)
 unfolding name sign unsigned literal table names whole constant
@@ -301,36 +315,40 @@ pub compress_part_laws : Laws compress_part
 unfolding name sign unsigned literal table names whole constant operand cmp maybe_not compared between within_list like tested maybe_tested is_null after_name atom_read atom nots neg_from conj_from pred_from part_at pred plain times factor_from term_from expr_from primary_at expr row counted aggregated item_read item items oitem where_part on_off values series set_part index group_part order_part begin_statement commit_statement rollback_statement set_snapshot set_statistics set_lock_timeout set_read set_statement compress_part
 compress_part_laws = behind_laws terminal.With refl (within_laws (behind_laws terminal.CompressAllRowGroups refl (behind_laws terminal.EqualSign refl on_off_laws)) refl)
 
+pub alter_index_laws : (text : List ℕ) → Laws (alter_index text)
+unfolding name sign unsigned literal table names whole constant operand cmp maybe_not compared between within_list like tested maybe_tested is_null after_name atom_read atom nots neg_from conj_from pred_from part_at pred plain times factor_from term_from expr_from primary_at expr row counted aggregated item_read item items oitem where_part on_off values series set_part index group_part order_part begin_statement commit_statement rollback_statement set_snapshot set_statistics set_lock_timeout set_read set_statement compress_part alter_index
+alter_index_laws text = made alter_of (behind_laws terminal.Index refl (both (index_laws text)
+    (behind_laws terminal.On refl (both (table_laws text) (behind_laws terminal.Reorganize refl (maybe compress_part_laws refl)) refl)) refl))
+
 pub alter_statement_laws : (text : List ℕ) → Laws (alter_statement text)
-unfolding name sign unsigned literal table names whole constant operand cmp maybe_not compared between within_list like tested maybe_tested is_null after_name atom_read atom nots neg_from conj_from pred_from part_at pred plain times factor_from term_from expr_from primary_at expr row counted aggregated item_read item items oitem where_part on_off values series set_part index group_part order_part begin_statement commit_statement rollback_statement set_snapshot set_statistics set_lock_timeout set_read set_statement compress_part alter_statement
-alter_statement_laws text = made alter_of (behind_laws terminal.Alter refl (behind_laws terminal.Index refl (both (index_laws text)
-    (behind_laws terminal.On refl (both (table_laws text) (behind_laws terminal.Reorganize refl (maybe compress_part_laws refl)) refl)) refl)))
+unfolding name sign unsigned literal table names whole constant operand cmp maybe_not compared between within_list like tested maybe_tested is_null after_name atom_read atom nots neg_from conj_from pred_from part_at pred plain times factor_from term_from expr_from primary_at expr row counted aggregated item_read item items oitem where_part on_off values series set_part index group_part order_part begin_statement commit_statement rollback_statement set_snapshot set_statistics set_lock_timeout set_read set_statement compress_part alter_index alter_statement
+alter_statement_laws text = behind_laws terminal.Alter refl (alter_index_laws text)
 
 pub insert_statement_laws : (text : List ℕ) (n : ℕ) → Laws (insert_statement text n)
-unfolding name sign unsigned literal table names whole constant operand cmp maybe_not compared between within_list like tested maybe_tested is_null after_name atom_read atom nots neg_from conj_from pred_from part_at pred plain times factor_from term_from expr_from primary_at expr row counted aggregated item_read item items oitem where_part on_off values series set_part index group_part order_part begin_statement commit_statement rollback_statement set_snapshot set_statistics set_lock_timeout set_read set_statement compress_part alter_statement insert_statement
+unfolding name sign unsigned literal table names whole constant operand cmp maybe_not compared between within_list like tested maybe_tested is_null after_name atom_read atom nots neg_from conj_from pred_from part_at pred plain times factor_from term_from expr_from primary_at expr row counted aggregated item_read item items oitem where_part on_off values series set_part index group_part order_part begin_statement commit_statement rollback_statement set_snapshot set_statistics set_lock_timeout set_read set_statement compress_part alter_index alter_statement insert_statement
 insert_statement_laws text n = made insert_of (behind_laws terminal.Insert refl (maybe_behind_laws terminal.Into refl (both (table_laws text)
     (both (maybe (within_laws (names_laws text) refl) refl) (choose (values_laws text n) (series_laws text n) refl refl refl) refl) refl) refl))
 
 pub update_statement_laws : (text : List ℕ) (n : ℕ) → Laws (update_statement text n)
-unfolding name sign unsigned literal table names whole constant operand cmp maybe_not compared between within_list like tested maybe_tested is_null after_name atom_read atom nots neg_from conj_from pred_from part_at pred plain times factor_from term_from expr_from primary_at expr row counted aggregated item_read item items oitem where_part on_off values series set_part index group_part order_part begin_statement commit_statement rollback_statement set_snapshot set_statistics set_lock_timeout set_read set_statement compress_part alter_statement insert_statement update_statement
+unfolding name sign unsigned literal table names whole constant operand cmp maybe_not compared between within_list like tested maybe_tested is_null after_name atom_read atom nots neg_from conj_from pred_from part_at pred plain times factor_from term_from expr_from primary_at expr row counted aggregated item_read item items oitem where_part on_off values series set_part index group_part order_part begin_statement commit_statement rollback_statement set_snapshot set_statistics set_lock_timeout set_read set_statement compress_part alter_index alter_statement insert_statement update_statement
 update_statement_laws text n = made update_of (behind_laws terminal.Update refl (both (table_laws text)
     (behind_laws terminal.Set refl (both (listed_laws (set_part_laws text n) refl refl) (maybe (where_part_laws text n) refl) refl)) refl))
 
 pub delete_statement_laws : (text : List ℕ) (n : ℕ) → Laws (delete_statement text n)
-unfolding name sign unsigned literal table names whole constant operand cmp maybe_not compared between within_list like tested maybe_tested is_null after_name atom_read atom nots neg_from conj_from pred_from part_at pred plain times factor_from term_from expr_from primary_at expr row counted aggregated item_read item items oitem where_part on_off values series set_part index group_part order_part begin_statement commit_statement rollback_statement set_snapshot set_statistics set_lock_timeout set_read set_statement compress_part alter_statement insert_statement update_statement delete_statement
+unfolding name sign unsigned literal table names whole constant operand cmp maybe_not compared between within_list like tested maybe_tested is_null after_name atom_read atom nots neg_from conj_from pred_from part_at pred plain times factor_from term_from expr_from primary_at expr row counted aggregated item_read item items oitem where_part on_off values series set_part index group_part order_part begin_statement commit_statement rollback_statement set_snapshot set_statistics set_lock_timeout set_read set_statement compress_part alter_index alter_statement insert_statement update_statement delete_statement
 delete_statement_laws text n = made delete_of (behind_laws terminal.Delete refl (maybe_behind_laws terminal.From refl (both (table_laws text) (maybe (where_part_laws text n) refl) refl) refl))
 
 pub select_statement_laws : (text : List ℕ) (n : ℕ) → Laws (select_statement text n)
-unfolding name sign unsigned literal table names whole constant operand cmp maybe_not compared between within_list like tested maybe_tested is_null after_name atom_read atom nots neg_from conj_from pred_from part_at pred plain times factor_from term_from expr_from primary_at expr row counted aggregated item_read item items oitem where_part on_off values series set_part index group_part order_part begin_statement commit_statement rollback_statement set_snapshot set_statistics set_lock_timeout set_read set_statement compress_part alter_statement insert_statement update_statement delete_statement select_statement
+unfolding name sign unsigned literal table names whole constant operand cmp maybe_not compared between within_list like tested maybe_tested is_null after_name atom_read atom nots neg_from conj_from pred_from part_at pred plain times factor_from term_from expr_from primary_at expr row counted aggregated item_read item items oitem where_part on_off values series set_part index group_part order_part begin_statement commit_statement rollback_statement set_snapshot set_statistics set_lock_timeout set_read set_statement compress_part alter_index alter_statement insert_statement update_statement delete_statement select_statement
 select_statement_laws text n = made select_of (behind_laws terminal.Select refl (both (items_laws text) (behind_laws terminal.From refl (both (table_laws text)
     (both (maybe (where_part_laws text n) refl) (both (maybe (group_part_laws text) refl) (maybe (order_part_laws text) refl) refl) refl) refl)) refl))
 
 pub statement_laws : (text : List ℕ) (n : ℕ) → Laws (statement text n)
-unfolding name sign unsigned literal table names whole constant operand cmp maybe_not compared between within_list like tested maybe_tested is_null after_name atom_read atom nots neg_from conj_from pred_from part_at pred plain times factor_from term_from expr_from primary_at expr row counted aggregated item_read item items oitem where_part on_off values series set_part index group_part order_part begin_statement commit_statement rollback_statement set_snapshot set_statistics set_lock_timeout set_read set_statement compress_part alter_statement insert_statement update_statement delete_statement select_statement statement
+unfolding name sign unsigned literal table names whole constant operand cmp maybe_not compared between within_list like tested maybe_tested is_null after_name atom_read atom nots neg_from conj_from pred_from part_at pred plain times factor_from term_from expr_from primary_at expr row counted aggregated item_read item items oitem where_part on_off values series set_part index group_part order_part begin_statement commit_statement rollback_statement set_snapshot set_statistics set_lock_timeout set_read set_statement compress_part alter_index alter_statement insert_statement update_statement delete_statement select_statement statement
 statement_laws text n = choose begin_statement_laws (choose commit_statement_laws (choose rollback_statement_laws (choose (set_statement_laws text)
     (choose (alter_statement_laws text) (choose (insert_statement_laws text n) (choose (update_statement_laws text n)
     (choose (delete_statement_laws text n) (select_statement_laws text n) refl refl refl) refl refl refl) refl refl refl) refl refl refl) refl refl refl) refl refl refl) refl refl refl) refl refl refl
 
 pub line_laws : (text : List ℕ) (n : ℕ) → Laws (line text n)
-unfolding name sign unsigned literal table names whole constant operand cmp maybe_not compared between within_list like tested maybe_tested is_null after_name atom_read atom nots neg_from conj_from pred_from part_at pred plain times factor_from term_from expr_from primary_at expr row counted aggregated item_read item items oitem where_part on_off values series set_part index group_part order_part begin_statement commit_statement rollback_statement set_snapshot set_statistics set_lock_timeout set_read set_statement compress_part alter_statement insert_statement update_statement delete_statement select_statement statement line
+unfolding name sign unsigned literal table names whole constant operand cmp maybe_not compared between within_list like tested maybe_tested is_null after_name atom_read atom nots neg_from conj_from pred_from part_at pred plain times factor_from term_from expr_from primary_at expr row counted aggregated item_read item items oitem where_part on_off values series set_part index group_part order_part begin_statement commit_statement rollback_statement set_snapshot set_statistics set_lock_timeout set_read set_statement compress_part alter_index alter_statement insert_statement update_statement delete_statement select_statement statement line
 line_laws text n = made (λ (x : Statement × Option Symbol). x.0) (both (statement_laws text n) (maybe (word_laws terminal.SemicolonSign refl) refl) refl)

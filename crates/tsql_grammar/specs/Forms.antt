@@ -94,16 +94,17 @@ abbrev pub ManyHas : {X : Type 0} → Form X → Symbols → List X → Type 0
 ManyHas a ts [] = ts ≡ []
 ManyHas a ts (x ∷ xs) = (u : Symbols) × (v : Symbols) × (ts ≡ u ++ v) × a.Has u x × ManyHas a v xs
 
-abbrev pub many_reads : {X : Type 0} → Form X → ℕ → Symbols → Reading (List X)
-many_reads a zero ts = Ok ([], ts)
-many_reads a (suc n) ts =
-    if next_among a.first ts then (a.reads ts >>= λ x. many_reads a n x.1 >>= λ xs. Ok (x.0 ∷ xs.0, xs.1))
+-- at most so many, each of which begins with one of some kinds
+abbrev pub many_reads : {X : Type 0} → List Terminal → (Symbols → Reading X) → ℕ → Symbols → Reading (List X)
+many_reads first reads zero ts = Ok ([], ts)
+many_reads first reads (suc n) ts =
+    if next_among first ts then (reads ts >>= λ x. many_reads first reads n x.1 >>= λ xs. Ok (x.0 ∷ xs.0, xs.1))
     else Ok ([], ts)
 
 abbrev pub many : {X : Type 0} → Form X → Form (List X)
 many a = record {
   Has = ManyHas a;
-  reads = λ ts. many_reads a (length ts) ts;
+  reads = λ ts. many_reads a.first a.reads (length ts) ts;
   first = a.first;
   goes = a.first ++ a.goes;
   empty = true;

@@ -6,6 +6,7 @@ use Rattle.tsql_trees.specs.declared.leaf.NumberTree.{NumberTree}
 use Rattle.tsql_trees.specs.declared.leaf.TextTree.{TextTree}
 use Rattle.tsql_trees.specs.declared.leaf.SignTree.{SignTree}
 use Rattle.tsql_trees.specs.declared.leaf.TableTree.{TableTree}
+use Rattle.tsql_trees.specs.declared.column.TypeTree.{TypeTree}
 use Rattle.tsql_trees.specs.declared.expr.ExprTree.{ExprTree}
 use Rattle.tsql_trees.specs.declared.expr.TermTree.{TermTree}
 use Rattle.tsql_trees.specs.declared.expr.FactorTree.{FactorTree}
@@ -38,7 +39,7 @@ use Rattle.tsql_grammar.specs.declared.terminal.Terminal.{Terminal}
 use Rattle.tsql_grammar.specs.declared.terminal.Terminal.TheVariants.{All, Alter, And, Asc, Begin, Between, By, Commit, Delete, Desc, From, Group, In, Index, Insert, Into, Is, Like, Not, Null, Off, On, Or, Order, Rollback, Select, Set, Tran, Transaction, Update, Values, Where, With, Plain, Work, Isolation, Level, Snapshot, Statistics, Io, LockTimeout, Reorganize, CompressAllRowGroups, GenerateSeries, Count, Sum, Min, Max, Avg, Tinyint, Smallint, Int, Integer, Bigint, Date, Decimal, Numeric, Varchar, Columnstore, OpenSign, CloseSign, CommaSign, PointSign, SemicolonSign, StarSign, PlusSign, MinusSign, SlashSign, PercentSign, EqualSign, UnequalSign, BangEqualSign, LessSign, LessEqualSign, GreaterSign, GreaterEqualSign, Number, Text}
 use Rattle.tsql_grammar.specs.declared.terminal.Symbol.{Symbol}
 use Rattle.tsql_grammar.specs.Forms.{Form, token, mapped, seq, either, optional, many, declared, written}
-use Rattle.tsql_grammar.specs.Values.{name_of, number_of, sign_of, signed, text_of, factor_of, null_of, nested_of, times_of, term_of, expr_of, is_some, is_odd, null_const, cmp_of, compare_of, between_of, in_of, like_of, is_null_of, nested_pred, neg_of, conj_of, pred_of, table_of, row_of, series_of, set_of, aggregate_of, count_all_of, all_of, oitem_of, is_on, begin_of, commit_of, rollback_of, snapshot_of, all_indexes, one_index, alter_of, insert_of, update_of, delete_of, select_of}
+use Rattle.tsql_grammar.specs.Values.{name_of, number_of, sign_of, signed, text_of, factor_of, null_of, nested_of, times_of, term_of, expr_of, is_some, is_odd, null_const, cmp_of, compare_of, between_of, in_of, like_of, is_null_of, nested_pred, neg_of, conj_of, pred_of, table_of, row_of, series_of, set_of, aggregate_of, count_all_of, all_of, oitem_of, is_on, begin_of, commit_of, rollback_of, snapshot_of, all_indexes, one_index, alter_of, insert_of, update_of, delete_of, select_of, plain_of, decimal_of, varchar_of}
 
 -- ---- ways to write lines
 
@@ -251,6 +252,31 @@ primary_at text (suc n) =
 unfoldable pub expr : List ℕ → ℕ → Form ExprTree
 expr text n = expr_from (begins_primary (primary_at text n))
 
+-- ---- columns' types
+
+abbrev pub plain_types : List Terminal
+plain_types = Tinyint ∷ Smallint ∷ Int ∷ Integer ∷ Bigint ∷ Date ∷ []
+
+abbrev pub decimal_types : List Terminal
+decimal_types = Decimal ∷ Numeric ∷ []
+
+-- "(" number ["," number] ")"
+unfoldable pub digits_part : List ℕ → Form (NumberTree × Option NumberTree)
+digits_part text = within (seq (unsigned text) (optional (behind CommaSign (unsigned text))))
+
+-- "(" number ")"
+unfoldable pub size_part : List ℕ → Form NumberTree
+size_part text = within (unsigned text)
+
+-- type = TINYINT | SMALLINT | INT | INTEGER | BIGINT | DATE
+--      | (DECIMAL | NUMERIC) ["(" number ["," number] ")"]
+--      | VARCHAR ["(" number ")"]
+unfoldable pub column_type : List ℕ → Form TypeTree
+column_type text =
+    either (mapped plain_of (token plain_types))
+    (either (mapped decimal_of (seq (token decimal_types) (optional (digits_part text))))
+    (mapped varchar_of (seq (word Varchar) (optional (size_part text)))))
+
 -- ---- parts of statements
 
 -- row = "(" expr {"," expr} ")"
@@ -377,9 +403,13 @@ set_statement text = written (set_lines text) (set_read text)
 unfoldable pub compress_part : Form Bool
 compress_part = behind With (within (behind CompressAllRowGroups (behind EqualSign on_off)))
 
+-- INDEX (ALL | name) ON table REORGANIZE ..
+unfoldable pub alter_index : List ℕ → Form Statement
+alter_index text = mapped alter_of (behind Index (seq (index text) (behind On (seq (table text) (behind Reorganize (optional compress_part))))))
+
+-- ALTER and what is altered
 unfoldable pub alter_statement : List ℕ → Form Statement
-alter_statement text =
-    mapped alter_of (behind Alter (behind Index (seq (index text) (behind On (seq (table text) (behind Reorganize (optional compress_part)))))))
+alter_statement text = behind Alter (alter_index text)
 
 -- INSERT [INTO] table ["(" names ")"] (VALUES .. | SELECT ..)
 unfoldable pub insert_statement : List ℕ → ℕ → Form Statement

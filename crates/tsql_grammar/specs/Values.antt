@@ -6,13 +6,17 @@ use Rattle.tsql_trees.specs.declared.leaf.NumberTree.{NumberTree}
 use Rattle.tsql_trees.specs.declared.leaf.TextTree.{TextTree}
 use Rattle.tsql_trees.specs.declared.leaf.SignTree.{SignTree}
 use Rattle.tsql_trees.specs.declared.leaf.TableTree.{TableTree}
+use Rattle.tsql_trees.specs.declared.column.TypeTree.{TypeTree}
+use Rattle.tsql_trees.specs.declared.column.TypeTree.TheVariants as types
+use Rattle.tsql_trees.specs.declared.column.PlainType.{PlainType}
+use Rattle.tsql_trees.specs.declared.column.PlainType.TheVariants as plain_types
 use Rattle.tsql_trees.specs.declared.expr.ExprTree.{ExprTree, roll-ExprTree}
 use Rattle.tsql_trees.specs.declared.expr.TermTree.{TermTree, roll-TermTree}
 use Rattle.tsql_trees.specs.declared.expr.FactorTree.{FactorTree, roll-FactorTree}
 use Rattle.tsql_trees.specs.declared.expr.PrimaryTree.{PrimaryTree}
 use Rattle.tsql_trees.specs.declared.expr.PrimaryTree.TheVariants as primaries
-use Rattle.tsql_trees.specs.declared.expr.Times.{Times}
-use Rattle.tsql_trees.specs.declared.expr.Times.TheVariants as times
+use Rattle.tsql_trees.specs.declared.expr.TimesSign.{TimesSign}
+use Rattle.tsql_trees.specs.declared.expr.TimesSign.TheVariants as times
 use Rattle.tsql_trees.specs.declared.expr.TimesTree.{TimesTree}
 use Rattle.tsql_trees.specs.declared.pred.PredTree.{PredTree, roll-PredTree}
 use Rattle.tsql_trees.specs.declared.pred.ConjTree.{ConjTree, roll-ConjTree}
@@ -108,13 +112,13 @@ null_of t = primaries.Null t.place
 abbrev pub nested_of : Symbol × (ExprTree × Symbol) → PrimaryTree
 nested_of (opened, (expr, close)) = primaries.Nested opened.place expr
 
-abbrev pub times_in : Terminal → Times
-times_in terminal.StarSign = times.Multiply
-times_in terminal.SlashSign = times.Divide
-times_in _ = times.Remainder
+abbrev pub times_in : Terminal → TimesSign
+times_in terminal.StarSign = times.Star
+times_in terminal.SlashSign = times.Slash
+times_in _ = times.Percent
 
 abbrev pub times_of : Symbol → TimesTree
-times_of t = record { place = t.place; times = times_in t.terminal }
+times_of t = record { place = t.place; sign = times_in t.terminal }
 
 abbrev pub term_of : FactorTree × List (TimesTree × FactorTree) → TermTree
 term_of (first, rest) = roll-TermTree (record { first = first; rest = rest })
@@ -246,3 +250,21 @@ delete_of (table, filter) = statements.Delete table filter
 
 abbrev pub select_of : ItemsTree × (TableTree × (Option PredTree × (Option (List NameTree) × Option (List OitemTree)))) → Statement
 select_of (items, (table, (filter, (groups, order)))) = statements.Select items table filter groups order
+
+-- ---- columns' types
+
+abbrev pub plain_in : Terminal → PlainType
+plain_in terminal.Tinyint = plain_types.TinyInt
+plain_in terminal.Smallint = plain_types.SmallInt
+plain_in terminal.Bigint = plain_types.BigInt
+plain_in terminal.Date = plain_types.Date
+plain_in _ = plain_types.Int
+
+abbrev pub plain_of : Symbol → TypeTree
+plain_of t = types.Plain t.place (plain_in t.terminal)
+
+abbrev pub decimal_of : Symbol × Option (NumberTree × Option NumberTree) → TypeTree
+decimal_of (t, digits) = types.Decimal t.place digits
+
+abbrev pub varchar_of : Symbol × Option NumberTree → TypeTree
+varchar_of (t, size) = types.VarChar t.place size

@@ -9,4 +9,4 @@ mod terminal;
 mod words;
 
 pub use terminal::{Symbol, Terminal, is_same};
-pub use words::{bytes_at, symbols, unbracketed};
+pub use words::{bytes_at, names_are_listed, symbols, unbracketed};

@@ -1,6 +1,8 @@
 //! Which terminal a token is.
 
-ghost use Rattle.std.specs.Prelude.{◌≡◌, ◌+◌, ◌<◌, ◌≤◌, ◌^◌, length, All, IfOk, take};
+ghost use Rattle.std.specs.Prelude.{◌≡◌, ◌+◌, ◌<◌, ◌≤◌, ◌^◌, ℕ, List, true, length, All, IfOk, take};
+ghost use Rattle.tsql_grammar.specs.Terminals.{among};
+ghost use Rattle.tsql_grammar.specs.Grammar.{all_names};
 ghost use Rattle.tsql_grammar.specs.Words.{is_word, looked_up, or_else, bytes_at, unbracketed, reserved_terminal, name_terminal, sign_terminal, terminal_of, symbol_of, symbols_of, reserved_1, reserved_2, reserved_3, reserved_4, reserved_5, placed_1, placed_2, placed_3, signs_1, signs_2};
 ghost use Rattle.tsql_tokens.specs.Tokens.{IsSpan};
 
@@ -300,6 +302,11 @@ fn name_terminal(bytes: &[u8]) -> Terminal
         None => Terminal::Plain,
     }
 }
+
+/// The law of the names that are known by their places: the terminal of each name is in the one list of names.
+pub fn names_are_listed()
+    ensures { (bytes : List ℕ) → among (name_terminal bytes) all_names ≡ true }
+{}
 
 /// The terminal of a sign.
 #[tactic(auto, unfolding(crate::specs::Words::sign_terminal))]

@@ -14,10 +14,11 @@ use Rattle.tsql_grammar.specs.Words.{symbols_of}
 use Rattle.tsql_grammar.proofs.Laws.{Laws}
 use Rattle.tsql_grammar.proofs.Lines.{line_laws}
 use Rattle.tsql_grammar.proofs.Whole.{whole_ok, whole_only, whole_err, one_place}
-use Rattle.tsql_reader.specs.declared.refusal.ReadRefusal.{ReadRefusal}
-use Rattle.tsql_reader.specs.declared.refusal.ReadRefusal.TheVariants as refusal
+use Rattle.tsql_exprs.specs.declared.refusal.ReadRefusal.{ReadRefusal}
+use Rattle.tsql_exprs.specs.declared.refusal.ReadRefusal.TheVariants as refusal
+use Rattle.tsql_exprs.specs.Refusals.{number_at, place_at, AnswersOnly}
 use Rattle.tsql_reader.specs.Limits.{passed_limit}
-use Rattle.tsql_reader.specs.Statements.{grammar, IsStatement, number_at, place_at, StopsAt, PassesAt, IsNoStatement, RefusesStatement, AnswersOnly, FollowsTokens}
+use Rattle.tsql_reader.specs.Statements.{grammar, IsStatement, StopsAt, PassesAt, IsNoStatement, RefusesStatement, FollowsTokens}
 
 grammar_laws : (text : List ℕ) → Laws (grammar text)
 unfolding grammar

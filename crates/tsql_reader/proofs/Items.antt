@@ -5,8 +5,8 @@ use Rattle.tsql_grammar.specs.declared.terminal.Terminal.{Terminal}
 use Rattle.tsql_grammar.specs.declared.terminal.Symbol.{Symbol}
 use Rattle.tsql_grammar.specs.Forms.{Symbols, Reading, ◌>>=◌, next_among, Form, token, mapped, seq, optional}
 use Rattle.tsql_grammar.specs.Grammar.{named_or}
-use Rattle.tsql_phrases.specs.declared.error.ReadError.{ReadError}
-use Rattle.tsql_phrases.specs.Steps.{Steps}
+use Rattle.tsql_exprs.specs.declared.error.ReadError.{ReadError}
+use Rattle.tsql_exprs.specs.Steps.{Steps}
 
 with_some : (text : List ℕ) (t : Symbol) (read : Reading (Symbol → ItemTree)) (r : Result ItemTree ReadError) (rest : Symbols)
     → Steps r rest (read >>= λ x. Ok (x.0 t, x.1))

@@ -9,8 +9,9 @@ use Rattle.tsql_grammar.specs.Forms.{Symbols, Form}
 use Rattle.tsql_grammar.specs.Places.{IsRefusedAt, to_end}
 use Rattle.tsql_grammar.specs.Words.{symbols_of}
 use Rattle.tsql_grammar.specs.Grammar.{line}
-use Rattle.tsql_reader.specs.declared.refusal.ReadRefusal.{ReadRefusal}
-use Rattle.tsql_reader.specs.declared.refusal.ReadRefusal.TheVariants as refusal
+use Rattle.tsql_exprs.specs.declared.refusal.ReadRefusal.{ReadRefusal}
+use Rattle.tsql_exprs.specs.declared.refusal.ReadRefusal.TheVariants as refusal
+use Rattle.tsql_exprs.specs.Refusals.{number_at, place_at}
 use Rattle.tsql_reader.specs.Limits.{passed_limit}
 
 -- a line with a statement, in which at most 64 parentheses are open, as the limits of tokens have it
@@ -21,24 +22,6 @@ grammar text = line text 64
 abbrev pub IsStatement : List ℕ → Statement → Type 0
 IsStatement text statement = (tokens : List Token) × HasTokens text tokens
     × (grammar text).Has (symbols_of text tokens) statement × (passed_limit (symbols_of text tokens) statement ≡ None)
-
--- the next token is the second one, and the first is ALTER
-abbrev pub follows_alter : Symbols → Symbols → Bool
-follows_alter [] rest = false
-follows_alter (t ∷ more) rest = same t.terminal terminal.Alter && length more == length rest
-
--- 50001 at an outside word and at TABLE after ALTER, and else 102
-abbrev pub number_at : Symbols → Symbols → ℕ
-number_at symbols [] = 102
-number_at symbols (t ∷ rest) =
-    if same t.terminal terminal.Outside then 50001
-    else if same t.terminal terminal.Table && follows_alter symbols (t ∷ rest) then 50001
-    else 102
-
--- the place of the next token; the end stands one past the last byte
-abbrev pub place_at : ℕ → Symbols → ℕ
-place_at size [] = size + 1
-place_at size (t ∷ rest) = t.place
 
 -- the grammar goes on with no statement at the first of the rest
 abbrev pub StopsAt : List ℕ → Symbols → ℕ → ℕ → Type 0
@@ -58,11 +41,6 @@ IsNoStatement text number at = IsRefused text number at
 abbrev pub RefusesStatement : List ℕ → ReadRefusal → Type 0
 RefusesStatement text (refusal.At number at) = IsNoStatement text number at
 RefusesStatement text refusal.Memory = Unit {0}
-
--- a refusal is this one, unless memory ran out
-abbrev pub AnswersOnly : ℕ → ℕ → ReadRefusal → Type 0
-AnswersOnly number at (refusal.At n place) = (n ≡ number) × (place ≡ at)
-AnswersOnly number at refusal.Memory = Unit {0}
 
 -- ---- how it is found
 

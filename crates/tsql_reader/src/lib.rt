@@ -1,7 +1,7 @@
 //! Texts into statements.
 //!
 //! Its one contract: `read_statement` gives exactly the statement that the grammar gives a text, and for a text that is
-//! none the number and the place of its refusal. It stands on `tsql_tokens`, `tsql_grammar` and `tsql_phrases`, and
+//! none the number and the place of its refusal. It stands on `tsql_tokens`, `tsql_grammar` and `tsql_exprs`, and
 //! gives the trees of `tsql_trees`.
 #![tactic(auto)]
 
@@ -9,10 +9,8 @@ mod item;
 mod limits;
 mod parts;
 mod read;
-mod refusal;
 mod statement;
 #[cfg(test)]
 mod tests;
 
-pub use read::{number_at, place_at, read_statement};
-pub use refusal::{ReadRefusal, by_tokens};
+pub use read::read_statement;

@@ -5,53 +5,19 @@ ghost use Rattle.tsql_trees.specs.declared.statement.Statement.{Statement};
 ghost use Rattle.tsql_tokens.specs.Tokens.{IsSpan};
 ghost use Rattle.tsql_grammar.specs.Places.{to_end};
 ghost use Rattle.tsql_grammar.specs.Words.{symbols_of};
-ghost use Rattle.tsql_reader.specs.Statements.{grammar, IsStatement, IsNoStatement, RefusesStatement, AnswersOnly, follows_alter, number_at, place_at, Judges, FollowsTokens};
+ghost use Rattle.tsql_exprs.specs.Refusals.{AnswersOnly};
+ghost use Rattle.tsql_reader.specs.Statements.{grammar, IsStatement, IsNoStatement, RefusesStatement, Judges, FollowsTokens};
 
 use crate::limits::passed_limit;
-use crate::refusal::{ReadRefusal, by_tokens};
 use crate::statement::line;
 use std::alloc::Global;
-use tsql_grammar::{Symbol, Terminal, is_same, symbols};
-use tsql_phrases::{ReadError, Reader};
+use tsql_exprs::{Grammar, ReadError, ReadRefusal, Reader, by_tokens, number_at, place_at};
+use tsql_grammar::{Symbol, symbols};
 use tsql_tokens::{Token, tokens};
 use tsql_trees::Statement;
 
 /// How many parentheses may be open, one in another.
 const DEPTH: u32 = 64;
-
-fn follows_alter(symbols: &[Symbol], rest: &[Symbol]) -> bool
-    ensures { result ≡ follows_alter symbols.now rest.now }
-{
-    match symbols {
-        [first, more @ ..] => is_same(first.terminal, Terminal::Alter) && more.len() == rest.len(),
-        [] => false,
-    }
-}
-
-/// The number of a refusal by the grammar, at the first of the rest: 50001 at a reserved word that the grammar has no
-/// form for and at TABLE after ALTER, and else 102.
-pub fn number_at(symbols: &[Symbol], rest: &[Symbol]) -> u32
-    ensures { result ≡ number_at symbols.now rest.now }
-{
-    match rest {
-        [] => 102,
-        [next, ..] if is_same(next.terminal, Terminal::Outside) => 50_001,
-        [next, ..] if is_same(next.terminal, Terminal::Table) && follows_alter(symbols, rest) =>
-            50_001,
-        _ => 102,
-    }
-}
-
-/// The place of the next token of a text of so many bytes. The end stands one past the last byte.
-pub fn place_at(size: usize, rest: &[Symbol]) -> u32
-    requires { size ≤ 131_072 }
-    ensures { result ≡ place_at size rest.now }
-{
-    match rest {
-        [next, ..] => next.place,
-        [] => size as u32 + 1,
-    }
-}
 
 /// Reads all the symbols of a text.
 #[tactic(auto, unfolding(crate::specs::Statements::grammar))]
@@ -60,7 +26,12 @@ fn whole(alloc: Global, text: &[u8], symbols: &[Symbol]) -> Result<Statement, Re
     ensures { Judges (length text.now) symbols.now result (to_end ((grammar text.now).reads symbols.now)) }
 {
     let mut reader = Reader { rest: symbols };
-    let outcome = line(&mut reader, alloc, text, DEPTH);
+    let grammar = Grammar {
+        alloc,
+        text,
+        depth: DEPTH,
+    };
+    let outcome = line(&grammar, &mut reader);
     let rest = reader.rest;
     match outcome {
         Ok(statement) if rest.is_empty() => Ok(statement),

@@ -1,9 +1,10 @@
 ghost use Rattle.std.specs.Prelude.{◌≤◌, length};
 
-use crate::{ReadRefusal, read_statement};
+use crate::read_statement;
 use std::alloc::{AllocError, Global};
 use std::process::Abort;
 use std::test::Fail;
+use tsql_exprs::ReadRefusal;
 
 /// A text's tree as it is printed.
 fn tree_of(alloc: Global, text: &[u8]) -> Result<String, Fail>
@@ -158,15 +159,15 @@ fn expressions(rt: HostRuntime) -> Result<(), Fail> {
         ),
         (
             b"INSERT t VALUES (a*b/c%d)",
-            "Insert { table: TableTree { first: NameTree { place: 8, bytes: [116] }, second: None }, names: None, source: Values([RowTree { place: 17, exprs: [ExprTree { first: TermTree { first: FactorTree { sign: None, primary: Name(NameTree { place: 18, bytes: [97] }) }, rest: [(TimesTree { place: 19, times: Multiply }, FactorTree { sign: None, primary: Name(NameTree { place: 20, bytes: [98] }) }), (TimesTree { place: 21, times: Divide }, FactorTree { sign: None, primary: Name(NameTree { place: 22, bytes: [99] }) }), (TimesTree { place: 23, times: Remainder }, FactorTree { sign: None, primary: Name(NameTree { place: 24, bytes: [100] }) })] }, rest: [] }] }]) }",
+            "Insert { table: TableTree { first: NameTree { place: 8, bytes: [116] }, second: None }, names: None, source: Values([RowTree { place: 17, exprs: [ExprTree { first: TermTree { first: FactorTree { sign: None, primary: Name(NameTree { place: 18, bytes: [97] }) }, rest: [(TimesTree { place: 19, sign: Star }, FactorTree { sign: None, primary: Name(NameTree { place: 20, bytes: [98] }) }), (TimesTree { place: 21, sign: Slash }, FactorTree { sign: None, primary: Name(NameTree { place: 22, bytes: [99] }) }), (TimesTree { place: 23, sign: Percent }, FactorTree { sign: None, primary: Name(NameTree { place: 24, bytes: [100] }) })] }, rest: [] }] }]) }",
         ),
         (
             b"INSERT t VALUES (1+2*3)",
-            "Insert { table: TableTree { first: NameTree { place: 8, bytes: [116] }, second: None }, names: None, source: Values([RowTree { place: 17, exprs: [ExprTree { first: TermTree { first: FactorTree { sign: None, primary: Number(NumberTree { place: 18, minus: false, digits: 1, s: 0, point: false }) }, rest: [] }, rest: [(SignTree { place: 19, minus: false }, TermTree { first: FactorTree { sign: None, primary: Number(NumberTree { place: 20, minus: false, digits: 2, s: 0, point: false }) }, rest: [(TimesTree { place: 21, times: Multiply }, FactorTree { sign: None, primary: Number(NumberTree { place: 22, minus: false, digits: 3, s: 0, point: false }) })] })] }] }]) }",
+            "Insert { table: TableTree { first: NameTree { place: 8, bytes: [116] }, second: None }, names: None, source: Values([RowTree { place: 17, exprs: [ExprTree { first: TermTree { first: FactorTree { sign: None, primary: Number(NumberTree { place: 18, minus: false, digits: 1, s: 0, point: false }) }, rest: [] }, rest: [(SignTree { place: 19, minus: false }, TermTree { first: FactorTree { sign: None, primary: Number(NumberTree { place: 20, minus: false, digits: 2, s: 0, point: false }) }, rest: [(TimesTree { place: 21, sign: Star }, FactorTree { sign: None, primary: Number(NumberTree { place: 22, minus: false, digits: 3, s: 0, point: false }) })] })] }] }]) }",
         ),
         (
             b"INSERT t VALUES ((1+2)*-(3))",
-            "Insert { table: TableTree { first: NameTree { place: 8, bytes: [116] }, second: None }, names: None, source: Values([RowTree { place: 17, exprs: [ExprTree { first: TermTree { first: FactorTree { sign: None, primary: Nested { place: 18, expr: Boxed { inner: ExprTree { first: TermTree { first: FactorTree { sign: None, primary: Number(NumberTree { place: 19, minus: false, digits: 1, s: 0, point: false }) }, rest: [] }, rest: [(SignTree { place: 20, minus: false }, TermTree { first: FactorTree { sign: None, primary: Number(NumberTree { place: 21, minus: false, digits: 2, s: 0, point: false }) }, rest: [] })] } } } }, rest: [(TimesTree { place: 23, times: Multiply }, FactorTree { sign: Some(SignTree { place: 24, minus: true }), primary: Nested { place: 25, expr: Boxed { inner: ExprTree { first: TermTree { first: FactorTree { sign: None, primary: Number(NumberTree { place: 26, minus: false, digits: 3, s: 0, point: false }) }, rest: [] }, rest: [] } } } })] }, rest: [] }] }]) }",
+            "Insert { table: TableTree { first: NameTree { place: 8, bytes: [116] }, second: None }, names: None, source: Values([RowTree { place: 17, exprs: [ExprTree { first: TermTree { first: FactorTree { sign: None, primary: Nested { place: 18, expr: Boxed { inner: ExprTree { first: TermTree { first: FactorTree { sign: None, primary: Number(NumberTree { place: 19, minus: false, digits: 1, s: 0, point: false }) }, rest: [] }, rest: [(SignTree { place: 20, minus: false }, TermTree { first: FactorTree { sign: None, primary: Number(NumberTree { place: 21, minus: false, digits: 2, s: 0, point: false }) }, rest: [] })] } } } }, rest: [(TimesTree { place: 23, sign: Star }, FactorTree { sign: Some(SignTree { place: 24, minus: true }), primary: Nested { place: 25, expr: Boxed { inner: ExprTree { first: TermTree { first: FactorTree { sign: None, primary: Number(NumberTree { place: 26, minus: false, digits: 3, s: 0, point: false }) }, rest: [] }, rest: [] } } } })] }, rest: [] }] }]) }",
         ),
         (
             b"INSERT t VALUES (-NULL,+'x',-a,- 5)",

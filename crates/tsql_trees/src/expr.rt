@@ -19,19 +19,19 @@ pub struct TermTree {
     pub rest: Items<(TimesTree, FactorTree)>,
 }
 
-/// What `*`, `/` and `%` do.
-#[derive(Clone, Copy, Debug)]
-pub enum Times {
-    Multiply,
-    Divide,
-    Remainder,
-}
-
-/// `*`, `/` or `%`.
+/// `times = "*" | "/" | "%"`
 #[derive(Clone, Copy, Debug)]
 pub struct TimesTree {
     pub place: u32,
-    pub times: Times,
+    pub sign: TimesSign,
+}
+
+/// The sign that stands there.
+#[derive(Clone, Copy, Debug)]
+pub enum TimesSign {
+    Star,
+    Slash,
+    Percent,
 }
 
 /// `factor = ["+" | "-"] (number | text | NULL | name | "(" expr ")")`. A sign before a number belongs to the number,

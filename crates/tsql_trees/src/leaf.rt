@@ -50,6 +50,21 @@ pub struct TableTree {
     pub second: Option<NameTree>,
 }
 
+impl TableTree {
+    ghost use Rattle.std.specs.Prelude.{◌≡◌};
+    ghost use Rattle.tsql_trees.specs.Tables.{table_name};
+
+    /// The name of the table, which is the last part of what names it.
+    pub fn name(&self) -> &[u8]
+        ensures { result.now ≡ table_name self.now }
+    {
+        match &self.second {
+            Some(second) => second.bytes.as_slice(),
+            None => self.first.bytes.as_slice(),
+        }
+    }
+}
+
 /// `names = name {"," name}`: one or more names.
 pub type NamesTree = Items<NameTree>;
 

@@ -3,15 +3,17 @@
 //!
 //! They are plain data, which contracts see as they are written: a list by its elements, a box by its value. A chain of
 //! OR, of AND, of sums or of products is one node with the list of its parts. Places count the bytes of the statement's
-//! text from 1. They stand on `cs_base`.
+//! text from 1. The one function gives a table's name. They stand on `cs_base`.
 #![tactic(auto)]
 
+mod column;
 mod expr;
 mod leaf;
 mod pred;
 mod statement;
 
-pub use expr::{ExprTree, FactorTree, PrimaryTree, TermTree, Times, TimesTree};
+pub use column::{PlainType, TypeTree};
+pub use expr::{ExprTree, FactorTree, PrimaryTree, TermTree, TimesSign, TimesTree};
 pub use leaf::{Bytes, NameTree, NamesTree, NumberTree, SignTree, TableTree, TextTree, WholeTree};
 pub use pred::{AtomTree, CmpTree, ConjTree, ConstTree, NegTree, OperandTree, PartTree, PredTree};
 pub use statement::{

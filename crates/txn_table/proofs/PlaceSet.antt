@@ -4,8 +4,8 @@ use Rattle.std.proofs.lemmas.Bool.{cases_lt}
 use Rattle.std.proofs.lemmas.List.{get_or_default}
 use Rattle.std.proofs.lemmas.Option.{slice_get-get_or, slice_get_past}
 use Rattle.cs_types.specs.declared.Key.{Key}
-use Rattle.own_writes.specs.declared.write.Write.{Write}
-use Rattle.own_writes.specs.Writes.{IsFoundAt}
+use Rattle.write_set.specs.declared.write.Write.{Write}
+use Rattle.write_set.specs.Writes.{IsFoundAt}
 use Rattle.txn_table.specs.declared.txn.Txn.{Txn}
 use Rattle.txn_table.specs.Txns.{txn_at, or_none, Owns}
 

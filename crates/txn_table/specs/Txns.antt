@@ -1,8 +1,8 @@
 -- Open transactions by session.
 use Rattle.std.specs.Prelude.{◌≡◌, ◌≢◌, ◌⊎◌, ℕ, ◌<◌, ◌≤◌, min, List, [], slice_get, Any, ◌==◌, if◌then◌else◌, unwrap_or, Option, None, Some}
 use Rattle.cs_types.specs.declared.Key.{Key}
-use Rattle.own_writes.specs.declared.write.Write.{Write}
-use Rattle.own_writes.specs.Writes.{staged}
+use Rattle.write_set.specs.declared.write.Write.{Write}
+use Rattle.write_set.specs.Writes.{staged}
 use Rattle.txn_table.specs.declared.txn.Txn.{Txn}
 
 -- what contracts see: the open transactions, each at the place of its session, and the number of the next one

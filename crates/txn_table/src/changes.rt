@@ -5,7 +5,7 @@ ghost use Rattle.txn_table.specs.Txns.{deepened, fixed, widened, snapshot_of, de
 use crate::txn::Txn;
 use cs_base::Memory;
 use cs_types::Key;
-use own_writes::{Own, Write};
+use write_set::{Own, Write};
 
 /// Gives the transaction another depth.
 pub fn deepen_txn(txn: &mut Option<Txn>, depth: u32)

@@ -4,9 +4,9 @@ ghost use Rattle.txn_table.specs.Txns.{IsSession};
 use crate::Txns;
 use cs_base::Memory;
 use cs_types::Key;
-use own_writes::Write;
 use std::alloc::Global;
 use std::test::Fail;
+use write_set::Write;
 
 /// Opens a transaction, where the session has none.
 fn open(txns: &mut Txns, session: u32, depth: u32) -> u64

@@ -1,4 +1,4 @@
-use own_writes::Own;
+use write_set::Own;
 
 /// An open transaction.
 #[derive(Debug, Drop)]

@@ -3,9 +3,9 @@ use crate::places::{floor_in, holder_in};
 use crate::txn::Txn;
 use cs_base::Memory;
 use cs_types::Key;
-use own_writes::{Own, Write};
 use std::marker::Model;
 use std::{array, mem};
+use write_set::{Own, Write};
 
 /// The open transactions of sessions 0 to 64. Contracts see by session the open transaction, and beside them the number
 /// of the next one.

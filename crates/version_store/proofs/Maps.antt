@@ -8,13 +8,9 @@ use Rattle.std.specs.FinMap as map
 use Rattle.std.proofs.lemmas.Cmp.{int_cmp_total, on_total, eq_by_cmp_equiv}
 use Rattle.std.proofs.lemmas.Map.Entries.{option_filter, lookup-filter-values}
 use Rattle.cs_types.specs.declared.Key.{Key}
-use Rattle.version_store.specs.Newest.{key_cmp, Change, above}
-
-pub key_total : IsTotalOrder key_cmp
-key_total = on_total (λ (key : Key). key.0) int_cmp_total
-
-key_same : map.IsAntisymmetric key_cmp
-key_same a b e = let n = map.int_cmp-IsAntisymmetric a.0 b.0 e in λ i. record { 0 = n i }
+use Rattle.cs_types.specs.Keys.{key_cmp}
+use Rattle.cs_types.proofs.KeyLemmas.{key_total, exact_key}
+use Rattle.version_store.specs.Newest.{Change, above}
 
 -- the change that a look-up among the entries finds
 abbrev pub found : List (Key × Change) → Key → Option Change
@@ -29,11 +25,11 @@ get-found es key = map.get-from_entries key_total es key ∙ find-found es key
 
 -- look-ups that find the same make the same map
 pub same_changes : (es fs : List (Key × Change)) → ((key : Key) → found fs key ≡ found es key) → map.from_entries {R = key_cmp} fs ≡ map.from_entries es
-same_changes es fs same = map.same_map key_total key_same _ _ (λ key. get-found fs key ∙ same key ∙ sym (get-found es key))
+same_changes es fs same = map.same_map key_total exact_key _ _ (λ key. get-found fs key ∙ same key ∙ sym (get-found es key))
 
 -- look-ups that find one change more make the map with it
 pub one_change : (es fs : List (Key × Change)) (key : Key) (change : Change) → ((q : Key) → found fs q ≡ cond (eq_by_cmp key_cmp key q) (Some change) (found es q)) → map.from_entries {R = key_cmp} fs ≡ map.insert (map.from_entries es) key change
-one_change es fs key change more = map.same_map key_total key_same _ _ (λ q.
+one_change es fs key change more = map.same_map key_total exact_key _ _ (λ q.
     get-found fs q ∙ more q
     ∙ ap (λ b. cond b (Some change) (found es q)) ((eq_by_cmp_equiv key_total).symm key q)
     ∙ ap (cond (eq_by_cmp key_cmp q key) (Some change)) (sym (get-found es q))

@@ -1,14 +1,9 @@
 -- The newest changes, as a finite map from keys to commit and transaction numbers.
 use Rattle.std.specs.Prelude.{◌≡◌, ℕ, ℤ, nat_lt, if◌then◌else◌, Option, Some, None, refl}
-use Rattle.std.specs.declared.cmp.Ordering.{Ordering}
-use Rattle.std.specs.Ordering.{int_cmp}
 use Rattle.std.specs.Coded.{Coded, code_by, coded×, coded_ℕ, coded_ℤ}
 use Rattle.std.specs.FinMap as map
 use Rattle.cs_types.specs.declared.Key.{Key}
-
--- keys are ordered as their numbers
-abbrev pub key_cmp : Key → Key → Ordering
-key_cmp a b = int_cmp a.0 b.0
+use Rattle.cs_types.specs.Keys.{key_cmp}
 
 -- a change: its commit number, and that of its transaction
 abbrev pub Change : Type 0

@@ -3,7 +3,7 @@ use Rattle.std.specs.Prelude.{IsSome, vec_len, vec_capacity}
 use Rattle.std.specs.Vec.Iter.{into_iter_items}
 use Rattle.std.specs.BTreeMap.{get}
 use Rattle.cs_types.specs.declared.Key.{Key}
-use Rattle.cs_model.specs.Keys.{key_cmp}
+use Rattle.cs_types.specs.Keys.{key_cmp}
 use Rattle.cs_model.specs.Steps.{numbered}
 use Rattle.change_list.specs.Edits.{edits_of, writes_key}
 use Rattle.change_list.specs.Places.{changes_of, AreLinked, IsIndex}

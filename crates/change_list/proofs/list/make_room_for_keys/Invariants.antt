@@ -2,7 +2,7 @@ use Rattle.std.proofs.Common.{◌≡◌, ◌||◌, take}
 use Rattle.std.specs.Prelude.{is_some}
 use Rattle.std.specs.BTreeMap.{get}
 use Rattle.cs_types.specs.declared.Key.{Key}
-use Rattle.cs_model.specs.Keys.{key_cmp}
+use Rattle.cs_types.specs.Keys.{key_cmp}
 use Rattle.change_list.specs.Edits.{writes_key}
 use Rattle.change_list.specs.Places.{place_in}
 use Rattle.change_list.proofs.list.make_room_for_keys.Given as goal

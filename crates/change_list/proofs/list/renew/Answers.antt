@@ -1,6 +1,6 @@
 use Rattle.std.proofs.Common.{◌∙◌, sym, ap}
 use Rattle.std.specs.List.{list_any}
-use Rattle.cs_model.specs.Keys.{same_key}
+use Rattle.cs_types.specs.Keys.{same_key}
 use Rattle.change_list.proofs.Tables.{any_key}
 use Rattle.change_list.proofs.list.renew.Goals as goal
 

@@ -2,6 +2,7 @@ use Rattle.columnstore.proofs.answer.answer.Goals as goal
 
 pub returns-in_ok-text-in-Err-Bad-clause-answered : goal.returns-in_ok-text-in-Err-Bad-clause-answered
 returns-in_ok-text-in-Err-Bad-clause-answered c = record {
+  none = λ script is. let none = c.in-Err-Bad.ensures.only script is in absurd (cc);
   line = c.in-Err-Bad.line;
   reason = c.in-Err-Bad.reason;
   number = c.in-Err-Bad.number;

@@ -1,7 +1,7 @@
 use Rattle.std.proofs.Common.{sym, subst, ◌∙◌, All, Contains, length, ◌<◌, ◌≤◌}
 use Rattle.std.proofs.lemmas.List.Elements.{All-contains_itself}
-use Rattle.row_laws.specs.Laws.{AreDistinct}
-use Rattle.script_schedule.proofs.Sessions.{sessions_below, sessions_few, sessions_distinct}
+use Rattle.log_laws.specs.Laws.{AreDistinct}
+use Rattle.script_runner.proofs.Sessions.{sessions_below, sessions_few, sessions_distinct}
 use Rattle.columnstore.proofs.answer.run.Goals as goal
 
 pub new-requires-clause-numbers : goal.new-requires-clause-numbers

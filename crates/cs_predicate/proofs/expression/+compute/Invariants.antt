@@ -1,5 +1,5 @@
 use Rattle.std.proofs.Common.{◌≡◌, drop, map}
-use Rattle.cs_predicate.specs.Expressions.{compute, chain, sum, product}
+use Rattle.cs_model.specs.Expressions.{compute, chain, sum, product}
 use Rattle.cs_predicate.proofs.expression.+compute.Given as goal
 
 -- what is computed so far and what is left make the whole

@@ -1,7 +1,7 @@
 use Rattle.std.proofs.Common.{rules, ◌≡◌, ◌==◌, true, false, ◌∷◌, length, arith, ap}
 use Rattle.std.proofs.lemmas.Bool.Decides.{nat_tests}
-use Rattle.cs_predicate.specs.Likes.{meets}
-use Rattle.cs_predicate.proofs.LikeLemmas.{at_any, at_one, at_end}
+use Rattle.cs_model.specs.Likes.{meets}
+use Rattle.cs_model.proofs.LikeLemmas.{at_any, at_one, at_end}
 use Rattle.cs_predicate.proofs.pattern.front.Goals as goal
 
 pub returns-then-first-eq37-clause-ends : goal.returns-then-first-eq37-clause-ends

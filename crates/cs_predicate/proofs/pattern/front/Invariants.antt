@@ -1,5 +1,5 @@
 use Rattle.std.proofs.Common.{◌≡◌, ◌≤◌, length, true}
-use Rattle.cs_predicate.specs.Likes.{has_end, is_like}
+use Rattle.cs_model.specs.Likes.{has_end, is_like}
 use Rattle.cs_predicate.proofs.pattern.front.Given as goal
 
 -- what is left is like the rest of the pattern as the whole is like the whole; and where an end of the text is like the pattern,

@@ -1,5 +1,5 @@
 use Rattle.std.proofs.Common.{◌≡◌, length}
-use Rattle.cs_predicate.specs.Likes.{has_end, is_like}
+use Rattle.cs_model.specs.Likes.{has_end, is_like}
 use Rattle.cs_predicate.proofs.pattern.front_of_ends.Given as goal
 
 -- no end of the text is like the pattern that is not an end of what is left

@@ -1,5 +1,5 @@
 use Rattle.std.proofs.Common.{◌≡◌}
-use Rattle.cs_predicate.specs.Likes.{is_like}
+use Rattle.cs_model.specs.Likes.{is_like}
 use Rattle.cs_predicate.specs.Verdicts.{says, to_compare}
 use Rattle.cs_predicate.proofs.pattern.is_like.Given as goal
 

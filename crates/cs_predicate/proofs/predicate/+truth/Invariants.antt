@@ -1,5 +1,5 @@
 use Rattle.std.proofs.Common.{◌≡◌, drop, map}
-use Rattle.cs_predicate.specs.Truths.{truth, or, and, all_of, any_of}
+use Rattle.cs_model.specs.Truths.{truth, or, and, all_of, any_of}
 use Rattle.cs_predicate.proofs.predicate.+truth.Given as goal
 
 -- the truth so far and those of what is left make the whole

@@ -1,6 +1,6 @@
 use Rattle.std.proofs.Common.{◌≡◌, drop}
 use Rattle.cs_predicate.specs.Sides.{lent}
-use Rattle.cs_predicate.specs.Truths.{among, or}
+use Rattle.cs_model.specs.Truths.{among, or}
 use Rattle.cs_predicate.proofs.predicate.among.Given as goal
 
 -- the truth so far and that of the values that are left make the whole

@@ -1,7 +1,8 @@
 use Rattle.std.proofs.Common.{ℕ, refl, List, map, slice_index, sym, subst}
 use Rattle.row_group.specs.Orders.{IsOrderOf}
 use Rattle.row_group.specs.Rows.{PackedRow}
-use Rattle.row_group.specs.Groups.{key_cmp, keys_of}
+use Rattle.cs_types.specs.Keys.{key_cmp}
+use Rattle.row_group.specs.Groups.{keys_of}
 use Rattle.row_group.specs.Arranged.{AreStamps, source_row}
 use Rattle.row_group.proofs.FieldLemmas.{fields-made, codes-order, rows-arranged}
 use Rattle.row_group.proofs.StampLemmas.{picked-map}

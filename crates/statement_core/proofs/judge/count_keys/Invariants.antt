@@ -1,7 +1,7 @@
 use Rattle.std.proofs.Common.{◌≡◌, take}
 use Rattle.std.specs.Prelude.{count_by}
 use Rattle.cs_types.specs.declared.Key.{Key}
-use Rattle.cs_model.specs.Keys.{same_key}
+use Rattle.cs_types.specs.Keys.{same_key}
 use Rattle.statement_core.specs.Least.{count_in}
 use Rattle.statement_core.proofs.judge.count_keys.Given as goal
 

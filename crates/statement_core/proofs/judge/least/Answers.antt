@@ -3,7 +3,7 @@ use Rattle.std.proofs.lemmas.List.{take_all}
 use Rattle.cs_model.specs.Changes.{table, laid}
 use Rattle.cs_model.specs.Obstacles.{IsObstacle}
 use Rattle.change_list.specs.Edits.{edits_of}
-use Rattle.statement_core.specs.Held.{state_of}
+use Rattle.statement_core.specs.CoreState.{state_of}
 use Rattle.statement_core.specs.Least.{is_taken}
 use Rattle.statement_core.proofs.Least.{least_more}
 use Rattle.statement_core.proofs.judge.least.Goals as goal

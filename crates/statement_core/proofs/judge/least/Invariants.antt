@@ -3,7 +3,7 @@ use Rattle.std.specs.Prelude.{Some}
 use Rattle.cs_model.specs.Changes.{table, laid}
 use Rattle.cs_model.specs.Obstacles.{IsObstacle}
 use Rattle.change_list.specs.Edits.{edits_of}
-use Rattle.statement_core.specs.Held.{state_of}
+use Rattle.statement_core.specs.CoreState.{state_of}
 use Rattle.statement_core.specs.Least.{is_taken, HasLeast}
 use Rattle.statement_core.proofs.judge.least.Given as goal
 

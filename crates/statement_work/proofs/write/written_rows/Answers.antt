@@ -1,6 +1,6 @@
 use Rattle.std.proofs.Common.{ℤ, [], ◌∷◌}
 use Rattle.cs_types.specs.declared.Value.TheVariants.{Number}
-use Rattle.tsql_names.specs.Names.{series_schema}
+use Rattle.cs_model.specs.Series.{series_schema}
 use Rattle.cs_model.specs.Answers.{inserted_row, rows_from}
 use Rattle.cs_model.specs.Held.{IsHeld}
 use Rattle.statement_work.proofs.Written.{rows_held, gives_held, inserted_held}

@@ -1,5 +1,5 @@
 use Rattle.std.proofs.Common.{subst}
-use Rattle.batch_aggregate.specs.Answers.{Gives}
+use Rattle.cs_model.specs.Queries.{Gives}
 use Rattle.batch_aggregate.proofs.ShownLemmas.{answered}
 use Rattle.batch_aggregate.proofs.partial.Partial.result.Goals as goal
 

@@ -1,6 +1,7 @@
 use Rattle.std.proofs.Common.{◌+◌, ◌-◌, ◌/◌, subst, sym, arith}
 use Rattle.row_group.specs.Orders.{IsOrderOf}
-use Rattle.row_group.specs.Groups.{Group, key_cmp, keys_of}
+use Rattle.cs_types.specs.Keys.{key_cmp}
+use Rattle.row_group.specs.Groups.{Group, keys_of}
 use Rattle.row_group.proofs.GroupLemmas.{each_position, all_before, none_after}
 use Rattle.row_group.proofs.packed.Packed.first_place.Goals as goal
 

@@ -1,5 +1,6 @@
 use Rattle.std.proofs.Common.{◌≡◌, ◌-◌, ◌<◌, ◌≤◌, ℕ, true, false, length}
-use Rattle.row_group.specs.Groups.{key_cmp, precedes, key_at_place}
+use Rattle.cs_types.specs.Keys.{key_cmp}
+use Rattle.row_group.specs.Groups.{precedes, key_at_place}
 use Rattle.row_group.proofs.packed.Packed.first_place.Given as goal
 
 abbrev pub invariant-loop-low : goal.invariant-loop-low

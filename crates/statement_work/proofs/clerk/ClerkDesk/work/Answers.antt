@@ -7,7 +7,7 @@ use Rattle.statement_work.proofs.clerk.ClerkDesk.work.Goals as goal
 pub returns-in-Insert : goal.returns-in-Insert
 returns-in-Insert c =
     let started = c.args.started.now in
-    let b : Bound = bound.Insert c.in-Insert.plan in
+    let b : Bound = bound.Insert c.get.result.now in
     let is : started.bound.value ≡ b = cc in
     given_by c.args.schema.now started.bound.value b started.short started.rows.entries c.written.result is c.if-started.false
     (c.written.ensures c.args.schema.now b started.rows.entries refl c.inserted.ensures.gives c.inserted.ensures.fit)
@@ -15,7 +15,7 @@ returns-in-Insert c =
 pub returns-in-Update : goal.returns-in-Update
 returns-in-Update c =
     let started = c.args.started.now in
-    let b : Bound = bound.Update c.in-Update.plan in
+    let b : Bound = bound.Update c.get-in-Update.result.now in
     let is : started.bound.value ≡ b = cc in
     given_by c.args.schema.now started.bound.value b started.short started.rows.entries c.written-in-Update.result is c.if-started.false
     (c.written-in-Update.ensures c.args.schema.now b started.rows.entries refl c.updated.ensures.gives c.updated.ensures.fit)

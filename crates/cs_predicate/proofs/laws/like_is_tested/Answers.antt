@@ -1,5 +1,0 @@
-use Rattle.cs_predicate.proofs.LikeLaw.{like_tells}
-use Rattle.cs_predicate.proofs.laws.like_is_tested.Goals as goal
-
-pub returns : goal.returns
-returns c = like_tells

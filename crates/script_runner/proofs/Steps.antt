@@ -1,0 +1,128 @@
+-- A run of a script, one step more, and its end.
+use Rattle.std.proofs.lemmas.List.Elements.{All-contains}
+use Rattle.std.proofs.Common.{◌≡◌, ℕ, ◌+◌, ◌<◌, ◌≤◌, List, [], ◌∷◌, ◌++◌, length, get_or, take, drop, refl, sym, ap, subst, ◌∙◌, cond, Bool, true, false, map, Contains, All, arith}
+use Rattle.std.proofs.lemmas.List.{take_more, drop_more}
+use Rattle.std.specs.Prelude.{Option, Some, ◌==◌, Result, Ok, Err, OnOk, OnErr}
+use Rattle.cs_types.specs.declared.Schema.{Schema}
+use Rattle.cs_model.specs.declared.entry.Entry.{Entry}
+use Rattle.cs_model.specs.declared.entry.Entry.TheVariants.{End}
+use Rattle.cs_model.specs.State.{State}
+use Rattle.cs_model.specs.Steps.{Legal}
+use Rattle.cs_model.specs.Actors.{entries_of, is_begun, has_ended}
+use Rattle.script_reader.specs.declared.script.Script.{Script}
+use Rattle.script_reader.specs.declared.script.Step.{Step}
+use Rattle.script_reader.specs.declared.script.Step.TheVariants.{Whole, Begun, Finished}
+use Rattle.script_reader.specs.Scripts as reader
+use Rattle.script_reader.specs.Scripts.{session_of, text_of, half_done, ArePaired, IsRunnable}
+use Rattle.script_reader.specs.Schedule.{IsPiece, ArePieces, Scheduled}
+use Rattle.script_reader.proofs.Halves.{half_same, half_other, half_empty}
+use Rattle.statement_core.specs.declared.started.Started.{Started}
+use Rattle.script_runner.specs.Running.{Waits, Running, AreRunnable, IsFrontRun, finishes}
+use Rattle.script_runner.specs.Logs.{IsLogOf, IsFrontLogOf}
+use Rattle.script_runner.proofs.Pieces.{begins, piece_begun, piece_going, pieces_push, follows}
+use Rattle.script_runner.proofs.Turning.{turns_of, front_turns}
+
+begins_is : (step : Step) → begins step ≡ reader.is_begun (Some step)
+begins_is (Whole session text) = refl
+begins_is (Begun session text) = refl
+begins_is (Finished session) = refl
+
+pub running_first : (schema : Schema) (log : List Entry) (waiting : ℕ → Option Started) (lines : List Step) → log ≡ [] → ArePaired [] lines → Running schema log waiting [] lines
+running_first schema log waiting lines e paired = record {
+  pieces = e;
+  waits = λ s begun. let none : is_begun (entries_of s log) ≡ false = ap (λ es. is_begun (entries_of s es)) e in absurd (cc (none, begun));
+  begun = λ s. ap (λ es. is_begun (entries_of s es)) e ∙ sym (half_empty s);
+  going = λ s. ap (λ es. has_ended (entries_of s es)) e;
+  paired = paired;
+}
+
+pub running_push : (schema : Schema) (log new : List Entry) (waiting after : ℕ → Option Started) (done left : List Step) (step : Step) (piece : List Entry)
+    → Running schema log waiting done (step ∷ left) → IsPiece schema step piece → new ≡ log ++ piece → Waits schema new after → Running schema new after (done ++ step ∷ []) left
+running_push schema log new waiting after done left step piece run p is waits = record {
+  pieces = subst (ArePieces schema (done ++ step ∷ [])) (sym is) (pieces_push schema done log step piece run.pieces p);
+  waits = waits;
+  begun = λ s. ap (λ es. is_begun (entries_of s es)) is ∙ piece_begun schema step piece log s p ∙ at s (session_of step == s) refl;
+  going = λ s. ap (λ es. has_ended (entries_of s es)) is ∙ piece_going schema step piece log s p ∙ run.going s;
+  paired = run.paired.1;
+}
+  where
+    at : (s : ℕ) (t : Bool) → (session_of step == s) ≡ t → cond (session_of step == s) (begins step) (is_begun (entries_of s log)) ≡ half_done s (done ++ step ∷ [])
+    at s true e = ap (λ b. cond b (begins step) (is_begun (entries_of s log))) e ∙ begins_is step ∙ sym (half_same s done step e)
+    at s false e = ap (λ b. cond b (begins step) (is_begun (entries_of s log))) e ∙ run.begun s ∙ sym (half_other s done step e)
+
+-- ---- the step at a place
+
+-- what a step that comes next can be run by
+pub record IsNext (sessions : List ℕ) (log : List Entry) (step : Step) : Type 0 where
+  pub seat : session_of step < 65
+  pub known : Contains sessions (session_of step)
+  pub follows : is_begun (entries_of (session_of step) log) ≡ finishes step
+  pub going : has_ended (entries_of (session_of step) log) ≡ false
+  pub short : length (text_of step) ≤ 65536
+
+module _ (schema : Schema) (lines : List Step) (i : ℕ) (step : Step) (within : i < length lines) (is : step ≡ get_or lines i step) (log : List Entry) (waiting : ℕ → Option Started)
+    (run : Running schema log waiting (take i lines) (drop i lines)) where
+  comes : Running schema log waiting (take i lines) (step ∷ drop (i + 1) lines)
+  comes = subst (Running schema log waiting (take i lines)) (drop_more lines i step within ∙ ap (λ x. x ∷ drop (i + 1) lines) (sym is)) run
+
+  pub next_at : (sessions : List ℕ) → AreRunnable sessions lines → IsNext sessions log step
+  next_at sessions can =
+      let known = subst (λ x. (session_of x < 65) × Contains sessions (session_of x)) (sym is) (can.known i step within) in
+      record {
+        seat = known.0;
+        known = known.1;
+        follows = run.begun (session_of step) ∙ follows (take i lines) step comes.paired.0;
+        going = run.going (session_of step);
+        short = subst (λ x. length (text_of x) ≤ 65536) (sym is) (can.short i step within);
+      }
+
+  pub step_more : (now : Schema) (new : List Entry) (after : ℕ → Option Started) → now ≡ schema → (piece : List Entry) × IsPiece now step piece × (new ≡ log ++ piece) → Waits now new after
+      → Running schema new after (take (i + 1) lines) (drop (i + 1) lines)
+  step_more now new after same x waits =
+      subst (λ done. Running schema new after done (drop (i + 1) lines)) (sym (take_more lines i step within ∙ ap (λ s. take i lines ++ s ∷ []) (sym is)))
+      (running_push schema log new waiting after (take i lines) (drop (i + 1) lines) step x.0 comes (subst (λ s. IsPiece s step x.0) same x.1) x.2 (subst (λ s. Waits s new after) same waits))
+
+-- ---- the end
+
+-- behind the last step no session has a statement half done
+pub all_rest : (schema : Schema) (log : List Entry) (waiting : ℕ → Option Started) (done : List Step) → Running schema log waiting done [] → (s : ℕ) → is_begun (entries_of s log) ≡ false
+all_rest schema log waiting done run s = run.begun s ∙ run.paired s
+
+-- a script's steps can be run by a core with its sessions
+pub runnable_of : (script : Script) (sessions : List ℕ) → All (λ session. Contains sessions session) script.sessions → IsRunnable script → AreRunnable sessions script.lines
+runnable_of script sessions known can = record {
+  short = can.short;
+  known = λ k d lt. let range = can.range k d lt in (let high = range.1 in omega (arith, high), All-contains (λ session. Contains sessions session) script.sessions _ known range.2);
+  paired = can.paired;
+}
+
+pub scheduled_of : (script : Script) (first : Schema) (steps : List Step) (sessions : List ℕ) (events log : List Entry) (waiting : ℕ → Option Started) → first ≡ script.schema → steps ≡ script.lines
+    → sessions ≡ script.sessions → Running first events waiting steps [] → log ≡ events ++ map End sessions → Scheduled script log
+scheduled_of script first steps sessions events log waiting of_first of_steps of_sessions run is = (
+  events,
+  subst (λ xs. ArePieces script.schema xs events) of_steps (subst (λ s. ArePieces s steps events) of_first run.pieces),
+  is ∙ ap (λ xs. events ++ map End xs) of_sessions,
+)
+
+pub front_of : (script : Script) (first : Schema) (steps : List Step) (log : List Entry) → first ≡ script.schema → steps ≡ script.lines → IsFrontRun first steps log → IsFrontRun script.schema script.lines log
+front_of script first steps log of_first of_steps x = (x.0, subst (λ xs. ArePieces script.schema (take x.0 xs) log) of_steps (subst (λ s. ArePieces s (take x.0 steps) log) of_first x.1))
+
+-- ---- the log
+
+pub log_of : (script : Script) (schema : Schema) (log : List Entry) → IsRunnable script → schema ≡ script.schema → (m : State) × Legal schema log m → Scheduled script log → IsLogOf script log
+log_of script schema log can same legal x = record { state = legal.0; legal = subst (λ s. Legal s log legal.0) same legal.1; scheduled = x; turns = turns_of script log x.0 can x.1 x.2 }
+
+pub front_log_of : (script : Script) (schema : Schema) (log : List Entry) → IsRunnable script → schema ≡ script.schema → (m : State) × Legal schema log m → IsFrontRun script.schema script.lines log → IsFrontLogOf script log
+front_log_of script schema log can same legal x = record { state = legal.0; legal = subst (λ s. Legal s log legal.0) same legal.1; lines = x.0; followed = x.1; turns = front_turns script x.0 log can x.1 }
+
+pub on_ok : {T E : Type 0} (P Q : Type 0) (r : Result T E) → (P → Q) → OnOk r P → OnOk r Q
+on_ok P Q (Ok x) f h = f h
+on_ok P Q (Err e) f h = h
+
+pub on_err : {T E : Type 0} (P Q : Type 0) (r : Result T E) → (P → Q) → OnErr r P → OnErr r Q
+on_err P Q (Ok x) f h = h
+on_err P Q (Err e) f h = f h
+
+pub at_err : {T E : Type 0} (P : Type 0) (r : Result T E) → P → OnErr r P
+at_err P (Ok x) h = tt
+at_err P (Err e) h = h

@@ -1,0 +1,20 @@
+use Rattle.std.proofs.Common.{◌∙◌}
+use Rattle.script_reader.specs.Schedule.{Scheduled}
+use Rattle.script_runner.specs.Running.{IsFrontRun}
+use Rattle.script_runner.specs.Logs.{IsLogOf, IsFrontLogOf}
+use Rattle.script_runner.proofs.Steps.{log_of, front_log_of, on_ok, on_err}
+use Rattle.script_runner.proofs.run.run_schedule.Goals as goal
+
+pub returns-clause-log : goal.returns-clause-log
+returns-clause-log g c =
+    let script = c.args.script.now in
+    let log = c.run_script-result.new.core.log in
+    on_ok (Scheduled script log) (IsLogOf script log) c.run_script-result.result
+    (log_of script c.run_script-result.new.core.schema log c.requires.runnable (c.run_script-result.ensures.schema ∙ c.requires.schema) c.log-log.ensures.legal) c.run_script-result.ensures.scheduled
+
+pub returns-clause-front : goal.returns-clause-front
+returns-clause-front g c =
+    let script = c.args.script.now in
+    let log = c.run_script-result.new.core.log in
+    on_err (IsFrontRun script.schema script.lines log) (IsFrontLogOf script log) c.run_script-result.result
+    (front_log_of script c.run_script-result.new.core.schema log c.requires.runnable (c.run_script-result.ensures.schema ∙ c.requires.schema) c.log-log.ensures.legal) c.run_script-result.ensures.front

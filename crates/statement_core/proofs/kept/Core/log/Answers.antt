@@ -1,8 +1,0 @@
-use Rattle.std.proofs.Common.{subst}
-use Rattle.cs_model.specs.Steps.{Legal}
-use Rattle.statement_core.specs.CoreValue.{CoreValue}
-use Rattle.statement_core.specs.Held.{state_of}
-use Rattle.statement_core.proofs.kept.Core.log.Goals as goal
-
-pub returns-clause-legal : goal.returns-clause-legal
-returns-clause-legal c = (state_of c.self.inside.held, subst (λ (v : CoreValue). Legal v.schema v.log (state_of c.self.inside.held)) c.self.view_is c.self.invariant.legal)

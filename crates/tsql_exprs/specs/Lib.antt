@@ -1,0 +1,4 @@
+pub mod Leftmost
+pub mod Refusals
+pub mod Steps
+pub mod Types

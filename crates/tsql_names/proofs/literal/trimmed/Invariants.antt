@@ -1,9 +1,0 @@
-use Rattle.std.proofs.Common.{◌≡◌, length}
-use Rattle.tsql_names.specs.Names.{trimmed}
-use Rattle.tsql_names.proofs.literal.trimmed.Given as goal
-
-abbrev pub invariant-more : goal.invariant-more
-invariant-more l = trimmed l.rest ≡ trimmed l.text
-
-abbrev pub decreases-more : goal.decreases-more
-decreases-more l = length l.rest

@@ -1,2 +1,0 @@
-pub mod SetupLines
-pub mod CreateClauses

@@ -1,5 +1,0 @@
-pub mod Leftmost
-pub mod Sound
-pub mod TextOrder
-pub mod AllNames
-pub mod TableClauses

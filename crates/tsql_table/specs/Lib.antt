@@ -1,4 +1,0 @@
-pub mod Written
-pub mod Order
-pub mod Faults
-pub mod Tables

@@ -1,0 +1,65 @@
+-- A write laid over a list in two parts.
+use Rattle.std.proofs.Common.{◌≡◌, zero, suc, List, [], ◌∷◌, ◌++◌, refl, sym, ◌∙◌, ap, arith, true, false, cond, All}
+use Rattle.std.specs.declared.cmp.Ordering.{Ordering}
+use Rattle.std.specs.declared.cmp.Ordering.TheVariants.{Less, Equal, Greater}
+use Rattle.std.specs.Ordering.{is_eq, is_lt, match_ordering, ordering_reverse}
+use Rattle.std.proofs.lemmas.List.Kept.{AllPairs-cons}
+use Rattle.cs_types.specs.declared.Key.{Key}
+use Rattle.write_set.specs.declared.write.Write.{Write}
+use Rattle.cs_types.specs.Keys.{key_cmp}
+use Rattle.write_set.specs.Writes.{Ascend, put, is_front_below, without_front}
+use Rattle.cs_types.proofs.KeyLemmas.{key_total}
+use Rattle.write_set.proofs.Puts.{Rises, head, tail, all_tail}
+
+all_prefix : (P : Write → Type 0) (xs ys : List Write) → All P (xs ++ ys) → All P xs
+all_prefix P [] ys ps k d l = absurd (omega (arith, l))
+all_prefix P (x ∷ xs) ys ps zero d l = ps 0 d (omega arith)
+all_prefix P (x ∷ xs) ys ps (suc k) d l = all_prefix P xs ys (all_tail P x (xs ++ ys) ps) k d (omega arith)
+
+all_suffix : (P : Write → Type 0) (xs ys : List Write) → All P (xs ++ ys) → All P ys
+all_suffix P [] ys ps = ps
+all_suffix P (x ∷ xs) ys ps = all_suffix P xs ys (all_tail P x (xs ++ ys) ps)
+
+-- the first part of a list in order is in order
+pub Ascend-prefix : (xs ys : List Write) → Ascend (xs ++ ys) → Ascend xs
+Ascend-prefix [] ys up = λ i j d l there. absurd (omega (arith, there))
+Ascend-prefix (x ∷ xs) ys up = AllPairs-cons Rises x xs (all_prefix (Rises x) xs ys (head x (xs ++ ys) up)) (Ascend-prefix xs ys (tail x (xs ++ ys) up))
+
+back : (a b : Key) (o : Ordering) → key_cmp a b ≡ o → key_cmp b a ≡ ordering_reverse o
+back a b o e = key_total.antisymm b a ∙ ap ordering_reverse e
+
+greater_kept : (v : Write) (vs : List Write) (key : Key) → key_cmp key v.key ≡ Less → without_front (v ∷ vs) key ≡ v ∷ vs
+greater_kept v vs key e = ap (λ o. cond (is_eq o) vs (v ∷ vs)) (back key v.key Less e)
+
+-- the first write of a part whose writes are all of greater keys is kept
+kept : (x w : Write) (rest : List Write) (o : Ordering) → All (Rises x) rest → key_cmp w.key x.key ≡ o → (is_lt o ≡ true) → without_front rest w.key ≡ rest
+kept x w [] o above e l = refl
+kept x w (v ∷ vs) Less above e l = greater_kept v vs w.key (key_total.trans w.key x.key v.key e (above 0 v (omega arith)))
+kept x w (v ∷ vs) Equal above e l = absurd (cc l)
+kept x w (v ∷ vs) Greater above e l = absurd (cc l)
+
+kept_tied : (x w : Write) (rest : List Write) → All (Rises x) rest → key_cmp w.key x.key ≡ Equal → without_front rest w.key ≡ rest
+kept_tied x w [] above e = refl
+kept_tied x w (v ∷ vs) above e = greater_kept v vs w.key (key_total.congr w.key x.key v.key e ∙ above 0 v (omega arith))
+
+at_front : (w v : Write) (vs : List Write) (o : Ordering) → key_cmp w.key v.key ≡ o → is_lt (key_cmp v.key w.key) ≡ false → match_ordering o (w ∷ v ∷ vs) (w ∷ vs) (v ∷ put vs w) ≡ w ∷ without_front (v ∷ vs) w.key
+at_front w v vs Less e reached = ap (λ l. w ∷ l) (sym (greater_kept v vs w.key e))
+at_front w v vs Equal e reached = ap (λ o. w ∷ cond (is_eq o) vs (v ∷ vs)) (sym (back w.key v.key Equal e))
+at_front w v vs Greater e reached = absurd (differ (sym (ap is_lt (back w.key v.key Greater e)) ∙ reached))
+  where
+    differ : true ≡ false → ⊥
+    differ e = cc
+
+-- a write laid over both parts is laid over the first, where the second has no smaller key, and takes the place of its own key there
+pub put-parts : (xs rest : List Write) (w : Write) → Ascend (xs ++ rest) → is_front_below rest w.key ≡ false → put xs w ++ without_front rest w.key ≡ put (xs ++ rest) w
+put-parts [] [] w up reached = refl
+put-parts [] (v ∷ vs) w up reached = sym (at_front w v vs (key_cmp w.key v.key) refl reached)
+put-parts (x ∷ xs) rest w up reached = go (put-parts xs rest w (tail x (xs ++ rest) up) reached) (key_cmp w.key x.key) refl
+  where
+    above : All (Rises x) rest
+    above = all_suffix (Rises x) xs rest (head x (xs ++ rest) up)
+
+    go : put xs w ++ without_front rest w.key ≡ put (xs ++ rest) w → (o : Ordering) → key_cmp w.key x.key ≡ o → match_ordering o (w ∷ x ∷ xs) (w ∷ xs) (x ∷ put xs w) ++ without_front rest w.key ≡ match_ordering o (w ∷ x ∷ (xs ++ rest)) (w ∷ (xs ++ rest)) (x ∷ put (xs ++ rest) w)
+    go ih Less e = ap (λ l. w ∷ x ∷ (xs ++ l)) (kept x w rest Less above e refl)
+    go ih Equal e = ap (λ l. w ∷ (xs ++ l)) (kept_tied x w rest above e)
+    go ih Greater e = ap (λ l. x ∷ l) ih

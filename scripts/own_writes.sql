@@ -1,0 +1,34 @@
+-- A statement sees the writes of the earlier statements of its transaction, and nobody else does before the commit.
+setup CREATE TABLE t (k int NOT NULL PRIMARY KEY, v int NULL)
+s1 INSERT INTO t VALUES (1, 10), (3, 30), (5, 50)
+s1 BEGIN TRAN
+s1 INSERT INTO t VALUES (4, 40), (2, 20)
+s1 SELECT * FROM t
+s1 UPDATE t SET v = v + 1
+s1 UPDATE t SET v = v * 2 WHERE v > 40
+s1 SELECT * FROM t
+s1 DELETE FROM t WHERE v IN (11, 82)
+s1 SELECT * FROM t
+s1 INSERT INTO t VALUES (3, 0)
+s1 INSERT INTO t VALUES (4, 41), (1, NULL)
+s1 SELECT COUNT(*), COUNT(v), SUM(v), MIN(k), MAX(k) FROM t
+s1 DELETE FROM t WHERE v IS NULL
+s1 UPDATE t SET v = 99 WHERE k = 1
+s1 INSERT INTO t VALUES (1, 12)
+s1 INSERT INTO t VALUES (1, 13)
+s1 INSERT INTO t SELECT value, value FROM GENERATE_SERIES(6, 8)
+s1 DELETE t WHERE k BETWEEN 7 AND 8
+s1 UPDATE t SET v = -v WHERE NOT v < 31
+s1 SELECT * FROM t
+s2 SELECT * FROM t
+s1 COMMIT TRAN
+s2 SELECT * FROM t
+-- Writes that are rolled back.
+s2 BEGIN TRAN
+s2 DELETE FROM t
+s2 SELECT COUNT(*) FROM t
+s2 INSERT INTO t VALUES (1, 1)
+s2 SELECT * FROM t
+s1 SELECT COUNT(*) FROM t
+s2 ROLLBACK TRAN
+s2 SELECT COUNT(*) FROM t

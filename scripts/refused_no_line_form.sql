@@ -1,0 +1,3 @@
+setup CREATE TABLE t (k bigint NOT NULL PRIMARY KEY, v int)
+s1 x
+x

@@ -1,0 +1,1 @@
+setup CREATE TABLE t (k decimal(19,2) PRIMARY KEY)

@@ -1,0 +1,1 @@
+setup CREATE TABLE t (k float PRIMARY KEY)

@@ -1,0 +1,1 @@
+setup CREATE TABLE u (k int)

@@ -1,0 +1,1 @@
+s1 SELECT * FROM t

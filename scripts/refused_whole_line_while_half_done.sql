@@ -1,0 +1,5 @@
+setup CREATE TABLE t (k bigint NOT NULL PRIMARY KEY, v int)
+s1> COMMIT
+s2 COMMIT
+s1 COMMIT
+s1<

@@ -1,0 +1,9 @@
+-- Every type at its limits, and each refusal of a value.
+setup CREATE TABLE t (k bigint NOT NULL PRIMARY KEY, a tinyint, b varchar(2), d date)
+s1 INSERT INTO t VALUES (-9223372036854775808, 255, 'ab   ', '9999-12-31')
+s1 INSERT INTO t VALUES (1, 256, NULL, NULL)
+s1 INSERT INTO t VALUES (1, 0, 'abc', NULL)
+s1 INSERT INTO t VALUES (1, 0, NULL, '2023-02-29')
+s1 INSERT INTO t VALUES (NULL, 0, NULL, NULL)
+s1 INSERT INTO t VALUES (9223372036854775808, 0, NULL, NULL)
+s1 SELECT * FROM t
