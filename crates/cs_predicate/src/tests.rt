@@ -1,6 +1,6 @@
-use crate::{ExprRefusal, Truth, compute, is_like, truth};
+use crate::{compute, is_like, truth};
 use cs_base::{Boxed, Items, Memory};
-use cs_model::{Expr, Operand, Pred, Relation, Times};
+use cs_model::{Expr, ExprRefusal, Operand, Pred, Relation, Times, Truth};
 use cs_types::{Column, ColumnType, Loose, Row, Schema, Value};
 use std::alloc::Global;
 use std::test::Fail;
