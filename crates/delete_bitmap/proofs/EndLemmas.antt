@@ -1,5 +1,5 @@
 -- The ends that bits and stamps stand for.
-use Rattle.std.proofs.Common.{◌≡◌, ◌≢◌, ℕ, zero, suc, ◌+◌, ◌<◌, inl, inr, Bool, true, false, not, cond, leb, ltb, List, [], ◌∷◌, length, get_or, map, replicate, set, Option, None, Some, All, refl, sym, ap, ◌∙◌, arith}
+use Rattle.std.proofs.Common.{◌≡◌, ◌≢◌, ℕ, zero, suc, ◌+◌, ◌<◌, inl, inr, Bool, true, false, not, cond, leb, ltb, List, [], ◌∷◌, length, get_or, map, replicate, set, Option, None, Some, All, AllPairs, refl, sym, ap, ◌∙◌, arith}
 use Rattle.std.specs.List.{count_by, filter, insert, slice_get}
 use Rattle.std.proofs.lemmas.Bool.{cases_lt}
 use Rattle.std.proofs.lemmas.Bool.Decides.{nat_tests}
@@ -11,7 +11,7 @@ use Rattle.delete_bitmap.specs.declared.MarkedEnd.{MarkedEnd}
 use Rattle.delete_bitmap.specs.declared.MarkedEnd.TheVariants.{Plain, Stamped}
 use Rattle.std.proofs.lemmas.Option.{get_or_from_slice_get, slice_get_within, unwrap_or-slice_get}
 use Rattle.delete_bitmap.specs.Marks.{end_at, settled, is_settling, is_removable, is_marked}
-use Rattle.delete_bitmap.specs.Kept.{Stamp, plain_end, ends_of, is_above, AreInOrder, AreKept, no_stamp, IsStampAt}
+use Rattle.delete_bitmap.specs.Kept.{Stamp, plain_end, ends_of, is_above, AreInOrder, AreKept, HasNone, no_stamp, IsStampAt}
 
 -- the end of a version, if it has one
 abbrev pub End : Type 0
@@ -29,24 +29,20 @@ AreMarked bits stamps = All (IsSetIn bits) stamps
 abbrev pub IsApart : ℕ → Stamp → Type 0
 IsApart p s = s.0 ≢ p
 
--- no stamp is of the position
-abbrev pub HasNone : ℕ → List Stamp → Type 0
-HasNone p stamps = All (IsApart p) stamps
-
 -- there are as many ends as bits
 pub length-ends_of : (stamps : List Stamp) (bits : List Bool) → length (ends_of stamps bits) ≡ length bits
 length-ends_of [] bits = length-map bits plain_end
 length-ends_of (s ∷ rest) bits = length-set (ends_of rest bits) s.0 (Some (Stamped s.1)) ∙ length-ends_of rest bits
 
 -- stamps in order are so behind the first, and stand at other positions than it
-in_order_tail : (s : Stamp) (rest : List Stamp) → AreInOrder (s ∷ rest) → AreInOrder rest
+pub in_order_tail : (s : Stamp) (rest : List Stamp) → AreInOrder (s ∷ rest) → AreInOrder rest
 in_order_tail s rest up i j d less there = up (suc i) (suc j) d (omega arith) (omega arith)
 
-later : (s : Stamp) (rest : List Stamp) → AreInOrder (s ∷ rest) → HasNone s.0 rest
+pub later : (s : Stamp) (rest : List Stamp) → AreInOrder (s ∷ rest) → HasNone s.0 rest
 later s rest up k d there same = let less = up 0 (suc k) d (omega arith) (omega arith) in absurd (omega arith)
 
 -- a bit that is set stands at a position that is there
-set_within : (bits : List Bool) (p : ℕ) → get_or bits p false ≡ true → p < length bits
+pub set_within : (bits : List Bool) (p : ℕ) → get_or bits p false ≡ true → p < length bits
 set_within bits p is = elim (cases_lt p (length bits)) [ inl there ↦ there | inr past ↦ absurd (differ (sym (get_or_past bits p false past) ∙ is)) ]
   where
     differ : false ≡ true → ⊥
@@ -63,19 +59,30 @@ at_bit (s ∷ rest) bits p none =
     get_or-set_other (ends_of rest bits) s.0 p (Some (Stamped s.1)) None (λ e. apart (sym e))
     ∙ at_bit rest bits p (All-tail (IsApart p) s rest none)
 
+-- the stamps are of different positions
+abbrev pub AreApart : List Stamp → Type 0
+AreApart stamps = AllPairs (λ s t. s.0 ≢ t.0) stamps
+
+pub AreApart-order : (stamps : List Stamp) → AreInOrder stamps → AreApart stamps
+AreApart-order stamps up i j d less there same = let before = up i j d less there in absurd (omega arith)
+
 -- at a stamp it is the stamp's
-pub at_stamp : (stamps : List Stamp) (bits : List Bool) (k : ℕ) (d : Stamp) → AreInOrder stamps → AreMarked bits stamps → k < length stamps
+pub at_apart : (stamps : List Stamp) (bits : List Bool) (k : ℕ) (d : Stamp) → AreApart stamps → AreMarked bits stamps → k < length stamps
     → get_or (ends_of stamps bits) (get_or stamps k d).0 None ≡ Some (Stamped (get_or stamps k d).1)
-at_stamp [] bits k d up marked there = absurd (omega arith)
-at_stamp (s ∷ rest) bits zero d up marked there =
+at_apart [] bits k d apart marked there = absurd (omega arith)
+at_apart (s ∷ rest) bits zero d apart marked there =
     get_or-set_same (ends_of rest bits) s.0 (Some (Stamped s.1)) None
     (omega (arith, length-ends_of rest bits, set_within bits s.0 (All-head (IsSetIn bits) s rest marked)))
-at_stamp (s ∷ rest) bits (suc k) d up marked there =
-    get_or-set_other (ends_of rest bits) s.0 (get_or rest k d).0 (Some (Stamped s.1)) None (later s rest up k d (omega arith))
-    ∙ at_stamp rest bits k d (in_order_tail s rest up) (All-tail (IsSetIn bits) s rest marked) (omega arith)
+at_apart (s ∷ rest) bits (suc k) d apart marked there =
+    get_or-set_other (ends_of rest bits) s.0 (get_or rest k d).0 (Some (Stamped s.1)) None (λ same. apart 0 (suc k) d (omega arith) there (sym same))
+    ∙ at_apart rest bits k d (λ i j e less inside. apart (suc i) (suc j) e (omega arith) (omega arith)) (All-tail (IsSetIn bits) s rest marked) (omega arith)
+
+pub at_stamp : (stamps : List Stamp) (bits : List Bool) (k : ℕ) (d : Stamp) → AreInOrder stamps → AreMarked bits stamps → k < length stamps
+    → get_or (ends_of stamps bits) (get_or stamps k d).0 None ≡ Some (Stamped (get_or stamps k d).1)
+at_stamp stamps bits k d up marked there = at_apart stamps bits k d (AreApart-order stamps up) marked there
 
 -- under a stamp lies a plain end
-plain_under : (s : Stamp) (rest : List Stamp) (bits : List Bool) → HasNone s.0 rest → get_or bits s.0 false ≡ true → get_or (ends_of rest bits) s.0 None ≡ Some Plain
+pub plain_under : (s : Stamp) (rest : List Stamp) (bits : List Bool) → HasNone s.0 rest → get_or bits s.0 false ≡ true → get_or (ends_of rest bits) s.0 None ≡ Some Plain
 plain_under s rest bits none is = at_bit rest bits s.0 none ∙ ap plain_end is
 
 -- a position without an end has neither bit nor stamp
@@ -149,7 +156,7 @@ settled-plain floor (true ∷ bits) = ap (λ (ends : List End). Some Plain ∷ e
 settled-plain floor (false ∷ bits) = ap (λ (ends : List End). None ∷ ends) (settled-plain floor bits)
 
 -- a commit is above the floor where it is not at most the floor
-above-leb : (floor commit : ℕ) → ltb floor commit ≡ not (leb commit floor)
+pub above-leb : (floor commit : ℕ) → ltb floor commit ≡ not (leb commit floor)
 above-leb floor commit = grind (arith, nat_tests)
 
 -- to settle the ends is to drop the stamps that are not above the floor

@@ -10,8 +10,8 @@ use Rattle.std.proofs.lemmas.List.{get_or_default, get_or-set_same, get_or-set_o
 use Rattle.std.proofs.lemmas.List.Edits.{length-insert, get_or-insert_below, get_or-insert_at, get_or-insert_above}
 use Rattle.std.proofs.lemmas.List.Elements.{All-append, All-cons, All-take, All-drop, All-weaker}
 use Rattle.std.proofs.lemmas.List.Sums.{sum_by-set}
-use Rattle.delete_bitmap.specs.Kept.{Stamp, AreInOrder, AreKept, no_stamp, IsStampAt, IsGapFor}
-use Rattle.delete_bitmap.proofs.EndLemmas.{AreMarked, HasNone, IsSetIn}
+use Rattle.delete_bitmap.specs.Kept.{Stamp, AreInOrder, AreKept, HasNone, no_stamp, IsStampAt, IsGapFor}
+use Rattle.delete_bitmap.proofs.EndLemmas.{AreMarked, IsSetIn}
 
 rises : (a b p : ℕ) → a ≤ b → ordering_index (nat_cmp a p) ≤ ordering_index (nat_cmp b p)
 rises a b p h = grind (arith, nat_tests)

@@ -1,5 +1,5 @@
--- How marks are kept: a bit for each position, and a stamp for each end that is not plain.
-use Rattle.std.specs.Prelude.{◌≡◌, ◌<◌, ◌≤◌, ℕ, Bool, true, false, nat_lt, List, [], ◌∷◌, length, map, slice_index_or, slice_set, count_by, Option, Some, None, All, AllPairs}
+-- How marks are kept: the set of positions that have ended, and a stamp for each end that is not plain.
+use Rattle.std.specs.Prelude.{◌≡◌, ◌≢◌, ◌<◌, ◌≤◌, ℕ, Bool, true, false, nat_lt, List, [], ◌∷◌, length, map, fold, slice_index_or, slice_set, count_by, Option, Some, None, All, AllPairs, if◌then◌else◌}
 use Rattle.delete_bitmap.specs.declared.MarkedEnd.{MarkedEnd}
 use Rattle.delete_bitmap.specs.declared.MarkedEnd.TheVariants.{Plain, Stamped}
 
@@ -24,6 +24,26 @@ is_above floor s = nat_lt floor s.1
 -- stamps stand in the order of positions
 abbrev pub AreInOrder : List Stamp → Type 0
 AreInOrder stamps = AllPairs (λ s t. s.0 < t.0) stamps
+
+-- positions stand in order, each once
+abbrev pub Ascend : List ℕ → Type 0
+Ascend positions = AllPairs (λ a b. a < b) positions
+
+-- no stamp is of the position
+abbrev pub HasNone : ℕ → List Stamp → Type 0
+HasNone p stamps = All (λ s. s.0 ≢ p) stamps
+
+-- a stamp of each position, all with one commit
+abbrev pub stamped : List ℕ → ℕ → List Stamp
+stamped positions commit = map (λ p. (p, commit)) positions
+
+-- a set without the position of a stamp, where the stamp is above the floor
+abbrev pub without_stamp : ℕ → List Bool → Stamp → List Bool
+without_stamp floor bits s = if is_above floor s then slice_set bits s.0 false else bits
+
+-- a set without the positions of the stamps above the floor
+abbrev pub without_above : ℕ → List Stamp → List Bool → List Bool
+without_above floor stamps bits = fold (without_stamp floor) bits stamps
 
 -- what is kept true: stamps stand in order, at bits that are set, and the number of set bits is kept
 pub record AreKept (bits : List Bool) (stamps : List Stamp) (count : ℕ) : Type 0 where

@@ -1,11 +1,15 @@
 -- The ends of a group's versions, by position.
-use Rattle.std.specs.Prelude.{ℕ, Bool, true, false, List, Option, Some, None, is_some, nat_le, slice_get, unwrap_or, if◌then◌else◌}
+use Rattle.std.specs.Prelude.{ℕ, Bool, true, false, List, Option, Some, None, is_some, nat_le, fold, slice_get, slice_set, unwrap_or, if◌then◌else◌}
 use Rattle.delete_bitmap.specs.declared.MarkedEnd.{MarkedEnd}
 use Rattle.delete_bitmap.specs.declared.MarkedEnd.TheVariants.{Plain, Stamped}
 
 -- the end at a position, none past the last one
 abbrev pub end_at : List (Option MarkedEnd) → ℕ → Option MarkedEnd
 end_at marks position = unwrap_or (slice_get marks position) None
+
+-- the ends where the versions at these positions are ended at a commit
+abbrev pub with_ends : List ℕ → ℕ → List (Option MarkedEnd) → List (Option MarkedEnd)
+with_ends positions commit marks = fold (λ ends p. slice_set ends p (Some (Stamped commit))) marks positions
 
 -- a stamped end at most the floor becomes plain, and any other stays
 abbrev pub settled : ℕ → Option MarkedEnd → Option MarkedEnd

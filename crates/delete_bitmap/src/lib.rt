@@ -5,15 +5,17 @@
 //! columnstore (Larson et al., SIGMOD 2013), with a commit number beside a mark until no snapshot can see the version.
 #![tactic(auto)]
 
-mod bits;
+mod positions;
+mod stamps;
 
-ghost use Rattle.std.specs.Prelude.{◌≡◌, ◌+◌, ◌<◌, length, map, replicate, slice_get, slice_set, count_by, filter, OnOk, OnErr, IfOk, IfErr, Some, None};
+ghost use Rattle.std.specs.Prelude.{◌≡◌, ℕ, ◌↔◌, ◌||◌, length, map, replicate, slice_get, slice_index_or, slice_set, count_by, All, Contains, OnOk, OnErr, IfOk, Some, None, false};
 ghost use Rattle.delete_bitmap.specs.Marks as spec;
-ghost use Rattle.delete_bitmap.specs.Marks.{settled, is_settling, end_at};
-ghost use Rattle.delete_bitmap.specs.Kept.{is_above, AreInOrder, IsStampAt, IsGapFor};
+ghost use Rattle.delete_bitmap.specs.Marks.{settled, is_settling, end_at, with_ends};
+ghost use Rattle.delete_bitmap.specs.Kept.{AreInOrder, Ascend};
 
-use bits::Bits;
 use cs_base::Memory;
+pub use positions::Positions;
+use stamps::{count_above, keep_above, place_of, take_out_above};
 use std::alloc::Global;
 use std::marker::Model;
 
@@ -30,11 +32,11 @@ pub enum MarkedEnd {
 /// is not plain. A group without ended versions takes no room. It keeps its allocator.
 #[derive(Debug, Drop)]
 pub struct Marks {
-    /// Set where the version has ended.
-    bits: Bits,
+    /// The versions that have ended.
+    ended: Positions,
     /// The positions and commits of the ends that are not plain, in the order of positions.
     stamps: Vec<(usize, u64)>,
-    /// The number of bits that are set.
+    /// The number of versions that have ended.
     count: u64,
 }
 
@@ -45,9 +47,9 @@ impl Model for Marks {
 
     ghost Value = { List (Option MarkedEnd) };
 
-    ghost view = { λ marks. ends_of marks.stamps.items marks.bits };
+    ghost view = { λ marks. ends_of marks.stamps.items marks.ended };
 
-    ghost invariant = { λ marks. AreKept marks.bits marks.stamps.items marks.count };
+    ghost invariant = { λ marks. AreKept marks.ended marks.stamps.items marks.count };
 }
 
 impl Marks {
@@ -56,7 +58,7 @@ impl Marks {
         ensures { IfOk result (λ marks. marks ≡ replicate length None) }
     {
         Ok(Marks {
-            bits: Bits::new(alloc, length),
+            ended: Positions::none(alloc, length),
             stamps: Vec::new(alloc),
             count: 0,
         })
@@ -66,7 +68,7 @@ impl Marks {
     pub fn len(&self) -> usize
         ensures { result ≡ length self.now }
     {
-        self.bits.len()
+        self.ended.len()
     }
 
     /// Ends the version at a position that has no end. After `Memory` nothing has changed.
@@ -80,7 +82,7 @@ impl Marks {
             Ok(_) => unreachable!(),
             Err(place) => place,
         };
-        self.bits.set(position)?;
+        self.ended.insert(position)?;
         match self.stamps.insert(place, (position, end)) {
             Ok(()) => {}
             Err(_) => unreachable!(),
@@ -89,11 +91,26 @@ impl Marks {
         Ok(())
     }
 
+    /// Ends the versions at these positions, none of which has an end, at one commit, in one pass over the ends that are
+    /// not plain. After `Memory` nothing has changed.
+    pub fn mark_all(&mut self, positions: &[usize], end: u64) -> Result<(), Memory>
+        requires ascending { Ascend positions.now }
+        requires unmarked { All (λ p. slice_get self.old p ≡ Some None) positions.now }
+        ensures ok { OnOk result (self.new ≡ with_ends positions.now end self.old) }
+        ensures err { OnErr result (self.new ≡ self.old) }
+    {
+        self.stamps.reserve(positions.len())?;
+        self.ended.insert_all(positions)?;
+        stamps::add_all(&mut self.stamps, positions, end);
+        self.count += positions.len() as u64;
+        Ok(())
+    }
+
     /// The end of the version at a position; None where it has none, and past the last position.
     pub fn end(&self, position: usize) -> Option<MarkedEnd>
         ensures { result ≡ end_at self.now position }
     {
-        if !self.bits.get(position) {
+        if !self.ended.contains(position) {
             return None;
         }
         match place_of(&self.stamps, position) {
@@ -124,42 +141,37 @@ impl Marks {
         self.count - count_above(&self.stamps, floor)
     }
 
+    /// The positions and commits of the ends that are not plain, in the order of positions.
+    pub fn stamps(&self) -> &[(usize, u64)]
+        ensures stamps { (p commit : ℕ) → Contains result.now (p, commit) ↔ (slice_get self.now p ≡ Some (Some (MarkedEnd.Stamped commit))) }
+        ensures order { AreInOrder result.now }
+    {
+        self.stamps.as_slice()
+    }
+
+    /// Puts the positions of the versions that have ended for a snapshot into a set, those whose end is plain or a
+    /// commit at most `s`. By words, and by one pass over the ends that are not plain. After `Memory` nothing has changed.
+    pub fn take_ended(&self, s: u64, positions: &mut Positions) -> Result<(), Memory>
+        requires { length positions.old ≡ length self.now }
+        ensures ok { OnOk result ((p : ℕ) → slice_index_or positions.new p false ≡ (slice_index_or positions.old p false || spec.is_removable s (end_at self.now p))) }
+        ensures length { length positions.new ≡ length positions.old }
+        ensures err { OnErr result (positions.new ≡ positions.old) }
+    {
+        let mut ended = self.ended.copy()?;
+        take_out_above(&mut ended, &self.stamps, s);
+        positions.join(&ended)
+    }
+
     /// Marks equal to these.
     pub fn copy(&self) -> Result<Marks, Memory>
         ensures { IfOk result (λ marks. marks ≡ self.now) }
     {
         Ok(Marks {
-            bits: self.bits.copy()?,
+            ended: self.ended.copy()?,
             stamps: Vec::from_slice(*self.stamps.allocator(), &self.stamps)?,
             count: self.count,
         })
     }
-}
-
-/// The place of a position's stamp, or where it would go.
-fn place_of(stamps: &[(usize, u64)], position: usize) -> Result<usize, usize>
-    requires { AreInOrder stamps.now }
-    ensures found { IfOk result (IsStampAt stamps.now position) }
-    ensures absent { IfErr result (IsGapFor stamps.now position) }
-{
-    stamps.binary_search_by_key(&position, |&(place, _)| place)
-}
-
-/// Keeps the stamps above the floor, and gives the number of the others.
-fn keep_above(stamps: &mut Vec<(usize, u64)>, floor: u64) -> u64
-    ensures kept { stamps.new.items ≡ filter (is_above floor) stamps.old.items }
-    ensures count { result + length stamps.new.items ≡ length stamps.old.items }
-{
-    let all = stamps.len();
-    stamps.retain(|(_, commit)| *commit > floor);
-    (all - stamps.len()) as u64
-}
-
-/// The number of stamps above the floor.
-fn count_above(stamps: &[(usize, u64)], floor: u64) -> u64
-    ensures { result ≡ count_by (is_above floor) stamps.now }
-{
-    stamps.iter().filter(|(_, commit)| *commit > floor).count() as u64
 }
 
 #[cfg(test)]

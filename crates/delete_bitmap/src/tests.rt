@@ -1,4 +1,4 @@
-use crate::{MarkedEnd, Marks};
+use crate::{MarkedEnd, Marks, Positions};
 use cs_base::Memory;
 use std::alloc::Global;
 use std::process::Abort;
@@ -65,6 +65,81 @@ fn ends_are_marked_and_settled(rt: HostRuntime) -> Result<(), Fail> {
         ),
         (3, 2, 0, 1)
     );
+    Ok(())
+}
+
+/// Ends two versions at one commit, where the first position is smaller, both are there and neither has an end.
+fn mark_two(marks: &mut Marks, first: usize, second: usize, commit: u64) -> Result<bool, Memory> {
+    if first >= second || second >= marks.len() {
+        return Ok(false);
+    }
+    if marks.end(first) != None || marks.end(second) != None {
+        return Ok(false);
+    }
+    marks.mark_all(&[first, second], commit)?;
+    Ok(true)
+}
+
+/// The positions that have ended for a snapshot, of which position 1 was taken before where there is one.
+fn ended_at(alloc: Global, marks: &Marks, s: u64) -> Result<Positions, Memory> {
+    let mut positions = Positions::none(alloc, marks.len());
+    if positions.len() > 1 {
+        positions.insert(1)?;
+    }
+    if positions.len() == marks.len() {
+        marks.take_ended(s, &mut positions)?;
+    }
+    Ok(positions)
+}
+
+#[test]
+fn batches_are_marked(rt: HostRuntime) -> Result<(), Fail> {
+    let mut marks = marked(rt.alloc(), 6, &[(4, 2), (0, 3)])?;
+    assert_eq!(rt; mark_two(&mut marks, 2, 3, 7)?, true);
+    assert_eq!(rt; mark_two(&mut marks, 3, 5, 8)?, false);
+    assert_eq!(rt; mark_two(&mut marks, 1, 5, 9)?, true);
+    let mut stamps = marks.stamps().iter();
+    for (position, commit) in [(0, 3), (1, 9), (2, 7), (3, 7), (4, 2), (5, 9)] {
+        assert_eq!(rt; stamps.next().copied(), Some((position, commit)));
+    }
+    assert_eq!(rt; stamps.next().copied(), None);
+    assert_eq!(rt;
+        (marks.count(), marks.settle(3), marks.stamps().len()),
+        (6, 2, 4)
+    );
+    Ok(())
+}
+
+#[test]
+fn the_ended_are_taken(rt: HostRuntime) -> Result<(), Fail> {
+    let alloc = rt.alloc();
+    for length in [0, 1, 2, 63, 64, 65, 1_000_000] {
+        let mut marks = Marks::new(alloc, length)?;
+        let last = length.saturating_sub(1);
+        assert_eq!(rt;
+            mark_two(&mut marks, 0, last, 5)?,
+            length > 1,
+            "of {length}"
+        );
+        for (s, ended) in [(4, false), (5, length > 1), (6, length > 1)] {
+            let positions = ended_at(alloc, &marks, s)?;
+            let first = positions.contains(0);
+            assert_eq!(rt;
+                (first, positions.contains(last)),
+                (ended, ended || length == 2),
+                "of {length} at {s}"
+            );
+            assert_eq!(rt; positions.contains(1), length > 1, "of {length} at {s}");
+            assert_eq!(rt; positions.contains(length), false, "of {length} at {s}");
+            assert_eq!(rt;
+                positions.contains(length / 2),
+                length == 2,
+                "of {length} at {s}"
+            );
+        }
+        assert_eq!(rt; marks.settle(5) > 0, length > 1);
+        assert_eq!(rt; ended_at(alloc, &marks, 0)?.contains(0), length > 1);
+    }
     Ok(())
 }
 

@@ -1,46 +1,56 @@
 -- The order of entries, and what a search among ordered entries finds.
-use Rattle.std.proofs.Common.{◌≡◌, ◌≢◌, ℕ, ◌+◌, ◌-◌, ◌<◌, ◌≤◌, ◌⊎◌, inl, inr, List, length, get_or, refl, sym, ◌∙◌, ap, subst, arith, ◌<ℤ◌, Bool, true, false, cond, Contains, Option, None, Some}
+use Rattle.std.proofs.Common.{◌≡◌, ◌≢◌, ℕ, ◌+◌, ◌-◌, ◌<◌, ◌≤◌, ◌⊎◌, inl, inr, List, length, get_or, refl, sym, ◌∙◌, ap, subst, arith, Bool, true, false, cond, Contains, Option, None, Some}
 use Rattle.std.specs.declared.cmp.Ordering.{Ordering}
 use Rattle.std.specs.declared.cmp.Ordering.TheVariants.{Less, Equal, Greater}
 use Rattle.std.specs.Cmp.{IsTotalOrder}
 use Rattle.std.specs.List.{insert}
 use Rattle.std.specs.List.Sorted.{IsNonDecreasingBy, IsPartitionPoint, IsSortedBy}
-use Rattle.std.specs.Ordering.{int_cmp, int_eq, nat_cmp, is_lt, ordering_then, ordering_reverse, ordering_index}
+use Rattle.std.specs.Ordering.{is_eq, is_lt, nat_cmp, ordering_then, ordering_reverse, ordering_index}
 use Rattle.std.proofs.lemmas.Bool.{cases_lt}
-use Rattle.std.proofs.lemmas.Bool.Decides.{Decides-int_eq}
-use Rattle.std.proofs.lemmas.Cmp.{int_ranked, ranked, int_cmp_total, nat_cmp_total, on_total, then_total, tied_itself}
-use Rattle.std.proofs.lemmas.Int.{ints}
+use Rattle.std.proofs.lemmas.Cmp.{ranked, nat_cmp_total, on_total, then_total, tied_itself}
 use Rattle.std.proofs.lemmas.List.{get_or_default}
 use Rattle.std.proofs.lemmas.List.Edits.{length-insert, get_or-insert_below, get_or-insert_at, get_or-insert_above}
 use Rattle.std.proofs.lemmas.List.Sorted.{searchable_from_sorted}
 use Rattle.std.proofs.lemmas.Option.{slice_get_past, slice_get-get_or}
 use Rattle.cs_types.specs.declared.Key.{Key}
+use Rattle.cs_types.specs.Keys.{key_cmp, same_key}
+use Rattle.cs_types.proofs.KeyLemmas.{key_total, exact_key, one_key}
 use Rattle.delete_buffer.specs.Entries.{Entry, entry_cmp, AreInOrder, IsFirstPast, IsLeastEnd, end_in, end_of}
 
 pub entry_total : IsTotalOrder entry_cmp
-entry_total = then_total (on_total (λ (x : Entry). x.0.0) int_cmp_total) (on_total (λ (x : Entry). x.1) nat_cmp_total)
+entry_total = then_total (on_total (λ (x : Entry). x.0) key_total) (on_total (λ (x : Entry). x.1) nat_cmp_total)
 
 -- how two entries stand
 abbrev pub Ranked : Ordering → Entry → Entry → Type 0
-Ranked Less x y = (x.0.0 <ℤ y.0.0) ⊎ ((x.0.0 ≡ y.0.0) × (x.1 < y.1))
-Ranked Equal x y = (x.0.0 ≡ y.0.0) × (x.1 ≡ y.1)
-Ranked Greater x y = (y.0.0 <ℤ x.0.0) ⊎ ((x.0.0 ≡ y.0.0) × (y.1 < x.1))
+Ranked Less x y = (key_cmp x.0 y.0 ≡ Less) ⊎ ((x.0 ≡ y.0) × (x.1 < y.1))
+Ranked Equal x y = (x.0 ≡ y.0) × (x.1 ≡ y.1)
+Ranked Greater x y = (key_cmp x.0 y.0 ≡ Greater) ⊎ ((x.0 ≡ y.0) × (y.1 < x.1))
 
-by_parts : (x y : Entry) (o p : Ordering) → o ≡ int_cmp x.0.0 y.0.0 → p ≡ nat_cmp x.1 y.1 → Ranked (ordering_then o p) x y
-by_parts x y Less p e f = inl (int_ranked x.0.0 y.0.0 Less e)
-by_parts x y Equal Less e f = inr (int_ranked x.0.0 y.0.0 Equal e, ranked x.1 y.1 Less f)
-by_parts x y Equal Equal e f = (int_ranked x.0.0 y.0.0 Equal e, ranked x.1 y.1 Equal f)
-by_parts x y Equal Greater e f = inr (int_ranked x.0.0 y.0.0 Equal e, ranked x.1 y.1 Greater f)
-by_parts x y Greater p e f = inl (int_ranked x.0.0 y.0.0 Greater e)
+by_parts : (x y : Entry) (o p : Ordering) → o ≡ key_cmp x.0 y.0 → p ≡ nat_cmp x.1 y.1 → Ranked (ordering_then o p) x y
+by_parts x y Less p e f = inl (sym e)
+by_parts x y Equal Less e f = inr (exact_key x.0 y.0 (sym e), ranked x.1 y.1 Less f)
+by_parts x y Equal Equal e f = (exact_key x.0 y.0 (sym e), ranked x.1 y.1 Equal f)
+by_parts x y Equal Greater e f = inr (exact_key x.0 y.0 (sym e), ranked x.1 y.1 Greater f)
+by_parts x y Greater p e f = inl (sym e)
 
 pub ranks : (x y : Entry) (r : Ordering) → entry_cmp x y ≡ r → Ranked r x y
-ranks x y r e = subst (λ (o : Ordering). Ranked o x y) e (by_parts x y (int_cmp x.0.0 y.0.0) (nat_cmp x.1 y.1) refl refl)
-
-entry_is : (x y : Entry) → x.0.0 ≡ y.0.0 → x.1 ≡ y.1 → x ≡ y
-entry_is x y p q = λ i. (record { 0 = p i }, q i)
+ranks x y r e = subst (λ (o : Ordering). Ranked o x y) e (by_parts x y (key_cmp x.0 y.0) (nat_cmp x.1 y.1) refl refl)
 
 pub same_entry : (x y : Entry) → entry_cmp x y ≡ Equal → x ≡ y
-same_entry x y e = let r = ranks x y Equal e in entry_is x y r.0 r.1
+same_entry x y e = let r = ranks x y Equal e in λ i. (r.0 i, r.1 i)
+
+-- a key is neither smaller nor greater than itself
+never_less : (a b : Key) → a ≡ b → key_cmp a b ≡ Less → ⊥
+never_less a b same less = differ (sym (tied_itself key_total b) ∙ ap (λ k. key_cmp k b) (sym same) ∙ less)
+  where
+    differ : Equal ≡ Less → ⊥
+    differ e = cc
+
+never_greater : (a b : Key) → a ≡ b → key_cmp a b ≡ Greater → ⊥
+never_greater a b same greater = differ (sym (tied_itself key_total b) ∙ ap (λ k. key_cmp k b) (sym same) ∙ greater)
+  where
+    differ : Equal ≡ Greater → ⊥
+    differ e = cc
 
 pub sorted : (entries : List Entry) → AreInOrder entries → IsSortedBy (λ x y. is_lt (entry_cmp x y)) entries
 sorted entries up = λ k d _ l. ap is_lt (entry_total.antisymm (get_or entries (k + 1) d) (get_or entries k d) ∙ ap ordering_reverse (up k (k + 1) d (omega arith) l))
@@ -138,40 +148,39 @@ in_order-insert entries x place up bound parted i j d less there =
         let next : k ≡ k - 1 + 1 = omega arith in
         ap (λ n. get_or (insert entries place x) n d) next ∙ get_or-insert_above entries place x d (k - 1) (omega arith) at.0
 
-key_is : (x : Entry) (key : Key) → x.0.0 ≡ key.0 → x.0 ≡ key
-key_is x key e = λ i. record { 0 = e i }
-
 -- an entry of the key before the first past it has an end up to `begin`, and one from it on a greater one
 end_before : (x : Entry) (key : Key) (begin : ℕ) → x.0 ≡ key → entry_cmp x (key, begin) ≢ Greater → x.1 ≤ begin
 end_before x key begin same not_greater = go (entry_cmp x (key, begin)) refl
   where
     go : (r : Ordering) → entry_cmp x (key, begin) ≡ r → x.1 ≤ begin
-    go Less e = elim (ranks x (key, begin) Less e) [ inl l ↦ absurd (omega (arith, ints, ap (λ (k : Key). k.0) same)) | inr h ↦ omega (arith, h.1) ]
+    go Less e = elim (ranks x (key, begin) Less e) [ inl l ↦ absurd (never_less x.0 key same l) | inr h ↦ omega (arith, h.1) ]
     go Equal e = omega (arith, (ranks x (key, begin) Equal e).1)
     go Greater e = absurd (not_greater e)
 
 end_after : (x : Entry) (key : Key) (begin : ℕ) → x.0 ≡ key → entry_cmp x (key, begin) ≡ Greater → begin < x.1
-end_after x key begin same greater =
-    elim (ranks x (key, begin) Greater greater) [ inl l ↦ absurd (omega (arith, ints, ap (λ (k : Key). k.0) same)) | inr h ↦ h.1 ]
+end_after x key begin same greater = elim (ranks x (key, begin) Greater greater) [ inl l ↦ absurd (never_greater x.0 key same l) | inr h ↦ h.1 ]
 
 end_later : (x y : Entry) → x.0 ≡ y.0 → entry_cmp x y ≡ Less → x.1 < y.1
-end_later x y same less = elim (ranks x y Less less) [ inl l ↦ absurd (omega (arith, ints, ap (λ (k : Key). k.0) same)) | inr h ↦ h.1 ]
+end_later x y same less = elim (ranks x y Less less) [ inl l ↦ absurd (never_less x.0 y.0 same l) | inr h ↦ h.1 ]
 
 -- no entry of the key follows one of another key that is past it
-other_key : (x y : Entry) (key : Key) (begin : ℕ) → x.0.0 ≢ key.0 → entry_cmp x (key, begin) ≡ Greater → (entry_cmp x y ≡ Less) ⊎ (x ≡ y) → y.0 ≡ key → ⊥
-other_key x y key begin other greater (inr same) is = other (ap (λ (e : Entry). e.0.0) same ∙ ap (λ (k : Key). k.0) is)
+other_key : (x y : Entry) (key : Key) (begin : ℕ) → x.0 ≢ key → entry_cmp x (key, begin) ≡ Greater → (entry_cmp x y ≡ Less) ⊎ (x ≡ y) → y.0 ≡ key → ⊥
+other_key x y key begin other greater (inr same) is = other (ap (λ (e : Entry). e.0) same ∙ is)
 other_key x y key begin other greater (inl less) is =
     elim (ranks x (key, begin) Greater greater) [
       | inl more ↦ elim (ranks x y Less less) [
-        | inl l ↦ absurd (omega (arith, ints, ap (λ (k : Key). k.0) is))
-        | inr h ↦ absurd (omega (arith, ints, h.0, ap (λ (k : Key). k.0) is))
+        | inl l ↦ differ (sym (ap (key_cmp x.0) is ∙ more) ∙ l)
+        | inr h ↦ other (h.0 ∙ is)
       ]
       | inr h ↦ other h.0
     ]
+  where
+    differ : Greater ≡ Less → ⊥
+    differ e = cc
 
 pub IsLeastEnd-past : (entries : List Entry) (key : Key) (begin place : ℕ) → AreInOrder entries → IsFirstPast entries (key, begin) place → IsLeastEnd entries key begin (end_in entries place key)
 IsLeastEnd-past entries key begin place up past = elim (cases_lt place (length entries)) [
-  | inl there ↦ here there (int_eq (get_or entries place (key, begin)).0.0 key.0) refl
+  | inl there ↦ here there (same_key (get_or entries place (key, begin)).0 key) refl
   | inr over ↦ subst (λ (o : Option ℕ). IsLeastEnd entries key begin o) (sym (ap (end_of key) (slice_get_past entries place over)))
       (λ k d l is. before k d l (omega arith) is)
 ]
@@ -181,10 +190,10 @@ IsLeastEnd-past entries key begin place up past = elim (cases_lt place (length e
         let same = get_or_default entries k d (key, begin) l in
         subst (λ (x : Entry). x.1 ≤ begin) (sym same) (end_before (get_or entries k (key, begin)) key begin (ap (λ (x : Entry). x.0) (sym same) ∙ is) (past.before k less))
 
-    here : place < length entries → (b : Bool) → int_eq (get_or entries place (key, begin)).0.0 key.0 ≡ b → IsLeastEnd entries key begin (end_in entries place key)
+    here : place < length entries → (b : Bool) → same_key (get_or entries place (key, begin)).0 key ≡ b → IsLeastEnd entries key begin (end_in entries place key)
     here there true e =
         let found : Entry = get_or entries place (key, begin) in
-        let is : found.0 ≡ key = key_is found key ((Decides-int_eq found.0.0 key.0).0 e) in
+        let is : found.0 ≡ key = one_key found.0 key e in
         let whole : found ≡ (key, found.1) = λ i. (is i, found.1) in
         subst (λ (o : Option ℕ). IsLeastEnd entries key begin o)
         (sym (ap (end_of key) (slice_get-get_or entries place (key, begin) there) ∙ ap (λ b. cond b (Some found.1) None) e)) (
@@ -206,7 +215,7 @@ IsLeastEnd-past entries key begin place up past = elim (cases_lt place (length e
         )
     here there false e =
         let found : Entry = get_or entries place (key, begin) in
-        let other : found.0.0 ≢ key.0 = λ same. true_false (sym ((Decides-int_eq found.0.0 key.0).1 same) ∙ e) in
+        let other : found.0 ≢ key = λ same. true_false (sym (ap is_eq (tied_itself key_total key)) ∙ ap (λ k. same_key k key) (sym same) ∙ e) in
         subst (λ (o : Option ℕ). IsLeastEnd entries key begin o)
         (sym (ap (end_of key) (slice_get-get_or entries place (key, begin) there) ∙ ap (λ b. cond b (Some found.1) None) e))
         (λ k d l is. elim (cases_lt k place) [

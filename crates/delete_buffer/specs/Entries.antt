@@ -1,9 +1,11 @@
 -- The entries of a delete buffer: keys with the commit numbers at which a version of theirs ends.
-use Rattle.std.specs.Prelude.{◌≡◌, ◌≢◌, ◌<◌, ◌≤◌, ℕ, List, length, slice_get, slice_index_or, if◌then◌else◌, All, AllPairs, Contains, Option, None, Some}
+use Rattle.std.specs.Prelude.{◌≡◌, ◌≢◌, ◌<◌, ◌≤◌, ℕ, Bool, not, List, length, map, filter, slice_get, slice_index_or, if◌then◌else◌, All, AllPairs, Contains, Option, None, Some}
 use Rattle.std.specs.declared.cmp.Ordering.{Ordering}
 use Rattle.std.specs.declared.cmp.Ordering.TheVariants.{Less, Greater}
-use Rattle.std.specs.Ordering.{int_cmp, int_eq, nat_cmp, ordering_then}
+use Rattle.std.specs.List.{list_any}
+use Rattle.std.specs.Ordering.{is_eq, nat_cmp, ordering_then}
 use Rattle.cs_types.specs.declared.Key.{Key}
+use Rattle.cs_types.specs.Keys.{key_cmp, same_key}
 
 -- an entry: a key and an end
 abbrev pub Entry : Type 0
@@ -16,11 +18,32 @@ pub record Room : Type 0 where
 
 -- entries are ordered by key, those of one key by their ends
 abbrev pub entry_cmp : Entry → Entry → Ordering
-entry_cmp x y = ordering_then (int_cmp x.0.0 y.0.0) (nat_cmp x.1 y.1)
+entry_cmp x y = ordering_then (key_cmp x.0 y.0) (nat_cmp x.1 y.1)
 
 -- each entry comes before all later ones, so no two are alike
 abbrev pub AreInOrder : List Entry → Type 0
 AreInOrder entries = AllPairs (λ x y. entry_cmp x y ≡ Less) entries
+
+-- each key is smaller than all later ones
+abbrev pub Ascend : List Key → Type 0
+Ascend keys = AllPairs (λ a b. key_cmp a b ≡ Less) keys
+
+-- an entry of each key, all with one end
+abbrev pub ended : List Key → ℕ → List Entry
+ended keys end = map (λ key. (key, end)) keys
+
+-- whether the entry is one of these
+abbrev pub is_among : List Entry → Entry → Bool
+is_among taken x = list_any (λ y. is_eq (entry_cmp x y)) taken
+
+-- the entries that are none of the taken ones
+abbrev pub without : List Entry → List Entry → List Entry
+without taken entries = filter (λ x. not (is_among taken x)) entries
+
+-- how an entry stands to this one; where there is none, it is greater
+abbrev pub order_of : Entry → Option Entry → Ordering
+order_of entry None = Greater
+order_of entry (Some x) = entry_cmp x entry
 
 -- the least end of the key above `begin`, none where there is no such end
 abbrev pub IsLeastEnd : List Entry → Key → ℕ → Option ℕ → Type 0
@@ -36,7 +59,7 @@ pub record IsFirstPast (entries : List Entry) (entry : Entry) (place : ℕ) : Ty
 -- the end of an entry, where it is one of the key
 abbrev pub end_of : Key → Option Entry → Option ℕ
 end_of key None = None
-end_of key (Some x) = if int_eq x.0.0 key.0 then Some x.1 else None
+end_of key (Some x) = if same_key x.0 key then Some x.1 else None
 
 -- the end of the entry at a place, where it is one of the key
 abbrev pub end_in : List Entry → ℕ → Key → Option ℕ

@@ -1,38 +1,48 @@
 //! The delete buffer: keys with the commit numbers at which a version of theirs outside the open delta store ends, until a
 //! flush records the end in a delete bitmap or an install leaves the version out.
 //!
-//! Its one contract: a buffer is a list of pairs of key and end, and each call changes exactly the entry that it names.
-//! It stands on `cs_base` and `cs_types`. Larson et al., PVLDB 2015, describe the delete buffer.
+//! Its one contract: a buffer is a list of pairs of key and end, strictly in order, and each call changes exactly the entries
+//! that it names. It can be shared as it stands, until the next change without a copy. It stands on `cs_base`, `cs_types`
+//! and the laws of `merge_laws`. Larson et al., PVLDB 2015, describe the delete buffer.
 #![tactic(auto)]
+
+mod batches;
+mod ends;
 
 use cs_base::Memory;
 use cs_types::Key;
+pub use ends::Ends;
+use ends::least_end;
 use std::alloc::Global;
 use std::marker::Model;
+use std::sync::Arc;
 
 /// Ends by key. Contracts see its entries, and beside them `spare`, the number of entries that find room without
-/// memory.
+/// memory. It keeps its allocator.
 #[derive(Debug, Drop)]
 pub struct Buffer {
     /// In the order of keys and ends.
     entries: Vec<(Key, u64)>,
+    /// The same entries, where they were shared since the last change.
+    shared: Option<Arc<Ends>>,
 }
 
 impl Model for Buffer {
     ghost use Rattle.std.specs.Prelude.{◌-◌, vec_capacity, vec_len};
-    ghost use Rattle.delete_buffer.specs.Entries.{Room, AreInOrder};
+    ghost use Rattle.delete_buffer.specs.Entries.{Room};
+    ghost use Rattle.delete_buffer.specs.Shared.{AreKept};
 
     ghost Value = { Room };
 
     ghost view = { λ b. record { entries = b.entries.items; spare = vec_capacity b.entries - vec_len b.entries } };
 
-    ghost invariant = { λ b. AreInOrder b.entries.items };
+    ghost invariant = { λ b. AreKept b.entries.items b.shared };
 }
 
 impl Buffer {
-    ghost use Rattle.std.specs.Prelude.{◌≡◌, ◌+◌, ◌<◌, ◌≤◌, ◌↔◌, [], ◌∷◌, length, IsTrue, IfOk, OnOk, Contains, IsPermutation};
+    ghost use Rattle.std.specs.Prelude.{◌≡◌, ◌+◌, ◌<◌, ◌≤◌, ◌↔◌, [], ◌∷◌, ◌++◌, length, IsTrue, IfOk, OnOk, All, Contains, IsPermutation};
     ghost use Rattle.std.specs.Bool.{OnTrue, OnFalse};
-    ghost use Rattle.delete_buffer.specs.Entries.{IsLeastEnd};
+    ghost use Rattle.delete_buffer.specs.Entries.{AreInOrder, Ascend, IsLeastEnd, ended, without};
 
     /// The empty buffer. It takes no memory.
     pub fn new(alloc: Global) -> Buffer
@@ -40,6 +50,7 @@ impl Buffer {
     {
         Buffer {
             entries: Vec::new(alloc),
+            shared: None,
         }
     }
 
@@ -64,21 +75,42 @@ impl Buffer {
             Ok(_) => unreachable!(),
             Err(place) => place,
         };
+        forget(&mut self.shared);
         match self.entries.insert(place, (key, end)) {
             Ok(()) => {}
             Err(_) => unreachable!(),
         }
     }
 
+    /// Adds an entry of each key with one end, none of which is there, in one pass over the buffer. It takes no memory.
+    pub fn add_all(&mut self, keys: &[Key], end: u64)
+        requires room { length keys.now ≤ self.old.spare }
+        requires ascending { Ascend keys.now }
+        requires absent { All (λ key. ¬ Contains self.old.entries (key, end)) keys.now }
+        ensures entries { IsPermutation (ended keys.now end ++ self.old.entries) self.new.entries }
+        ensures order { AreInOrder self.new.entries }
+        ensures room { self.old.spare ≤ self.new.spare + length keys.now }
+    {
+        forget(&mut self.shared);
+        batches::add_all(&mut self.entries, keys, end);
+    }
+
+    /// The entries as a slice, in the order of keys and then of ends, each once.
+    pub fn as_slice(&self) -> &[(Key, u64)]
+        ensures entries { result.now ≡ self.now.entries }
+        ensures order { AreInOrder self.now.entries }
+    {
+        self.entries.as_slice()
+    }
+
     /// The least end of the key above `begin`. None where there is no such end.
     pub fn ends(&self, key: Key, begin: u64) -> Option<u64>
         ensures { IsLeastEnd self.now.entries key begin result }
     {
-        let entries = self.entries.as_slice();
-        end_at(entries, past(entries, key, begin), key)
+        least_end(&self.entries, key, begin)
     }
 
-    /// Takes an entry away. False, with nothing changed, exactly where it is not there.
+    /// Takes an entry away. False, with nothing changed, exactly where it is not there. It takes no memory.
     pub fn remove(&mut self, key: Key, end: u64) -> bool
         ensures there { IsTrue result ↔ Contains self.old.entries (key, end) }
         ensures gone { OnTrue result (IsPermutation self.old.entries ((key, end) ∷ self.new.entries)) }
@@ -88,11 +120,23 @@ impl Buffer {
     {
         match self.entries.binary_search(&(key, end)) {
             Ok(place) => {
+                forget(&mut self.shared);
                 self.entries.remove(place);
                 true
             }
             Err(_) => false,
         }
+    }
+
+    /// Takes away the entries that are among these, which are in order, in one pass over the buffer. It takes no memory.
+    pub fn remove_all(&mut self, taken: &[(Key, u64)])
+        requires { AreInOrder taken.now }
+        ensures entries { self.new.entries ≡ without taken.now self.old.entries }
+        ensures order { AreInOrder self.new.entries }
+        ensures room { self.old.spare ≤ self.new.spare }
+    {
+        forget(&mut self.shared);
+        batches::remove_all(&mut self.entries, taken);
     }
 
     /// The number of entries.
@@ -109,74 +153,33 @@ impl Buffer {
         self.entries.is_empty()
     }
 
-    /// A buffer with the same entries.
-    pub fn copy(&self) -> Result<Buffer, Memory>
-        ensures { IfOk result (λ copied. copied.entries ≡ self.now.entries) }
+    /// The entries as they are now, whatever becomes of the buffer. The first copy after a change copies the entries, and
+    /// each further one shares them. After `Memory` nothing has changed.
+    pub fn copy(&mut self) -> Result<Arc<Ends>, Memory>
+        ensures copied { IfOk result (λ copied. copied.value ≡ self.old.entries) }
+        ensures entries { self.new.entries ≡ self.old.entries }
+        ensures room { self.new.spare ≡ self.old.spare }
     {
-        Ok(Buffer {
-            entries: Vec::from_slice(*self.entries.allocator(), &self.entries)?,
-        })
+        if let Some(shared) = &self.shared {
+            return Ok(Arc::try_clone(shared)?);
+        }
+        let alloc = *self.entries.allocator();
+        let entries = Vec::from_slice(alloc, &self.entries)?;
+        let shared = Arc::new(alloc, Ends::from_vec(entries))?;
+        let copied = Arc::try_clone(&shared)?;
+        self.shared = Some(shared);
+        Ok(copied)
     }
 }
 
 ghost use Rattle.std.specs.Prelude.{◌≡◌};
-ghost use Rattle.delete_buffer.specs.Entries.{AreInOrder, IsFirstPast, end_in};
 
-/// The place of the first entry after a key and an end.
-fn past(entries: &[(Key, u64)], key: Key, end: u64) -> usize
-    requires { AreInOrder entries.now }
-    ensures { IsFirstPast entries.now (key, end) result }
+/// Lets go what was shared.
+fn forget(shared: &mut Option<Arc<Ends>>)
+    ensures { shared.new ≡ None }
 {
-    match entries.binary_search(&(key, end)) {
-        Ok(place) => place + 1,
-        Err(place) => place,
-    }
-}
-
-/// The end of the entry at a place, where it is one of the key.
-fn end_at(entries: &[(Key, u64)], place: usize, key: Key) -> Option<u64>
-    ensures { result ≡ end_in entries.now place key }
-{
-    let (other, end) = *entries.get(place)?;
-    if other == key { Some(end) } else { None }
+    *shared = None;
 }
 
 #[cfg(test)]
-mod tests {
-    use super::*;
-    use std::test::Fail;
-
-    #[test]
-    fn entries_come_and_go(rt: HostRuntime) -> Result<(), Fail> {
-        let mut buffer = Buffer::new(rt.alloc());
-        assert_eq!(rt; buffer.is_empty(), true);
-        assert_eq!(rt; buffer.ends(Key(1), 0), None);
-        assert_eq!(rt; buffer.remove(Key(1), 2), false);
-        for (key, end) in [(7, 4), (-3, 9), (7, 2), (7, 6)] {
-            buffer.reserve(1)?;
-            assert_eq!(rt; buffer.remove(Key(key), end), false, "of {key}");
-            buffer.add(Key(key), end);
-        }
-        assert_eq!(rt; buffer.len(), 4);
-        let copied = buffer.copy()?;
-        for (key, begin, end) in [
-            (7, 0, Some(2)),
-            (7, 2, Some(4)),
-            (7, 3, Some(4)),
-            (7, 5, Some(6)),
-            (7, 6, None),
-            (-3, 8, Some(9)),
-            (-3, 9, None),
-            (0, 0, None),
-            (8, 0, None),
-        ] {
-            assert_eq!(rt; buffer.ends(Key(key), begin), end, "of {key} above {begin}");
-        }
-        assert_eq!(rt; buffer.remove(Key(7), 3), false);
-        assert_eq!(rt; buffer.remove(Key(7), 4), true);
-        assert_eq!(rt; buffer.ends(Key(7), 2), Some(6));
-        assert_eq!(rt; copied.ends(Key(7), 2), Some(4));
-        assert_eq!(rt; (buffer.len(), copied.len()), (3, 4));
-        Ok(())
-    }
-}
+mod tests;

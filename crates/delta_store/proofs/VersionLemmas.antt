@@ -1,18 +1,21 @@
 -- The last place of a key, and its live version.
-use Rattle.std.proofs.Common.{◌≡◌, ℕ, ℤ, zero, suc, ◌<◌, ◌≤◌, ◌+◌, ◌≢◌, Bool, true, false, ◌&&◌, ◌||◌, cond, List, [], ◌∷◌, ◌++◌, map, length, get_or, set, Option, Some, None, is_none, is_some, refl, sym, ap, ◌∙◌, add-one, arith}
+use Rattle.std.proofs.Common.{◌≡◌, ℕ, ℤ, zero, suc, ◌<◌, ◌≤◌, ◌+◌, ◌≢◌, Bool, true, false, ◌&&◌, ◌||◌, cond, List, [], ◌∷◌, ◌++◌, map, length, get_or, set, slice_get, Option, Some, None, is_none, is_some, refl, sym, ap, ◌∙◌, add-one, arith}
 use Rattle.std.specs.Ordering.{int_eq}
+use Rattle.std.specs.List.{AllWithin}
+use Rattle.std.specs.Option.{option_map}
+use Rattle.cs_types.specs.declared.row.Version.{Version}
 use Rattle.std.proofs.lemmas.Bool.Decides.{Decides-int_eq}
 use Rattle.cs_types.specs.declared.Key.{Key}
-use Rattle.delta_store.specs.declared.store.KeyedVersion.{KeyedVersion}
+use Rattle.delta_store.specs.declared.version.KeyedVersion.{KeyedVersion}
 use Rattle.delta_store.specs.Index.{SetsOnly, place_in}
-use Rattle.delta_store.specs.Versions.{is_of, is_live, has_live, ended_at, is_ended, IsLastPlace}
+use Rattle.delta_store.specs.Versions.{is_of, is_live, has_live, ended_at, is_ended, IsLastPlace, AreByBegin}
 use Rattle.delta_store.specs.Places.{one_on, last_place, AreEndedButLast, IsIndexed}
 
 -- keys that test alike are one, and one key tests alike
 pub key_is : (a b : Key) → int_eq a.0 b.0 ≡ true → a ≡ b
 key_is a b is = ap (λ (z : ℤ). let k : Key = record { 0 = z } in k) ((Decides-int_eq a.0 b.0).0 is)
 
-key_itself : (a b : Key) → a ≡ b → int_eq b.0 a.0 ≡ true
+pub key_itself : (a b : Key) → a ≡ b → int_eq b.0 a.0 ≡ true
 key_itself a b is = (Decides-int_eq b.0 a.0).1 (ap (λ (k : Key). k.0) (sym is))
 
 -- the place behind the last version is that of its key, and every other key keeps its place
@@ -83,7 +86,7 @@ map-absent (v ∷ vs) q e is =
     rw (ended_at-other v q e parts.1, map-absent vs q e parts.0) refl
 
 -- a last place is a place that is there
-last_place_below : (vs : List KeyedVersion) (q : Key) (p : ℕ) → last_place vs q ≡ Some p → p < length vs
+pub last_place_below : (vs : List KeyedVersion) (q : Key) (p : ℕ) → last_place vs q ≡ Some p → p < length vs
 last_place_below [] q p is = cc
 last_place_below (v ∷ vs) q p is = step (last_place vs q) (is_of q v) (last_place_below vs q) is
   where
@@ -108,7 +111,7 @@ ended_at-settled : (v : KeyedVersion) (q : Key) (e : ℕ) → is_live q v ≡ fa
 ended_at-settled v q e dead = rw dead refl
 
 -- the live version of a key stands at its last place
-live_at : (vs : List KeyedVersion) (q : Key) (p : ℕ) (d : KeyedVersion) → AreEndedButLast vs → last_place vs q ≡ Some p → has_live q vs ≡ is_live q (get_or vs p d)
+pub live_at : (vs : List KeyedVersion) (q : Key) (p : ℕ) (d : KeyedVersion) → AreEndedButLast vs → last_place vs q ≡ Some p → has_live q vs ≡ is_live q (get_or vs p d)
 live_at [] q p d ended is = cc
 live_at (v ∷ vs) q p d ended is = step (last_place vs q) (is_of q v) p refl is (λ r r_is. live_at vs q r d ended.1 r_is) (dead_absent vs q)
   where
@@ -126,7 +129,7 @@ live_at (v ∷ vs) q p d ended is = step (last_place vs q) (is_of q v) p refl is
     step None false p o_is is rest none = cc
 
 -- to end the version at the last place of a key is to end its live version
-map_at : (vs : List KeyedVersion) (q : Key) (e p : ℕ) (d : KeyedVersion) → AreEndedButLast vs → last_place vs q ≡ Some p → map (ended_at q e) vs ≡ set vs p (ended_at q e (get_or vs p d))
+pub map_at : (vs : List KeyedVersion) (q : Key) (e p : ℕ) (d : KeyedVersion) → AreEndedButLast vs → last_place vs q ≡ Some p → map (ended_at q e) vs ≡ set vs p (ended_at q e (get_or vs p d))
 map_at [] q e p d ended is = cc
 map_at (v ∷ vs) q e p d ended is = step (last_place vs q) (is_of q v) p refl is (λ r r_is. map_at vs q e r d ended.1 r_is) (map-absent vs q e)
   where
@@ -194,21 +197,28 @@ IsLastPlace-last_place (v ∷ vs) q = step (last_place vs q) (is_of q v) refl (I
         all zero d below = λ same. differ (sym (key_itself q v.key (sym same)) ∙ is)
         all (suc k) d below = none k d (omega arith)
 
--- the place that an index has for a key is that of its live version, if there is one
-module _ (vs : List KeyedVersion) (pairs : List (Key × ℕ)) (q : Key) (e p : ℕ) (ok : IsIndexed vs pairs) (has : place_in pairs q ≡ Some p) where
-  at : last_place vs q ≡ Some p
-  at = sym (ok.places q) ∙ has
-
-  pub there : p < length vs
-  there = last_place_below vs q p at
-
-  pub live_there : (v : KeyedVersion) → has_live q vs ≡ is_live q (get_or vs p v)
-  live_there v = live_at vs q p v ok.ended at
-
-  -- to end it in place is to end the key's live version
-  pub ended_there : (v w : KeyedVersion) → v ≡ get_or vs p v → w ≡ ended_at q e v → set vs p w ≡ map (ended_at q e) vs
-  ended_there v w read ended = ap (λ (x : KeyedVersion). set vs p x) (ended ∙ ap (ended_at q e) read) ∙ sym (map_at vs q e p v ok.ended at)
-
 -- a key without a place has no version
 pub absent : (vs : List KeyedVersion) (pairs : List (Key × ℕ)) (q : Key) → IsIndexed vs pairs → place_in pairs q ≡ None → last_place vs q ≡ None
 absent vs pairs q ok has = sym (ok.places q) ∙ has
+
+-- ---- versions by their begins
+
+version_read : (vs : List KeyedVersion) (i : ℕ) (w : Version) → option_map (λ (v : KeyedVersion). v.version) (slice_get vs i) ≡ Some w → (d : KeyedVersion) → (get_or vs i d).version ≡ w
+version_read [] i w is d = absurd (cc)
+version_read (v ∷ vs) zero w is d = cc
+version_read (v ∷ vs) (suc i) w is d = version_read vs i w is d
+
+module _ (vs : List KeyedVersion) (by_begin : AreByBegin vs) (begin m : ℕ) (w : Version) (there : m < length vs) (is : option_map (λ (v : KeyedVersion). v.version) (slice_get vs m) ≡ Some w) where
+  -- up to a version that doesn't begin after the commit none does
+  pub none_up_to : w.begin ≤ begin → AllWithin (λ (v : KeyedVersion). v.version.begin ≤ begin) vs 0 (m + 1)
+  none_up_to early k d from below =
+      let rise = by_begin k m d (omega arith) there in
+      let same = ap (λ (u : Version). u.begin) (version_read vs m w is d) in
+      omega (arith, rise, same, early)
+
+  -- and from one on that does all do
+  pub all_from : begin < w.begin → AllWithin (λ (v : KeyedVersion). begin < v.version.begin) vs m (length vs)
+  all_from late k d from below =
+      let rise = by_begin m k d from below in
+      let same = ap (λ (u : Version). u.begin) (version_read vs m w is d) in
+      omega (arith, rise, same, late)

@@ -1,9 +1,12 @@
--- What a delta store keeps true of its index: it has the last place of each key.
-use Rattle.std.specs.Prelude.{◌≡◌, ℕ, ◌+◌, List, [], ◌∷◌, ◌||◌, Option, Some, None, is_none, Bool, true, false}
+-- What a delta store keeps true of its index and its links: the last place of each key, and for each version the place of
+-- its key's version before.
+use Rattle.std.specs.Prelude.{◌≡◌, ℕ, ◌+◌, List, [], ◌∷◌, map, take, slice_get, count_by, ◌||◌, Option, Some, None, is_none, Bool, true, false}
+use Rattle.std.specs.Option.{option_map}
 use Rattle.cs_types.specs.declared.Key.{Key}
-use Rattle.delta_store.specs.declared.store.KeyedVersion.{KeyedVersion}
+use Rattle.delta_store.specs.declared.version.KeyedVersion.{KeyedVersion}
+use Rattle.delta_store.specs.declared.version.LinkedVersion.{LinkedVersion}
 use Rattle.delta_store.specs.Index.{place_in}
-use Rattle.delta_store.specs.Versions.{is_of, is_ended}
+use Rattle.delta_store.specs.Versions.{is_of, is_live, is_ended}
 
 -- one place further, or the first place where the test says so
 abbrev pub one_on : Option ℕ → Bool → Option ℕ
@@ -25,3 +28,25 @@ AreEndedButLast (v ∷ vs) = ((is_none (last_place vs v.key) || is_ended v) ≡ 
 pub record IsIndexed (versions : List KeyedVersion) (pairs : List (Key × ℕ)) : Type 0 where
   pub places : (key : Key) → place_in pairs key ≡ last_place versions key
   pub ended : AreEndedButLast versions
+
+-- the versions without their links
+abbrev pub keyed_in : List LinkedVersion → List KeyedVersion
+keyed_in linked = map (λ v. v.keyed) linked
+
+-- each link is the place of the key's last version before
+abbrev pub AreLinked : List LinkedVersion → Type 0
+AreLinked linked =
+    (i : ℕ)
+    → slice_get (map (λ v. v.previous) linked) i
+    ≡ option_map (λ v. last_place (take i (keyed_in linked)) v.key) (slice_get (keyed_in linked) i)
+
+-- what is kept of stored versions: their index, their links, and the number of those that have an end
+pub record IsStored (linked : List LinkedVersion) (pairs : List (Key × ℕ)) (ended : ℕ) : Type 0 where
+  pub indexed : IsIndexed (keyed_in linked) pairs
+  pub links : AreLinked linked
+  pub counted : ended ≡ count_by is_ended (keyed_in linked)
+
+-- the key's live version stands at the place: it is the key's last, and has no end
+pub record IsLiveAt (versions : List KeyedVersion) (key : Key) (place : ℕ) : Type 0 where
+  pub last : last_place versions key ≡ Some place
+  pub live : (v : KeyedVersion) → slice_get versions place ≡ Some v → is_live key v ≡ true

@@ -1,14 +1,17 @@
 -- Versions of rows with their keys, in the order in which they came.
-use Rattle.std.specs.Prelude.{◌≡◌, ◌≢◌, ◌+◌, ◌<◌, ℕ, List, length, ◌&&◌, Option, Some, None, is_none, is_some, Bool, if◌then◌else◌, All}
+use Rattle.std.specs.Prelude.{◌≡◌, ◌≢◌, ◌+◌, ◌/◌, ◌<◌, ◌≤◌, ℕ, List, length, take, slice_get, slice_index_or, ◌&&◌, Option, Some, None, is_none, is_some, Bool, true, false, if◌then◌else◌, All}
 use Rattle.std.specs.List.{AllWithin, HoldsAt, list_any}
-use Rattle.std.specs.Ordering.{int_eq}
+use Rattle.std.specs.List.Sorted.{IsNonDecreasingBy}
 use Rattle.cs_types.specs.declared.Key.{Key}
 use Rattle.cs_types.specs.declared.Value.{Value}
-use Rattle.delta_store.specs.declared.store.KeyedVersion.{KeyedVersion}
+use Rattle.std.specs.Ordering.{int_eq}
+use Rattle.delta_store.specs.declared.version.KeyedVersion.{KeyedVersion}
 
--- what contracts see of a delta store: its versions, and how many more find room without memory
+-- what contracts see of a delta store: its versions, which chunks of 1,024 places are its own, not shared, and how many
+-- more versions find room without memory
 pub record Store : Type 0 where
   pub versions : List KeyedVersion
+  pub own : List Bool
   pub spare : ℕ
 
 -- the version is of the key
@@ -39,6 +42,14 @@ ended_at key end v =
       version = record { row = v.version.row; begin = v.version.begin; end = if is_live key v then Some end else v.version.end };
     }
 
+-- the key may be ended: its live version, if it has one, stands in a chunk that is own
+abbrev pub IsReady : Store → Key → Type 0
+IsReady store key =
+    (place : ℕ) (v : KeyedVersion)
+    → slice_get store.versions place ≡ Some v
+    → is_live key v ≡ true
+    → slice_index_or store.own (place / 1024) false ≡ true
+
 -- the place of the last version of the key, none where it has no version
 abbrev pub IsLastPlace : List KeyedVersion → Key → Option ℕ → Type 0
 IsLastPlace versions key None = All (λ v. v.key ≢ key) versions
@@ -46,3 +57,16 @@ IsLastPlace versions key (Some place) =
     (place < length versions)
     × HoldsAt (λ v. v.key ≡ key) versions place
     × AllWithin (λ v. v.key ≢ key) versions (place + 1) (length versions)
+
+-- the place of the version before that at place i, of the same key; none where that one is the first of its key
+abbrev pub IsEarlier : List KeyedVersion → ℕ → Option ℕ → Type 0
+IsEarlier versions i place = (v : KeyedVersion) → slice_get versions i ≡ Some v → IsLastPlace (take i versions) v.key place
+
+-- begins don't fall along the versions
+abbrev pub AreByBegin : List KeyedVersion → Type 0
+AreByBegin versions = IsNonDecreasingBy (λ v. v.version.begin) versions
+
+-- the first place of a version that begins after this commit: those before it don't, and those from it on do
+pub record IsFirstAfter (versions : List KeyedVersion) (begin place : ℕ) : Type 0 where
+  pub before : AllWithin (λ v. v.version.begin ≤ begin) versions 0 place
+  pub after : AllWithin (λ v. begin < v.version.begin) versions place (length versions)

@@ -1,16 +1,23 @@
 //! The delta store of a row group that is not packed: versions of rows in the order in which they came, with the last
 //! place of each key.
 //!
-//! Its one contract: a `Delta` is its list of versions with their keys and a number of versions that find room without
-//! memory, a `Frozen` is its list of versions, and each call has exactly the stated effect on them. It stands on
-//! `cs_base` and `cs_types`. The form follows the delta store of SQL Server's clustered columnstore (Larson et al.,
+//! Its one contract: a `Delta` is its list of versions with their keys, which of its chunks are its own, and a number of
+//! versions that find room without memory; a `Frozen` is its list of versions; and each call has exactly the stated effect
+//! on them. A share has its chunks in common with its store and never changes. It stands on `cs_base` and `cs_types`. The
+//! form follows the delta store of SQL Server's clustered columnstore (Larson et al.,
 //! SIGMOD 2013), with an index by key and begin and end of each version beside its row.
 #![tactic(auto)]
 
+mod chunk;
+mod chunks;
+mod frozen;
 mod index;
 mod store;
+mod version;
 
-pub use store::{Delta, Frozen, KeyedVersion};
+pub use frozen::Frozen;
+pub use store::Delta;
+pub use version::KeyedVersion;
 
 #[cfg(test)]
 mod tests;

@@ -1,116 +1,147 @@
-ghost use Rattle.std.specs.Prelude.{◌≡◌, ◌+◌, ◌<◌, ◌≤◌, ◌↔◌, [], ◌∷◌, ◌++◌, length, map, slice_get, count_by, IsTrue, OnOk, IfOk, Some, false};
+ghost use Rattle.std.specs.Prelude.{◌≡◌, ◌+◌, ◌<◌, ◌≤◌, ◌↔◌, [], ◌∷◌, ◌++◌, length, map, count_by, All, IsTrue, OnOk, IfOk, IfSome, IfNone, false, true};
+ghost use Rattle.delta_store.specs.Places.{keyed_in, IsStored, IsLiveAt};
+ghost use Rattle.delta_store.specs.Versions.{has_live};
 
+use crate::chunks::Chunks;
+use crate::frozen::Frozen;
 use crate::index::KeyIndex;
+use crate::version::{KeyedVersion, LinkedVersion};
 use cs_base::Memory;
 use cs_types::{Key, Row, Version};
 use std::alloc::Global;
 use std::marker::Model;
 
-/// A version with the key that was given with its row.
-#[derive(Debug, Drop)]
-pub struct KeyedVersion {
-    /// The key of the row.
-    pub key: Key,
-    /// The row with its begin and its end.
-    pub version: Version,
-}
-
-impl KeyedVersion {
-    ghost use Rattle.delta_store.specs.Versions.{is_live, ended_at};
-
-    /// Ends the version where it is of the key and has no end, and says whether it did.
-    fn end_live(&mut self, key: Key, end: u64) -> bool
-        ensures live { result ≡ is_live key self.old }
-        ensures version { self.new ≡ ended_at key end self.old }
-    {
-        if self.key == key && self.version.end.is_none() {
-            self.version.end = Some(end);
-            return true;
-        }
-        false
-    }
-
-    /// A version equal to this one, with its key.
-    fn copy(&self) -> Result<KeyedVersion, Memory>
-        ensures { IfOk result (λ copied. copied ≡ self.now) }
-    {
-        Ok(KeyedVersion {
-            key: self.key,
-            version: self.version.copy()?,
-        })
-    }
-}
-
-/// A delta store that takes rows. Contracts see its versions with their keys, in the order in which they came, and
-/// beside them `spare`, the number of versions that find room without memory. It keeps its allocator.
+/// A delta store that takes rows. Contracts see its versions with their keys, in the order in which they came, which of
+/// its chunks are own, and `spare`, the number of versions that find room without memory. It keeps its allocator.
+///
+/// Versions stand in chunks of 1,024 places. A share (`share`) has the chunks in common with the store, and a chunk that
+/// is shared is never changed: to end a version there, the chunk is made own first (`prepare`).
 #[derive(Debug, Drop)]
 pub struct Delta {
-    versions: Vec<KeyedVersion>,
+    chunks: Chunks,
     /// The last place of each key.
     index: KeyIndex,
+    /// The number of versions that have an end.
+    ended: usize,
 }
 
 impl Model for Delta {
-    ghost use Rattle.std.specs.Prelude.{◌-◌, min, vec_capacity, vec_len};
+    ghost use Rattle.std.specs.Prelude.{min};
     ghost use Rattle.delta_store.specs.Versions.{Store};
-    ghost use Rattle.delta_store.specs.Places.{IsIndexed};
+    ghost use Rattle.delta_store.specs.Places.{keyed_in, IsStored};
 
     ghost Value = { Store };
 
-    ghost view = { λ delta. record { versions = delta.versions.items; spare = min (vec_capacity delta.versions - vec_len delta.versions) delta.index.spare } };
+    ghost view = { λ delta. record { versions = keyed_in delta.chunks.versions; own = delta.chunks.own; spare = min delta.chunks.spare delta.index.spare } };
 
-    ghost invariant = { λ delta. IsIndexed delta.versions.items delta.index.pairs };
+    ghost invariant = { λ delta. IsStored delta.chunks.versions delta.index.pairs delta.ended };
+}
+
+/// The place of the live version of a key, the one without an end. None exactly where it has none.
+fn live_place(chunks: &Chunks, index: &KeyIndex, ended: usize, key: Key) -> Option<usize>
+    requires { IsStored chunks.now.versions index.now.pairs ended }
+    ensures found { IfSome result (IsLiveAt (keyed_in chunks.now.versions) key) }
+    ensures within { IfSome result (λ place. place < length chunks.now.versions) }
+    ensures none { IfNone result (has_live key (keyed_in chunks.now.versions) ≡ false) }
+{
+    let place = index.get(key)?;
+    if chunks.get(place).is_live() {
+        return Some(place);
+    }
+    None
 }
 
 impl Delta {
-    ghost use Rattle.delta_store.specs.Versions.{ended_at, has_live, is_ended, new_version};
+    ghost use Rattle.delta_store.specs.Versions.{ended_at, is_ended, new_version, IsReady};
 
     /// The store without versions. It takes no memory.
     pub fn new(alloc: Global) -> Delta
         ensures { result.versions ≡ [] }
     {
         Delta {
-            versions: Vec::new(alloc),
+            chunks: Chunks::new(alloc),
             index: KeyIndex::new(alloc),
+            ended: 0,
         }
     }
 
-    /// Makes room for `n` versions. After `Memory` the versions are as before.
+    /// Makes room for `n` versions, for which the last chunk is made own. After `Memory` the versions are as before. Keys
+    /// that are ready stay so.
     pub fn reserve(&mut self, n: usize) -> Result<(), Memory>
         ensures room { OnOk result (n ≤ self.new.spare) }
         ensures versions { self.new.versions ≡ self.old.versions }
+        ensures ready { (key : Key) → IsReady self.old key → IsReady self.new key }
     {
-        self.versions.reserve(n)?;
+        self.chunks.reserve(n)?;
         self.index.reserve(n)
     }
 
-    /// Appends a version without an end. `begin` is the number of the commit that writes it. It takes no memory.
+    /// Makes a key ready to be ended: if its live version stands in a chunk that is shared, the chunk becomes own, by a copy
+    /// where someone else still has it. After `Memory` the versions are as before. Keys that are ready stay so.
+    pub fn prepare_key(&mut self, key: Key) -> Result<(), Memory>
+        ensures versions { self.new.versions ≡ self.old.versions }
+        ensures ready { OnOk result (IsReady self.new key) }
+        ensures kept { (key : Key) → IsReady self.old key → IsReady self.new key }
+        ensures room { self.new.spare ≡ self.old.spare }
+    {
+        match live_place(&self.chunks, &self.index, self.ended, key) {
+            Some(place) => self.chunks.make_own(place),
+            None => Ok(()),
+        }
+    }
+
+    /// Makes keys ready to be ended, as `prepare_key` does each. After `Memory` the versions are as before. Keys that are
+    /// ready stay so.
+    pub fn prepare(&mut self, keys: &[Key]) -> Result<(), Memory>
+        ensures versions { self.new.versions ≡ self.old.versions }
+        ensures ready { OnOk result (All (IsReady self.new) keys.now) }
+        ensures kept { (key : Key) → IsReady self.old key → IsReady self.new key }
+        ensures room { self.new.spare ≡ self.old.spare }
+    {
+        for key in keys {
+            self.prepare_key(*key)?;
+        }
+        Ok(())
+    }
+
+    /// Appends a version without an end. `begin` is the number of the commit that writes it. It takes no memory. The key is
+    /// then ready, and those that were ready stay so.
     pub fn insert(&mut self, row: Row, key: Key, begin: u64)
         requires room { 0 < self.old.spare }
         requires ended { has_live key self.old.versions ≡ false }
         ensures versions { self.new.versions ≡ self.old.versions ++ new_version key row begin ∷ [] }
         ensures room { self.old.spare ≤ self.new.spare + 1 }
+        ensures ready { IsReady self.new key }
+        ensures kept { (key : Key) → IsReady self.old key → IsReady self.new key }
     {
-        self.index.set(key, self.versions.len());
+        let previous = self.index.get(key);
+        self.index.set(key, self.chunks.len());
         let version = Version {
             row,
             begin,
             end: None,
         };
-        self.versions.push_reserved(KeyedVersion { key, version });
+        let keyed = KeyedVersion { key, version };
+        self.chunks.push(LinkedVersion { keyed, previous });
     }
 
     /// Ends the live version of a key, the one without an end, at the commit of this number. False, with nothing
-    /// changed, exactly where the key has no live version.
+    /// changed, exactly where the key has no live version. The key is ready, and keys that are ready stay so.
     pub fn end_live(&mut self, key: Key, end: u64) -> bool
+        requires { IsReady self.old key }
         ensures found { result ≡ has_live key self.old.versions }
         ensures versions { self.new.versions ≡ map (ended_at key end) self.old.versions }
         ensures none_left { has_live key self.new.versions ≡ false }
+        ensures kept { (key : Key) → IsReady self.old key → IsReady self.new key }
         ensures room { self.new.spare ≡ self.old.spare }
     {
-        match self.index.get(key) {
+        match live_place(&self.chunks, &self.index, self.ended, key) {
+            Some(place) => {
+                self.chunks.end(place, end);
+                self.ended += 1;
+                true
+            }
             None => false,
-            Some(place) => self.versions[place].end_live(key, end),
         }
     }
 
@@ -118,107 +149,46 @@ impl Delta {
     pub fn len(&self) -> usize
         ensures { result ≡ length self.now.versions }
     {
-        self.versions.len()
+        self.chunks.len()
     }
 
     /// Whether there is no version.
     pub fn is_empty(&self) -> bool
         ensures { IsTrue result ↔ (self.now.versions ≡ []) }
     {
-        self.versions.is_empty()
+        self.len() == 0
     }
 
     /// The number of versions that have an end.
     pub fn ended(&self) -> usize
         ensures { result ≡ count_by is_ended self.now.versions }
     {
-        self.versions
-            .iter()
-            .filter(|keyed| keyed.version.end.is_some())
-            .count()
+        self.ended
     }
 
-    /// A frozen store with the same versions.
-    pub fn copy(&self) -> Result<Frozen, Memory>
-        ensures { IfOk result (λ frozen. frozen ≡ self.now.versions) }
+    /// A frozen store with the same versions, which has its chunks in common with this one: no version is copied, only the
+    /// index. There is no room then and no chunk is own, so that no live version may be ended before its key is made ready.
+    /// After `Memory` the versions are as before.
+    pub fn share(&mut self) -> Result<Frozen, Memory>
+        ensures frozen { IfOk result (λ frozen. frozen ≡ self.old.versions) }
+        ensures versions { self.new.versions ≡ self.old.versions }
+        ensures room { OnOk result (self.new.spare ≡ 0) }
+        ensures none_own { OnOk result (All (λ own. own ≡ false) self.new.own) }
     {
-        let mut versions = Vec::with_capacity(*self.versions.allocator(), self.versions.len())?;
-        for keyed in &self.versions {
-            versions.push(keyed.copy()?)?;
-        }
-        Ok(Frozen {
-            versions,
-            index: self.index.copy()?,
-        })
+        let index = self.index.copy()?;
+        let chunks = self.chunks.share()?;
+        Ok(Frozen::new(chunks, index, self.ended))
     }
 
     /// The store of the same versions that takes no more rows. It takes no memory.
     pub fn freeze(self) -> Frozen
         ensures { result ≡ self.versions }
     {
-        let Delta { versions, index } = self;
-        Frozen { versions, index }
-    }
-}
-
-/// A delta store that takes no more rows. Contracts see its versions with their keys, in the order in which they came.
-#[derive(Debug, Drop)]
-pub struct Frozen {
-    versions: Vec<KeyedVersion>,
-    /// The last place of each key.
-    index: KeyIndex,
-}
-
-impl Model for Frozen {
-    ghost use Rattle.std.specs.Prelude.{List};
-    ghost use Rattle.delta_store.specs.declared.store.KeyedVersion.{KeyedVersion};
-    ghost use Rattle.delta_store.specs.Places.{IsIndexed};
-
-    ghost Value = { List KeyedVersion };
-
-    ghost view = { λ frozen. frozen.versions.items };
-
-    ghost invariant = { λ frozen. IsIndexed frozen.versions.items frozen.index.pairs };
-}
-
-impl Frozen {
-    ghost use Rattle.std.specs.Option.{option_map};
-    ghost use Rattle.delta_store.specs.Versions.{IsLastPlace};
-
-    /// The number of versions.
-    pub fn len(&self) -> usize
-        ensures { result ≡ length self.now }
-    {
-        self.versions.len()
-    }
-
-    /// Whether there is no version.
-    pub fn is_empty(&self) -> bool
-        ensures { IsTrue result ↔ (self.now ≡ []) }
-    {
-        self.versions.is_empty()
-    }
-
-    /// The version at a place.
-    pub fn get(&self, i: usize) -> &Version
-        requires { i < length self.now }
-        ensures { option_map (λ keyed. keyed.version) (slice_get self.now i) ≡ Some result.now }
-    {
-        &self.versions[i].version
-    }
-
-    /// The key of the version at a place.
-    pub fn key(&self, i: usize) -> Key
-        requires { i < length self.now }
-        ensures { option_map (λ keyed. keyed.key) (slice_get self.now i) ≡ Some result }
-    {
-        self.versions[i].key
-    }
-
-    /// The place of the last version of a key. None exactly where it has no version.
-    pub fn of_key(&self, key: Key) -> Option<usize>
-        ensures { IsLastPlace self.now key result }
-    {
-        self.index.get(key)
+        let Delta {
+            chunks,
+            index,
+            ended,
+        } = self;
+        Frozen::new(chunks, index, ended)
     }
 }

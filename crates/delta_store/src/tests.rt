@@ -10,6 +10,7 @@ fn put(delta: &mut Delta, alloc: Global, key: i64, number: i64, commit: u64) -> 
     let mut row = Row::new(alloc);
     row.push(Value::Number(number))?;
     delta.reserve(1)?;
+    delta.prepare_key(Key(key))?;
     delta.end_live(Key(key), commit);
     delta.insert(row, Key(key), commit);
     Ok(())
@@ -24,17 +25,39 @@ fn filled(alloc: Global, puts: &[(i64, i64, u64)]) -> Result<Delta, Memory> {
     Ok(delta)
 }
 
+/// A store of the keys from 0 to `last`, each written at the commit one above it.
+fn of_keys(alloc: Global, last: u16) -> Result<Delta, Memory> {
+    let mut delta = Delta::new(alloc);
+    for key in 0..=last {
+        put(
+            &mut delta,
+            alloc,
+            i64::from(key),
+            i64::from(key),
+            u64::from(key) + 1,
+        )?;
+    }
+    Ok(delta)
+}
+
 /// The parts of a version: its key, number, begin and end.
 type Parts = (i64, i64, u64, Option<u64>);
+
+/// That the version at a place is this.
+fn expect_version(rt: &impl Abort, frozen: &Frozen, i: usize, expected: Parts) {
+    let (key, number, begin, end) = expected;
+    assert!(rt; i < frozen.len());
+    let version = frozen.get(i);
+    assert!(rt; frozen.key(i) == Key(key));
+    assert!(rt; version.row.cell(0) == &Value::Number(number));
+    assert!(rt; version.begin == begin && version.end == end);
+}
 
 /// That the versions of a store are these.
 fn expect_versions(rt: &impl Abort, frozen: &Frozen, expected: &[Parts]) {
     assert!(rt; frozen.len() == expected.len() && !frozen.is_empty());
-    for (i, (key, number, begin, end)) in expected.iter().enumerate() {
-        let version = frozen.get(i);
-        assert!(rt; frozen.key(i) == Key(*key));
-        assert!(rt; version.row.cell(0) == &Value::Number(*number));
-        assert!(rt; version.begin == *begin && version.end == *end);
+    for (i, version) in expected.iter().enumerate() {
+        expect_version(rt, frozen, i, *version);
     }
 }
 
@@ -57,11 +80,13 @@ fn versions_come_and_end(rt: HostRuntime) -> Result<(), Fail> {
     ];
     let mut delta = filled(rt.alloc(), &puts)?;
     for (key, commit, found) in [(-3, 8, true), (-3, 9, false), (8, 9, false)] {
+        delta.prepare_key(Key(key))?;
         assert!(rt; delta.end_live(Key(key), commit) == found);
     }
     assert!(rt; delta.len() == 6 && delta.ended() == 4 && !delta.is_empty());
-    let copied = delta.copy()?;
-    assert!(rt; delta.end_live(Key(9), 10) && delta.ended() == 5);
+    let shared = delta.share()?;
+    delta.prepare_key(Key(9))?;
+    assert!(rt; delta.end_live(Key(9), 10) && delta.ended() == 5 && shared.ended() == 4);
     let frozen = delta.freeze();
     let mut versions = [
         (7, 70, 1, Some(4)),
@@ -78,10 +103,112 @@ fn versions_come_and_end(rt: HostRuntime) -> Result<(), Fail> {
         (0, None),
         (10, None),
     ];
-    expect_versions(&rt, &copied, &versions);
-    expect_places(&rt, &copied, &places);
+    expect_versions(&rt, &shared, &versions);
+    expect_places(&rt, &shared, &places);
     versions[3] = (9, 90, 5, Some(10));
     expect_versions(&rt, &frozen, &versions);
     expect_places(&rt, &frozen, &places);
+    Ok(())
+}
+
+/// That the version before that at a place, of the same key, stands at this one.
+fn expect_earlier(rt: &impl Abort, frozen: &Frozen, i: usize, place: Option<usize>) {
+    assert!(rt; i < frozen.len());
+    assert!(rt; frozen.earlier(i) == place);
+}
+
+#[test]
+fn five_versions_of_a_key(rt: HostRuntime) -> Result<(), Fail> {
+    let mut delta = Delta::new(rt.alloc());
+    for (round, commit) in [(0, 1), (1, 11), (2, 21), (3, 31), (4, 41)] {
+        for key in [5, -2, 8] {
+            put(&mut delta, rt.alloc(), key, round, commit)?;
+        }
+    }
+    let frozen = delta.share()?;
+    let earlier = [
+        None,
+        None,
+        None,
+        Some(0),
+        Some(1),
+        Some(2),
+        Some(3),
+        Some(4),
+    ];
+    for (i, place) in earlier.iter().enumerate() {
+        expect_earlier(&rt, &frozen, i, *place);
+    }
+    expect_earlier(&rt, &frozen, 14, Some(11));
+    for (begin, place) in [(0, 0), (1, 3), (10, 3), (11, 6), (40, 12), (41, 15)] {
+        assert!(rt; frozen.first_after(begin) == place);
+    }
+    Ok(())
+}
+
+/// The version of a key of `of_keys` with this end.
+fn parts(key: u16, end: Option<u64>) -> Parts {
+    (i64::from(key), i64::from(key), u64::from(key) + 1, end)
+}
+
+/// That a share of the keys from 0 to `last` stays as it was while its store goes on, where the first and the last key end.
+fn expect_share_stays(rt: &impl Abort, alloc: Global, last: u16) -> Result<(), Memory> {
+    let mut delta = of_keys(alloc, last)?;
+    let shared = delta.share()?;
+    let again = delta.share()?;
+    for key in [0, last] {
+        delta.prepare_key(Key(i64::from(key)))?;
+        assert!(rt; delta.end_live(Key(i64::from(key)), 9000));
+    }
+    let next = i64::from(last) + 1;
+    put(&mut delta, alloc, next, next, 9001)?;
+    let at = usize::from(last);
+    for share in [&shared, &again] {
+        assert!(rt; share.len() == at + 1 && share.ended() == 0);
+        for key in [0, last] {
+            expect_version(rt, share, usize::from(key), parts(key, None));
+        }
+        expect_places(rt, share, &[(i64::from(last), Some(at)), (next, None)]);
+    }
+    let frozen = delta.freeze();
+    assert!(rt; frozen.len() == at + 2 && frozen.ended() == 2);
+    expect_version(rt, &frozen, at, parts(last, Some(9000)));
+    expect_version(rt, &frozen, at + 1, (next, next, 9001, None));
+    expect_places(rt, &frozen, &[(0, Some(0)), (next, Some(at + 1))]);
+    Ok(())
+}
+
+#[test]
+fn chunk_edges(rt: HostRuntime) -> Result<(), Fail> {
+    for last in [1, 1022, 1023, 1024, 2046, 2047, 2048] {
+        expect_share_stays(&rt, rt.alloc(), last)?;
+    }
+    Ok(())
+}
+
+/// The key that comes at a place, the first 4,999 of them all different.
+fn scattered(i: u16) -> i64 {
+    i64::from(i) * 1789 % 4999
+}
+
+#[test]
+fn keys_in_no_order(rt: HostRuntime) -> Result<(), Fail> {
+    let mut delta = Delta::new(rt.alloc());
+    for i in 0..5000u16 {
+        put(
+            &mut delta,
+            rt.alloc(),
+            scattered(i),
+            i64::from(i),
+            u64::from(i),
+        )?;
+        let shared = delta.share()?;
+        expect_places(&rt, &shared, &[(scattered(i), Some(usize::from(i)))]);
+    }
+    let frozen = delta.freeze();
+    for i in 1..5000u16 {
+        expect_places(&rt, &frozen, &[(scattered(i), Some(usize::from(i)))]);
+    }
+    expect_places(&rt, &frozen, &[(-1, None), (4999, None)]);
     Ok(())
 }

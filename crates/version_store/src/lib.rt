@@ -1,9 +1,8 @@
 //! The newest committed change of each key since the last prune, by which a writer learns that a key has changed since
 //! its snapshot was taken.
 //!
-//! Its one contract: a `Recent` is a finite map from keys to the commit and the transaction of their newest changes, and
-//! each call changes exactly the key that it names, but for a prune, which drops the changes that no open snapshot can
-//! precede. It stands on `cs_base` and `cs_types`. By the manual pages on SNAPSHOT isolation a write of a row that
+//! Its one contract: a `Recent` is a finite map from keys to their newest changes, and each call changes exactly the key
+//! that it names, but for a prune, which drops the changes that no open snapshot can precede. It stands on `cs_base` and `cs_types`. By the manual pages on SNAPSHOT isolation a write of a row that
 //! was changed after the snapshot is refused.
 #![tactic(auto)]
 
@@ -13,11 +12,20 @@ use std::alloc::Global;
 use std::collections::HashMap;
 use std::marker::Model;
 
-/// The newest change of each key: its commit number and its transaction's number. Contracts see the changes as a finite
-/// map, and beside it `spare`, the number of keys that find room without memory. It keeps its allocator.
+/// The newest change of a key.
+#[derive(Clone, Copy, Debug, PartialEq, Eq)]
+pub struct NewestChange {
+    /// The number of its commit.
+    pub commit: u64,
+    /// The number of the transaction that made it.
+    pub txn: u64,
+}
+
+/// The newest change of each key. Contracts see the changes as a finite map, and beside it `spare`, the number of keys
+/// that find room without memory. It keeps its allocator.
 #[derive(Debug, Drop)]
 pub struct Recent {
-    changes: HashMap<Key, (u64, u64)>,
+    changes: HashMap<Key, NewestChange>,
 }
 
 impl Model for Recent {
@@ -56,22 +64,29 @@ impl Recent {
         Ok(())
     }
 
-    /// Notes that the newest change of the key was made by this commit of this transaction. It takes no memory.
-    pub fn note(&mut self, key: Key, commit: u64, txn: u64)
+    /// Notes the newest change of the key. It takes no memory.
+    pub fn note(&mut self, key: Key, change: NewestChange)
         requires room { 0 < self.old.spare }
-        requires newer { ForSome (map.get self.old.changes key) (λ change. change.0 < commit) }
-        ensures changes { self.new.changes ≡ map.insert self.old.changes key (commit, txn) }
+        requires newer { ForSome (map.get self.old.changes key) (λ other. other.commit < change.commit) }
+        ensures changes { self.new.changes ≡ map.insert self.old.changes key change }
         ensures room { self.old.spare ≤ self.new.spare + 1 }
     {
-        match self.changes.insert(key, (commit, txn)) {
+        match self.changes.insert(key, change) {
             Ok(_) => {}
             Err(_) => unreachable!(),
         }
     }
 
-    /// The commit and the transaction of the key's newest change. None exactly where none stands: none was noted, or a prune
-    /// has dropped it.
-    pub fn newest(&self, key: Key) -> Option<(u64, u64)>
+    /// The number of keys that have a change here. By it the owner sees when the changes have doubled since the last
+    /// prune.
+    pub fn len(&self) -> usize
+        ensures { result ≡ map.len self.now.changes }
+    {
+        self.changes.len()
+    }
+
+    /// The key's newest change. None exactly where none stands: none was noted, or a prune has dropped it.
+    pub fn newest(&self, key: Key) -> Option<NewestChange>
         ensures { result ≡ map.get self.now.changes key }
     {
         self.changes.get(&key).copied()
@@ -82,7 +97,7 @@ impl Recent {
         ensures changes { KeepsAbove floor self.old.changes self.new.changes }
         ensures room { self.old.spare ≤ self.new.spare }
     {
-        self.changes.retain(|_, change| change.0 > floor);
+        self.changes.retain(|_, change| change.commit > floor);
     }
 }
 
@@ -92,11 +107,11 @@ mod tests {
     use std::test::Fail;
 
     /// Notes the change, where the key has no newer one.
-    fn note_newer(recent: &mut Recent, key: Key, commit: u64, txn: u64) -> Result<(), Memory> {
+    fn note_newer(recent: &mut Recent, key: Key, change: NewestChange) -> Result<(), Memory> {
         recent.reserve(1)?;
         match recent.newest(key) {
-            Some((other, _)) if other >= commit => {}
-            _ => recent.note(key, commit, txn),
+            Some(other) if other.commit >= change.commit => {}
+            _ => recent.note(key, change),
         }
         Ok(())
     }
@@ -104,22 +119,25 @@ mod tests {
     #[test]
     fn changes_are_noted_and_pruned(rt: HostRuntime) -> Result<(), Fail> {
         let mut recent = Recent::new(rt.alloc());
-        assert_eq!(rt; recent.newest(Key(7)), None);
+        assert_eq!(rt; (recent.len(), recent.newest(Key(7))), (0, None));
         for (key, commit, txn) in [(7, 1, 4), (-3, 2, 3), (7, 3, 9), (8, 4, 6)] {
-            note_newer(&mut recent, Key(key), commit, txn)?;
+            note_newer(&mut recent, Key(key), NewestChange { commit, txn })?;
         }
+        let last = NewestChange { commit: 4, txn: 6 };
         for (key, newest) in [
-            (7, Some((3, 9))),
-            (-3, Some((2, 3))),
-            (8, Some((4, 6))),
+            (7, Some(NewestChange { commit: 3, txn: 9 })),
+            (-3, Some(NewestChange { commit: 2, txn: 3 })),
+            (8, Some(last)),
             (0, None),
         ] {
             assert_eq!(rt; recent.newest(Key(key)), newest, "of {key}");
         }
+        assert_eq!(rt; recent.len(), 3);
         recent.prune(3);
-        for (key, newest) in [(7, None), (-3, None), (8, Some((4, 6)))] {
+        for (key, newest) in [(7, None), (-3, None), (8, Some(last))] {
             assert_eq!(rt; recent.newest(Key(key)), newest, "of {key}");
         }
+        assert_eq!(rt; recent.len(), 1);
         Ok(())
     }
 }

@@ -18,5 +18,5 @@ returns-in-Err-clause-there c =
     let parted = rw c.deref.ensures.value at c.in-Err.ensures.position in
     rw (← c.self.view_is) (
       (λ never. absurd (grind arith)),
-      (λ has. absurd (absent c.self.inside.entries.items (c.args.key, c.args.end) c.in-Err.field-0 c.self.invariant within parted has)),
+      (λ has. absurd (absent c.self.inside.entries.items (c.args.key, c.args.end) c.in-Err.field-0 c.self.invariant.in_order within parted has)),
     )

@@ -1,0 +1,176 @@
+// A set of positions, kept as bits in words.
+ghost use Rattle.std.specs.Prelude.{◌≡◌, ℕ, ◌<◌, ◌≤◌, ◌*◌, ◌/◌, ◌^◌, ◌||◌, length, replicate, slice_index, slice_index_or, slice_set, All, IfOk, OnOk, OnErr, true, false};
+ghost use Rattle.delete_bitmap.specs.Bits.{bit_in, bits_in, with_all, IsCovered};
+
+use cs_base::Memory;
+use std::alloc::Global;
+use std::marker::Model;
+
+/// A set of positions below a length. Contracts see the list of whether each position is in it. It takes no room until
+/// a position is put in, and keeps its allocator.
+#[derive(Debug, Drop)]
+pub struct Positions {
+    length: usize,
+    /// A bit for each position, in words of 64 bits, the lowest bit of the first word first; or no word at all.
+    words: Vec<u64>,
+}
+
+impl Model for Positions {
+    ghost use Rattle.std.specs.Prelude.{List, Bool};
+    ghost use Rattle.delete_bitmap.specs.Bits.{bits_in, IsCovered};
+
+    ghost Value = { List Bool };
+
+    ghost view = { λ positions. bits_in positions.length positions.words.items };
+
+    ghost invariant = { λ positions. IsCovered positions.length positions.words.items };
+}
+
+impl Positions {
+    /// No position, of those below a length. It takes no memory.
+    pub fn none(alloc: Global, length: usize) -> Positions
+        ensures { result ≡ replicate length false }
+    {
+        Positions {
+            length,
+            words: Vec::new(alloc),
+        }
+    }
+
+    /// The length: the positions below it may be in the set.
+    pub fn len(&self) -> usize
+        ensures { result ≡ length self.now }
+    {
+        self.length
+    }
+
+    /// Whether a position is in the set; none is from the length on.
+    pub fn contains(&self, position: usize) -> bool
+        ensures { result ≡ slice_index_or self.now position false }
+    {
+        position < self.length && is_set(&self.words, position)
+    }
+
+    /// Puts a position in. After `Memory` nothing has changed.
+    pub fn insert(&mut self, position: usize) -> Result<(), Memory>
+        requires { position < length self.old }
+        ensures ok { OnOk result (self.new ≡ slice_set self.old position true) }
+        ensures err { OnErr result (self.new ≡ self.old) }
+        ensures small { length self.new < 2 ^ 64 }
+    {
+        cover(&mut self.words, self.length)?;
+        set(&mut self.words, position);
+        Ok(())
+    }
+
+    /// Puts all these positions in. After `Memory` nothing has changed.
+    pub fn insert_all(&mut self, positions: &[usize]) -> Result<(), Memory>
+        requires { All (λ p. p < length self.old) positions.now }
+        ensures ok { OnOk result (self.new ≡ with_all positions.now self.old) }
+        ensures err { OnErr result (self.new ≡ self.old) }
+        ensures small { length self.new < 2 ^ 64 }
+    {
+        cover(&mut self.words, self.length)?;
+        set_all(&mut self.words, positions, self.length);
+        Ok(())
+    }
+
+    /// Takes a position out. It takes no memory.
+    pub fn remove(&mut self, position: usize)
+        requires { position < length self.old }
+        ensures { self.new ≡ slice_set self.old position false }
+    {
+        clear(&mut self.words, position);
+    }
+
+    /// Puts all positions of another set in, word by word. After `Memory` nothing has changed.
+    pub fn join(&mut self, other: &Positions) -> Result<(), Memory>
+        requires { length self.old ≡ length other.now }
+        ensures ok { OnOk result ((p : ℕ) → slice_index_or self.new p false ≡ (slice_index_or self.old p false || slice_index_or other.now p false)) }
+        ensures length { length self.new ≡ length self.old }
+        ensures err { OnErr result (self.new ≡ self.old) }
+    {
+        if other.words.is_empty() {
+            return Ok(());
+        }
+        cover(&mut self.words, self.length)?;
+        set_each(&mut self.words, &other.words);
+        Ok(())
+    }
+
+    /// The same positions.
+    pub fn copy(&self) -> Result<Positions, Memory>
+        ensures { IfOk result (λ copied. copied ≡ self.now) }
+    {
+        Ok(Positions {
+            length: self.length,
+            words: Vec::from_slice(*self.words.allocator(), &self.words)?,
+        })
+    }
+}
+
+/// Whether the bit of a position is set; past the last word none is.
+fn is_set(words: &[u64], position: usize) -> bool
+    ensures { result ≡ bit_in words.now position }
+{
+    match words.get(position / 64) {
+        Some(word) => (*word >> (position % 64)) & 1 == 1,
+        None => false,
+    }
+}
+
+/// Makes words for `bits` bits, none of them set, where there is no word yet. After `Memory` nothing has changed.
+fn cover(words: &mut Vec<u64>, bits: usize) -> Result<(), Memory>
+    requires { IsCovered bits words.old.items }
+    ensures there { OnOk result (bits ≤ 64 * length words.new.items) }
+    ensures covered { IsCovered bits words.new.items }
+    ensures same { (i : ℕ) → slice_index words.new.items i ≡ slice_index words.old.items i }
+{
+    if words.is_empty() {
+        words.resize(bits.div_ceil(64), 0)?;
+    }
+    Ok(())
+}
+
+/// Sets the bit of a position.
+fn set(words: &mut Vec<u64>, position: usize)
+    requires { position / 64 < length words.old.items }
+    ensures bits { (n : ℕ) → position < n → bits_in n words.new.items ≡ slice_set (bits_in n words.old.items) position true }
+    ensures len { length words.new.items ≡ length words.old.items }
+{
+    let word = words[position / 64];
+    words[position / 64] = word | 1 << (position % 64);
+}
+
+/// Sets the bits of all these positions.
+fn set_all(words: &mut Vec<u64>, positions: &[usize], bits: usize)
+    requires there { bits ≤ 64 * length words.old.items }
+    requires within { All (λ p. p < bits) positions.now }
+    ensures bits { bits_in bits words.new.items ≡ with_all positions.now (bits_in bits words.old.items) }
+    ensures len { length words.new.items ≡ length words.old.items }
+{
+    for position in positions {
+        set(words, *position);
+    }
+}
+
+/// Clears the bit of a position. Past the last word none is set.
+fn clear(words: &mut Vec<u64>, position: usize)
+    ensures bits { (n : ℕ) → position < n → bits_in n words.new.items ≡ slice_set (bits_in n words.old.items) position false }
+    ensures len { length words.new.items ≡ length words.old.items }
+{
+    if position / 64 < words.len() {
+        let word = words[position / 64];
+        words[position / 64] = word & !(1 << (position % 64));
+    }
+}
+
+/// Sets the bits that are set in other words too, as far as there are words.
+fn set_each(words: &mut Vec<u64>, others: &[u64])
+    ensures bits { (k : ℕ) → k / 64 < length words.old.items → bit_in words.new.items k ≡ (bit_in words.old.items k || bit_in others.now k) }
+    ensures len { length words.new.items ≡ length words.old.items }
+{
+    for i in 0..words.len().min(others.len()) {
+        words[i] |= others[i];
+    }
+}

@@ -1,0 +1,110 @@
+// The stamps of ends that are not plain: a position and the number of a commit each, in the order of positions.
+ghost use Rattle.std.specs.Prelude.{◌≡◌, ◌+◌, ◌-◌, ◌<◌, ◌≤◌, ◌++◌, length, filter, take, count_by, slice_index_or, vec_len, vec_capacity, All, IfOk, IfErr, IsPermutation};
+ghost use Rattle.std.specs.Bool.{OnTrue, OnFalse};
+ghost use Rattle.delete_bitmap.specs.Kept.{is_above, no_stamp, stamped, without_above, without_stamp, AreInOrder, Ascend, HasNone, IsStampAt, IsGapFor};
+
+use crate::positions::Positions;
+
+/// The place of a position's stamp, or where it would go.
+pub fn place_of(stamps: &[(usize, u64)], position: usize) -> Result<usize, usize>
+    requires { AreInOrder stamps.now }
+    ensures found { IfOk result (IsStampAt stamps.now position) }
+    ensures absent { IfErr result (IsGapFor stamps.now position) }
+{
+    stamps.binary_search_by_key(&position, |&(place, _)| place)
+}
+
+/// Keeps the stamps above the floor, and gives the number of the others.
+pub fn keep_above(stamps: &mut Vec<(usize, u64)>, floor: u64) -> u64
+    ensures kept { stamps.new.items ≡ filter (is_above floor) stamps.old.items }
+    ensures count { result + length stamps.new.items ≡ length stamps.old.items }
+{
+    let all = stamps.len();
+    stamps.retain(|(_, commit)| *commit > floor);
+    (all - stamps.len()) as u64
+}
+
+/// The number of stamps above the floor.
+pub fn count_above(stamps: &[(usize, u64)], floor: u64) -> u64
+    ensures { result ≡ count_by (is_above floor) stamps.now }
+{
+    stamps.iter().filter(|(_, commit)| *commit > floor).count() as u64
+}
+
+/// Takes the positions of stamps above the floor out of a set.
+pub fn take_out_above(positions: &mut Positions, stamps: &[(usize, u64)], floor: u64)
+    requires { All (λ s. s.0 < length positions.old) stamps.now }
+    ensures { positions.new ≡ without_above floor stamps.now positions.old }
+{
+    for stamp in stamps {
+        take_out_if_above(positions, *stamp, floor);
+    }
+}
+
+/// Takes the position of a stamp out of a set, where the stamp is above the floor.
+fn take_out_if_above(positions: &mut Positions, stamp: (usize, u64), floor: u64)
+    requires { stamp.0 < length positions.old }
+    ensures { positions.new ≡ without_stamp floor positions.old stamp }
+{
+    let (position, commit) = stamp;
+    if commit > floor {
+        positions.remove(position);
+    }
+}
+
+/// Adds a stamp of each position with one commit, none of which has one, in one pass. There is room for them.
+pub fn add_all(stamps: &mut Vec<(usize, u64)>, positions: &[usize], commit: u64)
+    requires room { vec_len stamps.old + length positions.now ≤ vec_capacity stamps.old }
+    requires order { AreInOrder stamps.old.items }
+    requires ascending { Ascend positions.now }
+    requires apart { All (λ p. HasNone p stamps.old.items) positions.now }
+    ensures stamps { IsPermutation (stamped positions.now commit ++ stamps.old.items) stamps.new.items }
+    ensures order { AreInOrder stamps.new.items }
+{
+    let count = stamps.len();
+    append(stamps, positions, commit);
+    merge(stamps, count, positions, commit);
+}
+
+/// Puts a stamp of each position behind the others. There is room for them.
+fn append(stamps: &mut Vec<(usize, u64)>, positions: &[usize], commit: u64)
+    requires { vec_len stamps.old + length positions.now ≤ vec_capacity stamps.old }
+    ensures { stamps.new.items ≡ stamps.old.items ++ stamped positions.now commit }
+{
+    for position in positions {
+        stamps.push_reserved((*position, commit));
+    }
+}
+
+/// Merges a stamp of each position into the first `count` stamps, from the back. What stands behind these is written
+/// over.
+fn merge(stamps: &mut [(usize, u64)], count: usize, positions: &[usize], commit: u64)
+    requires sized { length stamps.old ≡ count + length positions.now }
+    requires order { AreInOrder (take count stamps.old) }
+    requires ascending { Ascend positions.now }
+    requires apart { All (λ p. HasNone p (take count stamps.old)) positions.now }
+    ensures stamps { IsPermutation (stamped positions.now commit ++ take count stamps.old) stamps.new }
+    ensures order { AreInOrder stamps.new }
+{
+    let mut old = count;
+    let mut new = positions.len();
+    while new > 0 {
+        let position = positions[new - 1];
+        if is_last_past(stamps, old, position) {
+            old -= 1;
+            stamps[old + new] = stamps[old];
+        } else {
+            new -= 1;
+            stamps[old + new] = (position, commit);
+        }
+    }
+}
+
+/// Whether the last of the first `count` stamps stands at a greater position than this one.
+fn is_last_past(stamps: &[(usize, u64)], count: usize, position: usize) -> bool
+    requires { count ≤ length stamps.now }
+    ensures past { OnTrue result ((0 < count) × (position < (slice_index_or stamps.now (count - 1) no_stamp).0)) }
+    ensures other { OnFalse result (0 < count → (slice_index_or stamps.now (count - 1) no_stamp).0 ≤ position) }
+{
+    count > 0 && stamps[count - 1].0 > position
+}

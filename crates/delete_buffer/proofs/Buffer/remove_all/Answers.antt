@@ -1,0 +1,10 @@
+use Rattle.delete_buffer.proofs.Merges.{in_order-without}
+use Rattle.delete_buffer.proofs.Buffer.remove_all.Goals as goal
+
+pub invariant_of-self : goal.invariant_of-self
+invariant_of-self c =
+    rw (c.remove_all.ensures.entries, c.forget.ensures)
+    (record { in_order = in_order-without c.args.taken.now c.self.inside.entries.items c.self.invariant.in_order; shared_same = tt })
+
+pub returns-clause-order : goal.returns-clause-order
+returns-clause-order c = rw c.remove_all.ensures.entries (in_order-without c.args.taken.now c.self.inside.entries.items c.self.invariant.in_order)
