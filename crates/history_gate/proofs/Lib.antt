@@ -1,0 +1,9 @@
+pub mod Sums
+pub mod Numbers
+pub mod Entries
+pub mod Tickets
+pub mod Keeps
+pub mod Ends
+pub mod Lookup
+pub mod Whole
+pub mod PassLaws
