@@ -1,0 +1,199 @@
+-- How movers' events move the groups.
+use Rattle.std.proofs.Common.{◌≡◌, ℕ, ◌<◌, ◌⊎◌, Bool, true, false, cond, List, [], ◌∷◌, ◌++◌, map, filter, not, refl, sym, subst, inl, inr, arith}
+use Rattle.std.specs.Prelude.{◌==◌}
+use Rattle.std.specs.List.{AllByRecursion, Contains}
+use Rattle.std.proofs.lemmas.Bool.Decides.{nat_tests}
+use Rattle.std.proofs.lemmas.List.Elements.{recursion_from_All, All-contains, All-contains_itself}
+use Rattle.cs_model.specs.declared.work.Actor.{Actor}
+use Rattle.cs_model.specs.Changes.{Change}
+use Rattle.group_book.specs.Book.{Version, Content, Group, Choice, Claim, Book, total, deleted, is_closed, is_compressed, is_invisible, is_tombstone}
+use Rattle.group_book.specs.Book.Content.{Opened, Closed, Compressed, Invisible, Tombstone}
+use Rattle.group_book.specs.Book.Choice.{Compress, Flush, Rebuild, Merge, Settle, Clear, Idle}
+use Rattle.group_book.specs.Turns.{is_id_of, is_fresh, is_claimed, made_of, is_none_left, without_fresh, with_compressed, flushed, settled, closed, after_claim, after_install, after_flush, after_release, after_clear, after_settle, after_close}
+use Rattle.group_book.specs.Invariant.{AreById, IsClaim, may_be_source}
+use Rattle.group_book.specs.States.{State, state_in, state_of, mover_transitions, GroupsMoveBy}
+use Rattle.group_book.specs.States.State.{Absent, IsTombstone}
+use Rattle.group_book.proofs.Lists.{All-in, all-filter, all-map, weaker}
+use Rattle.group_book.proofs.Steady.{changed}
+
+abbrev Moves : State → State → Type 0
+Moves s t = (s ≡ t) ⊎ Contains mover_transitions (s, t)
+
+-- ---- groups that change, come and go
+
+states_changed : (f : Group → Content) (gs : List Group) → AllByRecursion (λ (g : Group). Moves (state_in g.content) (state_in (f g))) gs → (id : ℕ) → Moves (state_of gs id) (state_of (map (changed f) gs) id)
+states_changed f [] all id = inl refl
+states_changed f (g ∷ gs) all id = step (g.id == id) (states_changed f gs all.1 id)
+  where
+    step : (t : Bool) → Moves (state_of gs id) (state_of (map (changed f) gs) id) → Moves (cond t (state_in g.content) (state_of gs id)) (cond t (state_in (f g)) (state_of (map (changed f) gs) id))
+    step true rest = all.0
+    step false rest = rest
+
+absent_above : (n id : ℕ) (gs : List Group) → AllByRecursion (λ (h : Group). n < h.id) gs → (n == id) ≡ true → state_of gs id ≡ Absent
+absent_above n id [] all is = refl
+absent_above n id (g ∷ gs) all is = step (g.id == id) refl (absent_above n id gs all.1 is)
+  where
+    step : (t : Bool) → (g.id == id) ≡ t → state_of gs id ≡ Absent → cond t (state_in g.content) (state_of gs id) ≡ Absent
+    step true same rest = let a : n ≡ id = grind (arith, nat_tests) in let b : g.id ≡ id = grind (arith, nat_tests) in let lt = all.0 in absurd (omega (arith, a, b, lt))
+    step false same rest = rest
+
+states_filtered : (p : Group → Bool) (gs : List Group) → AreById gs → AllByRecursion (λ (g : Group). p g ≡ false → Moves (state_in g.content) Absent) gs → (id : ℕ) → Moves (state_of gs id) (state_of (filter p gs) id)
+states_filtered p [] up all id = inl refl
+states_filtered p (g ∷ gs) up all id = step (p g) refl (g.id == id) refl (states_filtered p gs up.1 all.1 id)
+  where
+    step : (t : Bool) → p g ≡ t → (u : Bool) → (g.id == id) ≡ u → Moves (state_of gs id) (state_of (filter p gs) id) → Moves (cond u (state_in g.content) (state_of gs id)) (state_of (cond t (g ∷ filter p gs) (filter p gs)) id)
+    step true is true same rest = rw same (inl refl)
+    step true is false same rest = rw same rest
+    step false is true same rest = subst (Moves (state_in g.content)) (sym (absent_above g.id id (filter p gs) (all-filter (λ (h : Group). g.id < h.id) (λ (h : Group). g.id < h.id) p gs (λ h lt _. lt) up.0) same)) (all.0 is)
+    step false is false same rest = rest
+
+-- some go and the others change
+states_both : (p : Group → Bool) (f : Group → Content) (gs : List Group) → AreById gs → AllByRecursion (λ (g : Group). (p g ≡ true → Moves (state_in g.content) (state_in (f g))) × (p g ≡ false → Moves (state_in g.content) Absent)) gs
+    → (id : ℕ) → Moves (state_of gs id) (state_of (map (changed f) (filter p gs)) id)
+states_both p f [] up all id = inl refl
+states_both p f (g ∷ gs) up all id = step (p g) refl (g.id == id) refl (states_both p f gs up.1 all.1 id)
+  where
+    step : (t : Bool) → p g ≡ t → (u : Bool) → (g.id == id) ≡ u → Moves (state_of gs id) (state_of (map (changed f) (filter p gs)) id) → Moves (cond u (state_in g.content) (state_of gs id)) (state_of (map (changed f) (cond t (g ∷ filter p gs) (filter p gs))) id)
+    step true is true same rest = rw same (all.0.0 is)
+    step true is false same rest = rw same rest
+    step false is true same rest = subst (Moves (state_in g.content)) (sym (absent_above g.id id (map (changed f) (filter p gs))
+        (all-map (λ (h : Group). g.id < h.id) (λ (h : Group). g.id < h.id) (changed f) (filter p gs) (λ h lt. lt) (all-filter (λ (h : Group). g.id < h.id) (λ (h : Group). g.id < h.id) p gs (λ h lt _. lt) up.0)) same)) (all.0.1 is)
+    step false is false same rest = rest
+
+states_grown : (g0 : Group) → Moves Absent (state_in g0.content) → (gs : List Group) (id : ℕ) → Moves (state_of gs id) (state_of (gs ++ g0 ∷ []) id)
+states_grown g0 moves [] id = step (g0.id == id)
+  where
+    step : (t : Bool) → Moves Absent (cond t (state_in g0.content) Absent)
+    step true = moves
+    step false = inl refl
+states_grown g0 moves (g ∷ gs) id = step (g.id == id) (states_grown g0 moves gs id)
+  where
+    step : (t : Bool) → Moves (state_of gs id) (state_of (gs ++ g0 ∷ []) id) → Moves (cond t (state_in g.content) (state_of gs id)) (cond t (state_in g.content) (state_of (gs ++ g0 ∷ []) id))
+    step true rest = inl refl
+    step false rest = rest
+
+every_group : (P : Group → Type 0) → ((g : Group) → P g) → (gs : List Group) → AllByRecursion P gs
+every_group P h [] = tt
+every_group P h (g ∷ gs) = (h g, every_group P h gs)
+
+-- ---- the events
+
+pub claim_moves : (actor : Actor) (choice : Choice) (sources : List ℕ) (floor : ℕ) (book : Book) → GroupsMoveBy mover_transitions book (after_claim actor choice sources floor book)
+claim_moves actor choice sources floor book id = states_grown (record { id = book.next; content = Invisible }) (inr (1, omega arith, refl)) book.groups id
+
+packed_same : (f : List Version → List Version) (content : Content) → state_in content ≡ state_in (with_compressed f content)
+packed_same f (Opened versions) = refl
+packed_same f (Closed versions) = refl
+packed_same f (Compressed versions) = refl
+packed_same f Invisible = refl
+packed_same f (Tombstone versions ends) = refl
+
+if_packed : (t : Bool) (f : List Version → List Version) (content : Content) → state_in content ≡ state_in (cond t (with_compressed f content) content)
+if_packed true f content = packed_same f content
+if_packed false f content = refl
+
+unless_packed : (t : Bool) (f : List Version → List Version) (content : Content) → state_in content ≡ state_in (cond t content (with_compressed f content))
+unless_packed true f content = refl
+unless_packed false f content = packed_same f content
+
+pub settle_moves : (at : ℕ) (book : Book) → GroupsMoveBy mover_transitions book (after_settle at book)
+settle_moves at book id = states_changed (λ g. cond (is_claimed book.claims g) g.content (with_compressed (map (settled at)) g.content)) book.groups
+    (every_group _ (λ g. inl (unless_packed (is_claimed book.claims g) (map (settled at)) g.content)) book.groups) id
+
+pub flush_moves : (claim : Claim) (book : Book) → GroupsMoveBy mover_transitions book (after_flush claim book)
+flush_moves claim book id = states_changed (λ g. cond (is_id_of claim.sources g) (with_compressed (map (flushed book.buffer claim.entries)) g.content) g.content) book.groups
+    (every_group _ (λ g. inl (if_packed (is_id_of claim.sources g) (map (flushed book.buffer claim.entries)) g.content)) book.groups) id
+
+close_step : (content : Content) → Moves (state_in content) (state_in (closed content))
+close_step (Opened versions) = inr (0, omega arith, refl)
+close_step (Closed versions) = inl refl
+close_step (Compressed versions) = inl refl
+close_step Invisible = inl refl
+close_step (Tombstone versions ends) = inl refl
+
+pub close_moves : (book : Book) → GroupsMoveBy mover_transitions book (after_close book)
+close_moves book id = states_changed (λ g. closed g.content) book.groups (every_group _ (λ g. close_step g.content) book.groups) id
+
+clear_step : (content : Content) → not (is_tombstone content) ≡ false → Moves (state_in content) Absent
+clear_step (Opened versions) is = cc
+clear_step (Closed versions) is = cc
+clear_step (Compressed versions) is = cc
+clear_step Invisible is = cc
+clear_step (Tombstone versions ends) is = inr (6, omega arith, refl)
+
+pub clear_moves : (book : Book) → AreById book.groups → GroupsMoveBy mover_transitions book (after_clear book)
+clear_moves book up id = states_filtered (λ (g : Group). not (is_tombstone g.content)) book.groups up (every_group _ (λ g is. clear_step g.content is) book.groups) id
+
+-- ---- a claim's end
+
+invisible_moves : (content : Content) → is_invisible content ≡ true → Moves (state_in content) Absent
+invisible_moves (Opened versions) is = cc
+invisible_moves (Closed versions) is = cc
+invisible_moves (Compressed versions) is = cc
+invisible_moves Invisible is = inr (3, omega arith, refl)
+invisible_moves (Tombstone versions ends) is = cc
+
+shown_moves : (content : Content) (versions : List Version) → is_invisible content ≡ true → Moves (state_in content) (state_in (Compressed versions))
+shown_moves (Opened old) versions is = cc
+shown_moves (Closed old) versions is = cc
+shown_moves (Compressed old) versions is = cc
+shown_moves Invisible versions is = inr (2, omega arith, refl)
+shown_moves (Tombstone old ends) versions is = cc
+
+closed_moves : (content : Content) → is_closed content ≡ true → Moves (state_in content) IsTombstone
+closed_moves (Opened versions) is = cc
+closed_moves (Closed versions) is = inr (4, omega arith, refl)
+closed_moves (Compressed versions) is = cc
+closed_moves Invisible is = cc
+closed_moves (Tombstone versions ends) is = cc
+
+packed_moves : (content : Content) → is_compressed content ≡ true → Moves (state_in content) IsTombstone
+packed_moves (Opened versions) is = cc
+packed_moves (Closed versions) is = cc
+packed_moves (Compressed versions) is = inr (5, omega arith, refl)
+packed_moves Invisible is = cc
+packed_moves (Tombstone versions ends) is = cc
+
+source_moves : (choice : Choice) (content : Content) → may_be_source choice content ≡ true → Moves (state_in content) IsTombstone
+source_moves (Compress source) content is = closed_moves content is
+source_moves Flush content is = packed_moves content is
+source_moves (Rebuild source) content is = packed_moves content is
+source_moves (Merge first second) content is = packed_moves content is
+source_moves Settle content is = cc
+source_moves Clear content is = cc
+source_moves Idle content is = cc
+
+not_false : (t : Bool) → not t ≡ false → t ≡ true
+not_false true is = refl
+not_false false is = cc
+
+module _ (group_rows : ℕ) (book : Book) (cs : List Change) (floor : ℕ) (claim : Claim) (up : AreById book.groups) (c : IsClaim group_rows book cs floor claim) where
+  abbrev Named : Group → Type 0
+  Named g = (is_id_of claim.sources g ≡ true → may_be_source claim.choice g.content ≡ true) × (is_fresh claim.fresh g ≡ true → is_invisible g.content ≡ true)
+
+  named : AllByRecursion Named book.groups
+  named = recursion_from_All Named book.groups (All-in (Contains book.groups) Named book.groups (λ g in_groups _. (
+    All-contains (λ (h : Group). is_id_of claim.sources h ≡ true → may_be_source claim.choice h.content ≡ true) book.groups g c.sources in_groups,
+    All-contains (λ (h : Group). is_fresh claim.fresh h ≡ true → is_invisible h.content ≡ true) book.groups g c.fresh in_groups,
+  )) (All-contains_itself book.groups))
+
+  pub release_moves : GroupsMoveBy mover_transitions book (after_release claim book)
+  release_moves id = states_filtered (λ g. not (is_fresh claim.fresh g)) book.groups up (weaker Named (λ (g : Group). not (is_fresh claim.fresh g) ≡ false → Moves (state_in g.content) Absent) book.groups (λ g n is. invisible_moves g.content (n.1 (not_false (is_fresh claim.fresh g) is))) named) id
+
+  abbrev content_installed : Group → Content
+  content_installed g = cond (is_id_of claim.sources g) (Tombstone (total g.content) (deleted g.content)) (cond (is_fresh claim.fresh g) (Compressed (made_of claim)) g.content)
+
+  install_step : (g : Group) → Named g → (s f : Bool) → is_id_of claim.sources g ≡ s → is_fresh claim.fresh g ≡ f → Moves (state_in g.content) (state_in (cond s (Tombstone (total g.content) (deleted g.content)) (cond f (Compressed (made_of claim)) g.content)))
+  install_step g n true f s_is f_is = source_moves claim.choice g.content (n.0 s_is)
+  install_step g n false true s_is f_is = shown_moves g.content (made_of claim) (n.1 f_is)
+  install_step g n false false s_is f_is = inl refl
+
+  installed_moves : (t : Bool) (id : ℕ) → Moves (state_of book.groups id) (state_of (map (changed content_installed) (cond t (without_fresh claim.fresh book.groups) book.groups)) id)
+  installed_moves true id = states_both (λ g. not (is_fresh claim.fresh g)) content_installed book.groups up (weaker Named (λ (g : Group). (not (is_fresh claim.fresh g) ≡ true → Moves (state_in g.content) (state_in (content_installed g))) × (not (is_fresh claim.fresh g) ≡ false → Moves (state_in g.content) Absent)) book.groups (λ g n. (
+    (λ _. install_step g n (is_id_of claim.sources g) (is_fresh claim.fresh g) refl refl),
+    (λ is. invisible_moves g.content (n.1 (not_false (is_fresh claim.fresh g) is))),
+  )) named) id
+  installed_moves false id = states_changed content_installed book.groups (weaker Named (λ (g : Group). Moves (state_in g.content) (state_in (content_installed g))) book.groups (λ g n. install_step g n (is_id_of claim.sources g) (is_fresh claim.fresh g) refl refl) named) id
+
+  pub install_moves : GroupsMoveBy mover_transitions book (after_install claim book)
+  install_moves id = installed_moves (is_none_left (made_of claim)) id

@@ -1,0 +1,7 @@
+pub mod Book
+pub mod Commits
+pub mod Turns
+pub mod Choices
+pub mod Stocks
+pub mod Invariant
+pub mod States

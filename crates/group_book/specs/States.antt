@@ -1,0 +1,41 @@
+-- The states of a group, and which follow each other.
+use Rattle.std.specs.Prelude.{◌≡◌, ℕ, ◌⊎◌, ◌==◌, List, [], ◌∷◌, Contains, if◌then◌else◌}
+use Rattle.group_book.specs.Book.{Content, Group, Book}
+use Rattle.group_book.specs.Book.Content.{Opened, Closed, Compressed, Invisible, Tombstone}
+
+-- none, before a group is there and after it has gone; then as in a report
+pub data State : Type 0 where
+  Absent : State
+  IsOpen : State
+  IsClosed : State
+  IsCompressed : State
+  IsInvisible : State
+  IsTombstone : State
+
+abbrev pub state_in : Content → State
+state_in (Opened versions) = IsOpen
+state_in (Closed versions) = IsClosed
+state_in (Compressed versions) = IsCompressed
+state_in Invisible = IsInvisible
+state_in (Tombstone versions ends) = IsTombstone
+
+-- the state of the group of this id
+abbrev pub state_of : List Group → ℕ → State
+state_of [] id = Absent
+state_of (group ∷ groups) id = if group.id == id then state_in group.content else state_of groups id
+
+-- what a mover's event makes of a group that it changes
+abbrev pub mover_transitions : List (State × State)
+mover_transitions =
+    (IsOpen, IsClosed)
+    ∷ (Absent, IsInvisible)
+    ∷ (IsInvisible, IsCompressed)
+    ∷ (IsInvisible, Absent)
+    ∷ (IsClosed, IsTombstone)
+    ∷ (IsCompressed, IsTombstone)
+    ∷ (IsTombstone, Absent)
+    ∷ []
+
+-- from the first book to the second each group stays in its state, or makes one of these transitions
+abbrev pub GroupsMoveBy : List (State × State) → Book → Book → Type 0
+GroupsMoveBy transitions before after = (id : ℕ) → (state_of before.groups id ≡ state_of after.groups id) ⊎ Contains transitions (state_of before.groups id, state_of after.groups id)
