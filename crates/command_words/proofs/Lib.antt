@@ -1,0 +1,4 @@
+pub mod Short
+pub mod WordPairs
+pub mod Ordering
+pub mod Steps

@@ -1,0 +1,93 @@
+-- Pairs, and the words that they are: what the walk along the words finds is what is said of the pairs.
+use Rattle.std.proofs.Common.{◌≡◌, ℕ, List, [], ◌∷◌, Bool, true, false, not, ◌&&◌, ◌||◌, cond, if◌then◌else◌, bytes_eq, Some, refl, ap, sym, subst, ◌∙◌}
+use Rattle.std.specs.Cmp.Derive.{both_true}
+use Rattle.std.specs.List.{list_all, list_any, find}
+use Rattle.std.specs.Option.{option_map_or}
+use Rattle.std.proofs.lemmas.Slice.Eq.{bytes_eq-Decides}
+use Rattle.cs_types.specs.Calendar.{digits_value}
+use Rattle.command_words.specs.declared.mode.Mode.{Mode}
+use Rattle.command_words.specs.declared.mode.Mode.TheVariants as mode
+use Rattle.command_words.specs.Options.{OptionRow, number_row, sessions_row, statements_row, is_value}
+use Rattle.command_words.specs.Orders.{Words, Pair, words_of, is_pair, are_once, value_of, order_with}
+use Rattle.command_words.specs.Walk.{is_named, are_pairs, value_among}
+
+and_left : (a b : Bool) → (a && b) ≡ true → a ≡ true
+and_left true b e = refl
+and_left false b e = e
+
+and_right : (a b : Bool) → (a && b) ≡ true → b ≡ true
+and_right true b e = e
+and_right false b e = cc
+
+or_false : (b : Bool) → (b || false) ≡ true → b ≡ true
+or_false true e = refl
+or_false false e = e
+
+-- the words, two by two
+abbrev pub pairs_in : Words → List Pair
+pairs_in [] = []
+pairs_in (name ∷ []) = []
+pairs_in (name ∷ value ∷ rest) = (name, value) ∷ pairs_in rest
+
+-- good words are those of pairs
+pub words_are_pairs : (mode : Mode) (words : Words) → are_pairs mode words ≡ true → words ≡ words_of (pairs_in words)
+words_are_pairs mode [] good = refl
+words_are_pairs mode (name ∷ []) good = cc
+words_are_pairs mode (name ∷ value ∷ rest) good = ap (λ z. name ∷ value ∷ z) (words_are_pairs mode rest (and_right _ _ good))
+
+named_is : (name : List ℕ) (pairs : List Pair) → is_named name (words_of pairs) ≡ list_any (λ (other : Pair). bytes_eq name other.0) pairs
+named_is name [] = refl
+named_is name (pair ∷ pairs) = ap (λ b. bytes_eq name pair.0 || b) (named_is name pairs)
+
+pub values_of_good : (mode : Mode) (pairs : List Pair) → are_pairs mode (words_of pairs) ≡ true → list_all (is_pair mode) pairs ≡ true
+values_of_good mode [] good = refl
+values_of_good mode (pair ∷ pairs) good = both_true (and_left _ _ (and_left _ _ good)) (values_of_good mode pairs (and_right _ _ good))
+
+pub once_of_good : (mode : Mode) (pairs : List Pair) → are_pairs mode (words_of pairs) ≡ true → are_once pairs ≡ true
+once_of_good mode [] good = refl
+once_of_good mode (pair ∷ pairs) good = both_true (sym (ap not (named_is pair.0 pairs)) ∙ and_right _ _ (and_left _ _ good)) (once_of_good mode pairs (and_right _ _ good))
+
+pub good_of_pairs : (mode : Mode) (pairs : List Pair) → list_all (is_pair mode) pairs ≡ true → are_once pairs ≡ true → are_pairs mode (words_of pairs) ≡ true
+good_of_pairs mode [] values once = refl
+good_of_pairs mode (pair ∷ pairs) values once = both_true (both_true (and_left _ _ values) (ap not (named_is pair.0 pairs) ∙ and_left _ _ once)) (good_of_pairs mode pairs (and_right _ _ values) (and_right _ _ once))
+
+-- ---- values
+
+value_at : (row : OptionRow) (pair : Pair) (pairs : List Pair) (words : Words) (b : Bool) → (b ≡ true → is_value row pair.1 ≡ true) → value_among row words ≡ value_of pairs row → (if b then (if is_value row pair.1 then digits_value pair.1 else row.usual) else value_among row words) ≡ option_map_or (λ (pair : Pair). digits_value pair.1) (cond b (Some pair) (find (λ (pair : Pair). bytes_eq row.name pair.0) pairs)) row.usual
+value_at row pair pairs words true good same = ap (λ t. if t then digits_value pair.1 else row.usual) (good refl)
+value_at row pair pairs words false good same = same
+
+-- a pair of the option's name has a value of it
+abbrev Fits : Mode → OptionRow → Type 0
+Fits mode row = (pair : Pair) → is_pair mode pair ≡ true → bytes_eq row.name pair.0 ≡ true → is_value row pair.1 ≡ true
+
+value_is : (mode : Mode) (row : OptionRow) → Fits mode row → (pairs : List Pair) → list_all (is_pair mode) pairs ≡ true → value_among row (words_of pairs) ≡ value_of pairs row
+value_is mode row fits [] values = refl
+value_is mode row fits (pair ∷ pairs) values = value_at row pair pairs (words_of pairs) (bytes_eq row.name pair.0) (fits pair (and_left _ _ values)) (value_is mode row fits pairs (and_right _ _ values))
+
+fits_number : Fits mode.Generate number_row
+unfolding is_pair
+fits_number pair is named =
+    let P : List ℕ → Type 0 = λ name. is_pair mode.Generate (name, pair.1) ≡ true → is_value number_row pair.1 ≡ true in
+    subst P ((bytes_eq-Decides number_row.name pair.0).0 named) (or_false (is_value number_row pair.1)) is
+
+fits_sessions : Fits mode.Generate sessions_row
+unfolding is_pair
+fits_sessions pair is named =
+    let P : List ℕ → Type 0 = λ name. is_pair mode.Generate (name, pair.1) ≡ true → is_value sessions_row pair.1 ≡ true in
+    subst P ((bytes_eq-Decides sessions_row.name pair.0).0 named) (or_false (is_value sessions_row pair.1)) is
+
+fits_statements : Fits mode.Generate statements_row
+unfolding is_pair
+fits_statements pair is named =
+    let P : List ℕ → Type 0 = λ name. is_pair mode.Generate (name, pair.1) ≡ true → is_value statements_row pair.1 ≡ true in
+    subst P ((bytes_eq-Decides statements_row.name pair.0).0 named) (or_false (is_value statements_row pair.1)) is
+
+-- the order is the same where the first values among the words are those of the pairs
+pub order_is : (mode : Mode) (pairs : List Pair) → list_all (is_pair mode) pairs ≡ true → order_with mode (λ row. value_among row (words_of pairs)) ≡ order_with mode (value_of pairs)
+order_is mode.Replay pairs values = refl
+order_is mode.Generate pairs values =
+    let number = value_is mode.Generate number_row fits_number pairs values in
+    let sessions = value_is mode.Generate sessions_row fits_sessions pairs values in
+    let statements = value_is mode.Generate statements_row fits_statements pairs values in
+    cc

@@ -1,0 +1,48 @@
+-- The modes of the program, their options, and the values that these take.
+use Rattle.std.specs.Prelude.{ℕ, List, [], ◌∷◌, length, codes, Bool, ◌&&◌, nat_le}
+use Rattle.std.specs.List.{list_all}
+use Rattle.cs_types.specs.Calendar.{is_digit, digits_value}
+use Rattle.command_words.specs.declared.mode.Mode.{Mode}
+use Rattle.command_words.specs.declared.mode.Mode.TheVariants.{Replay, Generate}
+
+-- a line of the table of options
+pub record OptionRow : Type 0 where
+  pub name : List ℕ
+  pub least : ℕ
+  pub greatest : ℕ
+  pub usual : ℕ
+
+-- ---- the table
+
+abbrev pub number_row : OptionRow
+number_row = record { name = codes "--number"; least = 0; greatest = 2147483647; usual = 1 }
+
+abbrev pub sessions_row : OptionRow
+sessions_row = record { name = codes "--sessions"; least = 1; greatest = 64; usual = 4 }
+
+abbrev pub statements_row : OptionRow
+statements_row = record { name = codes "--statements"; least = 0; greatest = 200000; usual = 1000 }
+
+-- the modes
+abbrev pub modes : List Mode
+modes = Replay ∷ Generate ∷ []
+
+-- the word of a mode
+abbrev pub name_of : Mode → List ℕ
+name_of Replay = codes "replay"
+name_of Generate = codes "generate"
+
+-- the options of a mode
+abbrev pub rows_of : Mode → List OptionRow
+rows_of Replay = []
+rows_of Generate = number_row ∷ sessions_row ∷ statements_row ∷ []
+
+-- ---- values
+
+-- a text is a number: 1 to 10 digits
+abbrev pub is_number : List ℕ → Bool
+is_number text = list_all is_digit text && nat_le 1 (length text) && nat_le (length text) 10
+
+-- a text is a value of an option: a number in its range
+abbrev pub is_value : OptionRow → List ℕ → Bool
+is_value row text = is_number text && nat_le row.least (digits_value text) && nat_le (digits_value text) row.greatest
