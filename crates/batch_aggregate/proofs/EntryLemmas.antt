@@ -18,7 +18,8 @@ use Rattle.cs_model.specs.Queries.{keeps, kept}
 use Rattle.cs_model.specs.Groups.{Group, cells_of, same_cells, groups_of}
 use Rattle.batch_aggregate.specs.Standing.{Entry, no_tally, with_row, tally_of, entry_of, entries_of, with_entry, Keeps, StandsFor}
 use Rattle.batch_aggregate.proofs.Gathered.{with_group, groups-more}
-use Rattle.batch_aggregate.proofs.Orders.{same_decides, rows_decide}
+use Rattle.answer_laws.proofs.Orders.{same_decides}
+use Rattle.batch_aggregate.proofs.SameRows.{rows_decide}
 
 one_answer : {P : Type 0} (r s : Bool) → Decides r P → Decides s P → r ≡ s
 one_answer true true d e = refl

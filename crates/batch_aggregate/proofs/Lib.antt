@@ -1,7 +1,7 @@
 pub mod Changed
 pub mod EntryLemmas
 pub mod Gathered
-pub mod Orders
 pub mod RowLemmas
+pub mod SameRows
 pub mod ShownLemmas
 pub mod Sorting

@@ -1,6 +1,6 @@
 -- Words and a script in their grammars are answered, unless memory or a stream gives out.
-use Rattle.std.proofs.Common.{◌≡◌, ℕ, ◌<◌, ◌≤◌, List, [], ◌++◌, length, ap, sym, subst, ◌∙◌, arith, length-append, inl, inr}
-use Rattle.std.specs.Prelude.{◌⊎◌, Option, None, Some}
+use Rattle.std.proofs.Common.{◌≡◌, ℕ, ◌<◌, ◌≤◌, List, ◌++◌, length, ap, sym, subst, ◌∙◌, arith, length-append, inl, inr}
+use Rattle.std.specs.Prelude.{Option, None, Some}
 use Rattle.std.proofs.lemmas.List.{append-nil}
 use Rattle.cs_outside.specs.Outside.{IsAtEnd, Takes}
 use Rattle.columnstore.specs.declared.status.Status.{Status}

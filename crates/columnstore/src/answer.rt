@@ -1,18 +1,19 @@
 // What is to be written for an input.
-ghost use Rattle.std.specs.Prelude.{◌≡◌, ◌++◌, List, IfOk, OnOk};
+ghost use Rattle.std.specs.Prelude.{◌≡◌, ◌⊎◌, ◌++◌, List, [], IfOk, OnOk, OnErr};
 ghost use Rattle.cs_model.specs.declared.entry.Entry.{Entry};
+ghost use Rattle.cs_model.specs.State.{begin_of};
 ghost use Rattle.cs_model.specs.Text.{text};
 ghost use Rattle.script_reader.specs.declared.script.Script.{Script};
 ghost use Rattle.script_reader.specs.Scripts.{IsScript, IsRunnable};
-ghost use Rattle.script_runner.specs.Logs.{IsLogOf};
-ghost use Rattle.columnstore.specs.Outcome.{IsAnswered, setup_error_text, bad_line_text};
+ghost use Rattle.script_runner.specs.Logs.{IsLogOf, IsMadeOf};
+ghost use Rattle.columnstore.specs.Outcome.{IsAnswered, HasMade, setup_error_text, bad_line_text};
 
 use crate::status::Status;
 use cs_base::Memory;
 use cs_model::print_log;
 use cs_types::Line;
 use script_reader::{Script, ScriptRefusal, read_script};
-use script_runner::run_schedule;
+use script_runner::{Runner, run_schedule};
 use statement_core::Core;
 use statement_work::Clerk;
 use std::alloc::Global;
@@ -42,26 +43,55 @@ fn bad_line(alloc: Global, line: u64, reason: u32, number: u32) -> Result<Line, 
     Ok(text)
 }
 
-/// The text of the log of a run of a script.
-fn run(alloc: Global, script: &Script) -> Result<Line, Memory>
+/// A runner over a new core for the table and the sessions of a script.
+fn runner_for(alloc: Global, script: &Script) -> Result<Runner, Memory>
     requires { IsRunnable script.now }
-    ensures { IfOk result (λ line. (log : List Entry) × IsLogOf script.now log × (line ≡ text script.now.schema log)) }
+    ensures schema { IfOk result (λ runner. runner.schema ≡ script.now.schema) }
+    ensures log { IfOk result (λ runner. runner.log ≡ []) }
+    ensures sessions { IfOk result (λ runner. runner.sessions ≡ script.now.sessions) }
 {
     let schema = script.schema.copy()?;
-    let mut core = Core::new(alloc, schema, script.sessions.as_slice())?;
-    run_schedule(alloc, &mut core, script, &Clerk)?;
-    print_log(alloc, core.schema(), core.log())
+    let core = Core::new(alloc, schema, script.sessions.as_slice())?;
+    Runner::new(alloc, core)
 }
 
-/// The whole text that is to be written for an input, and the status that goes with it.
+/// Runs a script with a runner that was made for it, and gives the text of the log. Where memory gives out, in the run or for
+/// the text, the runner still has the log of the steps that were made.
+fn run(alloc: Global, runner: &mut Runner, script: &Script) -> Result<Line, Memory>
+    requires runnable { IsRunnable script.now }
+    requires schema { runner.old.schema ≡ script.now.schema }
+    requires log { runner.old.log ≡ [] }
+    requires sessions { runner.old.sessions ≡ script.now.sessions }
+    ensures whole { IfOk result (λ line. IsLogOf script.now runner.new.log) }
+    ensures text { IfOk result (λ line. line ≡ text (begin_of script.now.schema) runner.new.log) }
+    ensures made { IsMadeOf script.now runner.new.log }
+{
+    run_schedule(runner, script, &Clerk)?;
+    print_log(alloc, runner.schema(), runner.log())
+}
+
+/// The text of the log of a run of a script.
+fn replay(alloc: Global, script: &Script) -> Result<Line, Memory>
+    requires { IsRunnable script.now }
+    ensures text { IfOk result (λ line. (log : List Entry) × IsLogOf script.now log × (line ≡ text (begin_of script.now.schema) log)) }
+    ensures made { OnErr result ((log : List Entry) × ((log ≡ []) ⊎ IsMadeOf script.now log)) }
+{
+    let mut runner = runner_for(alloc, script)?;
+    run(alloc, &mut runner, script)
+}
+
+/// The whole text that is to be written for an input, and the status that goes with it. `Memory` where there is no room for the
+/// script, its run or the text.
 pub fn answer(alloc: Global, bytes: &[u8]) -> Result<(Status, Line), Memory>
     ensures answered { IfOk result (λ a. IsAnswered bytes.now a.0 a.1) }
     // A script is run.
     ensures runs { (script : Script) → IsScript bytes.now script → IfOk result (λ a. a.0 ≡ Status.Done) }
+    // Where memory gave out, the steps of a script were made, or the first of them.
+    ensures made { OnErr result (HasMade bytes.now) }
 {
     match read_script(alloc, bytes) {
         Ok(script) => {
-            let text = run(alloc, &script)?;
+            let text = replay(alloc, &script)?;
             Ok((Status::Done, text))
         }
         Err(

@@ -2,7 +2,7 @@
 use Rattle.std.proofs.Common.{◌≡◌, ℕ, ◌+◌, ◌<◌, ◌≤◌, List, [], ◌∷◌, ◌++◌, length, take, drop, get_or, sym, ap, arith, ◌∙◌, append_assoc}
 use Rattle.std.proofs.lemmas.List.{take_more, drop_more, length-take-le}
 use Rattle.std.proofs.lemmas.List.Sums.{count_by-le-length, fold-append}
-use Rattle.cs_types.specs.declared.Schema.{Schema}
+use Rattle.cs_model.specs.State.{Begin}
 use Rattle.cs_model.specs.declared.entry.Entry.{Entry}
 use Rattle.cs_model.specs.Actors.{actor_of}
 use Rattle.cs_model.specs.Text.{statements_of, is_start_of, entry_text, text_after, text}
@@ -27,10 +27,10 @@ module _ (log : List Entry) (i : ℕ) (e : Entry) (within : i < length log) (is 
   counts_more session before now b n =
       n ∙ ap (λ k. k + begun_by e session) b ∙ sym (ap (statements_of session) taken ∙ fold-append (λ k entry. k + begun_by entry session) 0 (take i log) (e ∷ []))
 
-  pub prints_more : (schema : Schema) (out new : List ℕ) (place : ℕ) → place ≡ statements_of (actor_of e) (take (i + 1) log) → new ≡ out ++ entry_text schema (i + 1) place e
-      → out ++ text_after schema (take i log) (drop i log) ≡ text schema log → new ++ text_after schema (take (i + 1) log) (drop (i + 1) log) ≡ text schema log
-  prints_more schema out new place p n inv =
-      let whole : out ++ text_after schema (take i log) (e ∷ drop (i + 1) log) ≡ text schema log = ap (λ es. out ++ text_after schema (take i log) es) (sym left) ∙ inv in
-      let line : entry_text schema (i + 1) (statements_of (actor_of e) (take i log ++ e ∷ [])) e ≡ entry_text schema (length (take i log) + 1) (statements_of (actor_of e) (take i log ++ e ∷ [])) e =
-      ap (λ k. entry_text schema (k + 1) (statements_of (actor_of e) (take i log ++ e ∷ [])) e) (sym count) in
+  pub prints_more : (begin : Begin) (out new : List ℕ) (place : ℕ) → place ≡ statements_of (actor_of e) (take (i + 1) log) → new ≡ out ++ entry_text begin.schema (i + 1) place e
+      → out ++ text_after begin (take i log) (drop i log) ≡ text begin log → new ++ text_after begin (take (i + 1) log) (drop (i + 1) log) ≡ text begin log
+  prints_more begin out new place p n inv =
+      let whole : out ++ text_after begin (take i log) (e ∷ drop (i + 1) log) ≡ text begin log = ap (λ es. out ++ text_after begin (take i log) es) (sym left) ∙ inv in
+      let line : entry_text begin.schema (i + 1) (statements_of (actor_of e) (take i log ++ e ∷ [])) e ≡ entry_text begin.schema (length (take i log) + 1) (statements_of (actor_of e) (take i log ++ e ∷ [])) e =
+      ap (λ k. entry_text begin.schema (k + 1) (statements_of (actor_of e) (take i log ++ e ∷ [])) e) (sym count) in
       rw (n, append_assoc, p, taken, line) whole

@@ -74,7 +74,7 @@ edited_is key k None es sorted = take_is key k es sorted ∙ ap (λ t. cond t No
 abbrev Below : Key → Key → Type 0
 Below a b = key_cmp a b ≡ Less
 
-all_put : (P : Key → Type 0) (k : Key) (v : List Value) (es : Table) → AllByRecursion P (keys_of es) → P k → AllByRecursion P (keys_of (insert_entry key_cmp es k v))
+all_put : {X : Type 0} (P : Key → Type 0) (k : Key) (v : X) (es : List (Key × X)) → AllByRecursion P (keys_of es) → P k → AllByRecursion P (keys_of (insert_entry key_cmp es k v))
 all_put P k v [] all p = (p, tt)
 all_put P k v (e ∷ es) all p = at (all_put P k v es all.1 p) (key_cmp k e.0)
   where
@@ -95,7 +95,8 @@ all_below : (a b : Key) (ks : List Key) → Below a b → AllByRecursion (Below 
 all_below a b [] below all = tt
 all_below a b (k ∷ ks) below all = (key_total.trans a b k below all.0, all_below a b ks below all.1)
 
-sorted_put : (k : Key) (v : List Value) (es : Table) → IsStrictlySortedBy key_cmp (keys_of es) → IsStrictlySortedBy key_cmp (keys_of (insert_entry key_cmp es k v))
+-- a value put at a key keeps the keys ascending
+pub sorted_put : {X : Type 0} (k : Key) (v : X) (es : List (Key × X)) → IsStrictlySortedBy key_cmp (keys_of es) → IsStrictlySortedBy key_cmp (keys_of (insert_entry key_cmp es k v))
 unfolding IsStrictlySortedBy
 sorted_put k v [] sorted = (tt, tt)
 sorted_put k v (e ∷ es) sorted = at (sorted_put k v es sorted.1) (key_cmp k e.0) refl
@@ -118,7 +119,7 @@ sorted_edit : (k : Key) (row : Option (List Value)) (es : Table) → IsStrictlyS
 sorted_edit k (Some row) es sorted = sorted_put k row es sorted
 sorted_edit k None es sorted = sorted_take k es sorted
 
-sorted_none : IsStrictlySortedBy key_cmp (keys_of {K = Key} {X = List Value} [])
+pub sorted_none : IsStrictlySortedBy key_cmp []
 unfolding IsStrictlySortedBy
 sorted_none = tt
 

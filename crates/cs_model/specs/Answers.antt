@@ -1,5 +1,5 @@
 -- What a statement reads and writes, by one plain table.
-use Rattle.std.specs.Prelude.{ℕ, ◌+◌, ◌==◌, ℤ, pos, ◌+ℤ◌, ◌-ℤ◌, int_lt, unsigned_abs, List, [], ◌∷◌, map, filter, slice_get, unwrap_or, if◌then◌else◌, Bool, true, false, Option, None, Some, Result, Ok, Err}
+use Rattle.std.specs.Prelude.{ℕ, ◌+◌, ◌==◌, ℤ, pos, ◌+ℤ◌, ◌-ℤ◌, int_lt, unsigned_abs, List, [], ◌∷◌, map, filter, slice_get, unwrap_or, if◌then◌else◌, Option, None, Some, Result, Ok, Err}
 use Rattle.std.specs.List.{position_from, range_with_len, find}
 use Rattle.std.specs.Option.{option_and_then}
 use Rattle.cs_types.specs.declared.Value.{Value}
@@ -23,18 +23,6 @@ use Rattle.cs_model.specs.declared.entry.Bound.TheVariants.{Begin, Commit, Rollb
 use Rattle.cs_model.specs.declared.entry.Refusal.{Refusal}
 use Rattle.cs_model.specs.declared.entry.Refusal.TheVariants.{Valued}
 use Rattle.cs_model.specs.Changes.{Edit, Table}
-
--- whether a statement is one of the table, which takes a snapshot, in a transaction of its own where none is open
-abbrev pub is_of_table : Bound → Bool
-is_of_table Begin = false
-is_of_table Commit = false
-is_of_table Rollback = false
-is_of_table Nothing = false
-is_of_table (Insert plan) = true
-is_of_table (Update plan) = true
-is_of_table (Delete condition) = true
-is_of_table (Select query) = true
-is_of_table (Refused refusal) = false
 
 -- ---- cells and rows that are written
 

@@ -1,12 +1,12 @@
 -- Rows that the columns of a table hold, and edits that a table may take.
-use Rattle.std.specs.Prelude.{◌≡◌, ℕ, Bool, IsTrue, List, slice_get, All, Option, None, Some}
+use Rattle.std.specs.Prelude.{◌≡◌, ℕ, ◌≤◌, Bool, IsTrue, List, length, slice_get, All, Option, None, Some}
 use Rattle.cs_types.specs.declared.Column.{Column}
 use Rattle.cs_types.specs.declared.Key.{Key}
 use Rattle.cs_types.specs.declared.Schema.{Schema}
 use Rattle.cs_types.specs.declared.Value.{Value}
 use Rattle.cs_types.specs.declared.Value.TheVariants.{Null, Number, Text}
 use Rattle.cs_types.specs.Kinds.{keeps_number, is_short}
-use Rattle.cs_types.specs.Rows.{cell_at}
+use Rattle.cs_types.specs.Rows.{cell_at, key_in}
 use Rattle.cs_model.specs.Changes.{Edit, Table, Change}
 use Rattle.cs_model.specs.Text.{IsPrintableKey}
 
@@ -20,18 +20,25 @@ holds column (Text t) = is_short column.kind t
 abbrev pub IsHeld : Schema → List Value → Type 0
 IsHeld schema row = (i : ℕ) (column : Column) → slice_get schema.columns i ≡ Some column → IsTrue (holds column (cell_at row i))
 
--- a write that puts no row there, or one that the columns hold
-abbrev pub MayHold : Schema → Option (List Value) → Type 0
-MayHold schema None = Unit {0}
-MayHold schema (Some row) = IsHeld schema row
+-- a row of the table under its key: no more cells than there are columns, each held by its column, and in the key's column
+-- the key
+pub record IsRowAt (schema : Schema) (key : Key) (row : List Value) : Type 0 where
+  pub held : IsHeld schema row
+  pub width : length row ≤ length schema.columns
+  pub under : key_in schema.key row ≡ key
 
--- an edit of a key that can be printed, to nothing or to a row that the columns hold
+-- nothing may stand at a key, or a row of that key
+abbrev pub MayStand : Schema → Key → Option (List Value) → Type 0
+MayStand schema key None = Unit {0}
+MayStand schema key (Some row) = IsRowAt schema key row
+
+-- an edit of a key that can be printed, to nothing or to a row of that key
 abbrev pub IsFit : Schema → Edit → Type 0
-IsFit schema edit = IsPrintableKey schema edit.0 × MayHold schema edit.1
+IsFit schema edit = IsPrintableKey schema edit.0 × MayStand schema edit.0 edit.1
 
--- a row that the columns hold, at a key that can be printed
+-- a row under its key, which can be printed
 abbrev pub IsFitEntry : Schema → Key × List Value → Type 0
-IsFitEntry schema entry = IsPrintableKey schema entry.0 × IsHeld schema entry.1
+IsFitEntry schema entry = IsPrintableKey schema entry.0 × IsRowAt schema entry.0 entry.1
 
 -- each change's edit fits the table
 abbrev pub AreFit : Schema → List Change → Type 0

@@ -8,11 +8,15 @@ pub mod Order
 pub mod Items
 pub mod Queries
 pub mod Changes
+pub mod Kinds
 pub mod State
 pub mod Answers
 pub mod Obstacles
 pub mod Steps
 pub mod Actors
+pub mod Floors
+pub mod Works
 pub mod Text
 pub mod Places
 pub mod Held
+pub mod Ready

@@ -1,15 +1,15 @@
 -- Why a write is refused: its least key that has an obstacle.
-use Rattle.std.specs.Prelude.{◌≡◌, ℕ, ◌≢◌, ◌⊎◌, List, map, nat_lt, count_by, All, Contains, Bool, true, false, ◌||◌, is_some, Option, None, Some}
+use Rattle.std.specs.Prelude.{◌≡◌, ℕ, ◌≢◌, ◌⊎◌, List, map, nat_lt, count_by, All, Contains, Bool, true, false, ◌||◌, ◌&&◌, is_some, Option, None, Some}
 use Rattle.std.specs.List.{list_any}
 use Rattle.std.specs.declared.cmp.Ordering.TheVariants.{Greater}
 use Rattle.std.specs.BTreeMap.{is_at}
 use Rattle.std.specs.Map.{lookup}
 use Rattle.cs_types.specs.declared.Key.{Key}
 use Rattle.cs_model.specs.declared.entry.Bound.{Bound}
-use Rattle.cs_model.specs.declared.entry.Bound.TheVariants.{Begin, Commit, Rollback, Nothing, Insert, Update, Delete, Select, Refused}
 use Rattle.cs_model.specs.declared.entry.Refusal.{Refusal}
 use Rattle.cs_model.specs.declared.entry.Refusal.TheVariants.{Reading, Valued, Locked, Changed, Duplicate, NoTxn, Memory}
 use Rattle.cs_types.specs.Keys.{key_cmp, same_key}
+use Rattle.cs_model.specs.Kinds.{is_insert}
 use Rattle.cs_model.specs.Changes.{Edit, Table, Change, newest}
 use Rattle.cs_model.specs.State.{Txn, State}
 
@@ -27,15 +27,7 @@ stands_twice keys key = nat_lt 1 (count_by (λ other. same_key key other) keys)
 
 -- whether an INSERT of these edits would make a key stand twice: it is in what the statement reads, or twice in its list
 abbrev pub is_present : Bound → List Edit → Table → Key → Bool
-is_present Begin edits table key = false
-is_present Commit edits table key = false
-is_present Rollback edits table key = false
-is_present Nothing edits table key = false
-is_present (Insert plan) edits table key = has_row table key || stands_twice (keys_of edits) key
-is_present (Update plan) edits table key = false
-is_present (Delete condition) edits table key = false
-is_present (Select query) edits table key = false
-is_present (Refused refusal) edits table key = false
+is_present b edits table key = is_insert b && (has_row table key || stands_twice (keys_of edits) key)
 
 -- ---- another transaction's writes
 

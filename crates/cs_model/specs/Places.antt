@@ -1,11 +1,11 @@
--- How many statements each session began, counted entry by entry.
+-- How many statements each actor began, counted entry by entry.
 use Rattle.std.specs.Prelude.{ℕ, if◌then◌else◌, unwrap_or}
 use Rattle.std.specs.Ordering.{nat_cmp}
 use Rattle.std.specs.BTreeMap.{BTreeMap, get}
 use Rattle.cs_model.specs.declared.entry.Entry.{Entry}
 use Rattle.cs_model.specs.Text.{is_start_of}
 
--- the count of a session
+-- the count of an actor
 abbrev pub place_in : BTreeMap ℕ ℕ → ℕ → ℕ
 place_in places session = unwrap_or (get nat_cmp places session) 0
 

@@ -1,5 +1,6 @@
 -- The state of the row model, and what a transaction sees.
 use Rattle.std.specs.Prelude.{ℕ, List, [], Bool, false, ◌==◌, if◌then◌else◌, Option, None, Some}
+use Rattle.cs_types.specs.declared.Schema.{Schema}
 use Rattle.cs_model.specs.declared.entry.Bound.{Bound}
 use Rattle.cs_model.specs.Changes.{Edit, Table, Change, table, laid}
 
@@ -29,6 +30,19 @@ pub record State : Type 0 where
 -- nothing is committed, open, half done or set
 abbrev pub start : State
 start = record { changes = []; clock = 0; txns = λ _. None; half = λ _. None; statistics = λ _. false; next = 1 }
+
+-- what a log begins from: the schema of the table then, and the state before the first entry
+pub record Begin : Type 0 where
+  pub schema : Schema
+  pub state : State
+
+-- a new table
+abbrev pub begin_of : Schema → Begin
+begin_of schema = record { schema = schema; state = start }
+
+-- the schema of a state that a log leads to: that which it began with, as no statement changes it
+abbrev pub schema_now : Begin → State → Schema
+schema_now begin m = begin.schema
 
 -- the function with another value at one session
 abbrev pub with : {A : Type 0} → (ℕ → A) → ℕ → A → ℕ → A

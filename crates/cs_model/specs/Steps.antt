@@ -12,12 +12,13 @@ use Rattle.cs_model.specs.declared.entry.Refusal.TheVariants.{Reading, Valued, L
 use Rattle.cs_model.specs.declared.entry.Reply.{Reply}
 use Rattle.cs_model.specs.declared.entry.Reply.TheVariants as reply
 use Rattle.cs_model.specs.declared.entry.Entry.{Entry}
-use Rattle.cs_model.specs.declared.entry.Entry.TheVariants.{Start, Finish, End}
+use Rattle.cs_model.specs.declared.entry.Entry.TheVariants.{Start, Finish, End, Mover}
 use Rattle.cs_types.specs.Keys.{key_cmp}
 use Rattle.cs_model.specs.Changes.{Edit, Table, Change}
-use Rattle.cs_model.specs.State.{Txn, Half, State, start, with, txn_set, half_set, seen}
+use Rattle.cs_model.specs.State.{Txn, Half, State, Begin, schema_now, with, txn_set, half_set, seen}
 use Rattle.cs_model.specs.Queries.{answer}
-use Rattle.cs_model.specs.Answers.{is_of_table, writes}
+use Rattle.cs_model.specs.Kinds.{is_of_table}
+use Rattle.cs_model.specs.Answers.{writes}
 use Rattle.cs_model.specs.Obstacles.{keys_of, is_present, IsObstacle, IsJudged}
 
 -- ---- Start
@@ -223,17 +224,18 @@ IsFinish schema m session (Some half) r after =
 
 -- ---- the step
 
--- the entry leads from the state m to the state after
-abbrev pub IsStep : Schema → State → Entry → State → Type 0
-IsStep schema m (Start session b short) after = (m.half session ≡ None) × (short ≡ true → is_of_table b.value ≡ true) × (after ≡ started m session b.value short)
-IsStep schema m (Finish session r) after = IsFinish schema m session (m.half session) r after
-IsStep schema m (End session) after = (m.half session ≡ None) × (after ≡ gone m session)
+-- the entry leads from the state m to the state after; work on row groups leaves the state as it is
+abbrev pub IsStep : Begin → State → Entry → State → Type 0
+IsStep begin m (Start session b short) after = (m.half session ≡ None) × (short ≡ true → is_of_table b.value ≡ true) × (after ≡ started m session b.value short)
+IsStep begin m (Finish session r) after = IsFinish (schema_now begin m) m session (m.half session) r after
+IsStep begin m (End session) after = (m.half session ≡ None) × (after ≡ gone m session)
+IsStep begin m (Mover actor work) after = after ≡ m
 
 -- the entries lead from m to the state after, one by one
-abbrev pub Leads : Schema → State → List Entry → State → Type 0
-Leads schema m [] after = after ≡ m
-Leads schema m (entry ∷ entries) after = (mid : State) × IsStep schema m entry mid × Leads schema mid entries after
+abbrev pub Leads : Begin → State → List Entry → State → Type 0
+Leads begin m [] after = after ≡ m
+Leads begin m (entry ∷ entries) after = (mid : State) × IsStep begin m entry mid × Leads begin mid entries after
 
--- the log leads from the empty state to this one
-abbrev pub Legal : Schema → List Entry → State → Type 0
-Legal schema log after = Leads schema start log after
+-- the log leads from what it begins with to this state
+abbrev pub Legal : Begin → List Entry → State → Type 0
+Legal begin log after = Leads begin begin.state log after

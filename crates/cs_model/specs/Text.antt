@@ -11,12 +11,14 @@ use Rattle.cs_types.specs.declared.Value.TheVariants.{Number}
 use Rattle.cs_types.specs.Kinds.{keeps}
 use Rattle.cs_types.specs.Text.{loose_text, value_text, IsPrintable}
 use Rattle.cs_model.specs.Actors.{actor_of}
+use Rattle.cs_model.specs.State.{Begin}
+use Rattle.cs_model.specs.Works.{session_text, actor_text, work_text}
 use Rattle.cs_model.specs.declared.entry.Refusal.{Refusal}
 use Rattle.cs_model.specs.declared.entry.Refusal.TheVariants.{Reading, Valued, Locked, Changed, Duplicate, NoTxn, Memory}
 use Rattle.cs_model.specs.declared.entry.Reply.{Reply}
 use Rattle.cs_model.specs.declared.entry.Reply.TheVariants.{Done, Affected, Rows, Refused}
 use Rattle.cs_model.specs.declared.entry.Entry.{Entry}
-use Rattle.cs_model.specs.declared.entry.Entry.TheVariants.{Start, Finish, End}
+use Rattle.cs_model.specs.declared.entry.Entry.TheVariants.{Start, Finish, End, Mover}
 
 abbrev pub next_cell : Loose → List ℕ
 next_cell cell = codes ", " ++ loose_text cell
@@ -67,37 +69,35 @@ reply_text schema (Affected count) = codes "ok " ++ decimal count ++ codes " aff
 reply_text schema (Rows rows segments) = codes "ok " ++ decimal (length rows) ++ codes " rows\n" ++ flat_map row_line rows ++ segments_line segments
 reply_text schema (Refused refusal) = refusal_text schema refusal ++ codes "\n"
 
--- `s<n>`
-abbrev pub session_text : ℕ → List ℕ
-session_text session = codes "s" ++ decimal session
-
 -- the text of an entry: event is its number, place that of its statement in its session, both from 1
 abbrev pub entry_text : Schema → ℕ → ℕ → Entry → List ℕ
 entry_text schema event place (Start session bound short) = decimal event ++ codes " " ++ session_text session ++ codes "." ++ decimal place ++ codes " >\n"
 entry_text schema event place (Finish session reply) = decimal event ++ codes " " ++ session_text session ++ codes "." ++ decimal place ++ codes " < " ++ reply_text schema reply
 entry_text schema event place (End session) = decimal event ++ codes " " ++ session_text session ++ codes " end\n"
+entry_text schema event place (Mover actor work) = decimal event ++ codes " " ++ actor_text actor ++ codes " " ++ work_text work ++ codes "\n"
 
 abbrev pub is_start_of : ℕ → Entry → Bool
 is_start_of session (Start s bound short) = s == session
 is_start_of session (Finish s reply) = false
 is_start_of session (End s) = false
+is_start_of session (Mover actor work) = false
 
 -- how many statements of the session these entries began
 abbrev pub statements_of : ℕ → List Entry → ℕ
 statements_of session entries = count_by (is_start_of session) entries
 
--- the text of an entry behind these: its event number counts all entries, its place its session's statements
-abbrev pub line_after : Schema → List Entry → Entry → List ℕ
-line_after schema before entry = entry_text schema (length before + 1) (statements_of (actor_of entry) (before ++ entry ∷ [])) entry
+-- the text of an entry after these: its event number counts all entries, its place its session's statements
+abbrev pub line_after : Begin → List Entry → Entry → List ℕ
+line_after begin before entry = entry_text begin.schema (length before + 1) (statements_of (actor_of entry) (before ++ entry ∷ [])) entry
 
--- the text of the entries that come behind those before
-abbrev pub text_after : Schema → List Entry → List Entry → List ℕ
-text_after schema before [] = []
-text_after schema before (entry ∷ entries) = line_after schema before entry ++ text_after schema (before ++ entry ∷ []) entries
+-- the text of the entries that come after those before
+abbrev pub text_after : Begin → List Entry → List Entry → List ℕ
+text_after begin before [] = []
+text_after begin before (entry ∷ entries) = line_after begin before entry ++ text_after begin (before ++ entry ∷ []) entries
 
 -- the text of a log
-abbrev pub text : Schema → List Entry → List ℕ
-text schema log = text_after schema [] log
+abbrev pub text : Begin → List Entry → List ℕ
+text begin log = text_after begin [] log
 
 -- ---- what can be printed: values that a column keeps, and no day outside the calendar
 
@@ -127,3 +127,4 @@ abbrev pub IsPrintableEntry : Schema → Entry → Type 0
 IsPrintableEntry schema (Start session bound short) = Unit {0}
 IsPrintableEntry schema (Finish session reply) = IsPrintableReply schema reply
 IsPrintableEntry schema (End session) = Unit {0}
+IsPrintableEntry schema (Mover actor work) = Unit {0}

@@ -1,6 +1,7 @@
 // Statements, replies and events.
 use crate::plan::{InsertPlan, Query, UpdatePlan};
 use crate::pred::Pred;
+use crate::work::{Actor, Work};
 use cs_base::{Boxed, Items};
 use cs_types::{Key, Loose};
 use std::sync::Arc;
@@ -88,5 +89,10 @@ pub enum Entry {
     /// The session ends. Its open transaction is rolled back.
     End {
         session: u32,
+    },
+    /// A mover's work on the row groups, or that of a session in its place. It changes no row.
+    Mover {
+        actor: Actor,
+        work: Work,
     },
 }

@@ -11,18 +11,22 @@ mod answer_refusal;
 mod entry;
 mod expr;
 mod expr_refusal;
+mod kind;
 mod laws;
 mod log;
 mod plan;
 mod pred;
 mod print;
+mod print_work;
 mod series;
 mod truth;
+mod work;
 
 pub use answer_refusal::AnswerRefusal;
 pub use entry::{AnswerRow, Bound, Entry, Refusal, Reply};
 pub use expr::{Expr, Times};
 pub use expr_refusal::ExprRefusal;
+pub use kind::Kind;
 pub use laws::{like_is_tested, quotient_is_cut, table_by_last_change};
 pub use log::print_log;
 pub use plan::{InsertPlan, Item, Query, UpdatePlan};
@@ -30,6 +34,7 @@ pub use pred::{Operand, Pred, Relation};
 pub use print::print_entry;
 pub use series::series_schema;
 pub use truth::Truth;
+pub use work::{Actor, Work};
 
 #[cfg(test)]
 mod tests;

@@ -1,26 +1,38 @@
 // The text of a log.
 ghost use Rattle.std.specs.Prelude.{◌≡◌, ◌+◌, ◌<◌, ◌^◌, ℕ, All, IfOk, OnOk};
-ghost use Rattle.cs_model.specs.Actors.{actor_of};
+ghost use Rattle.cs_model.specs.Actors.{number_of, actor_of};
+ghost use Rattle.cs_model.specs.State.{begin_of};
 ghost use Rattle.cs_model.specs.Text.{text, IsPrintableEntry};
 ghost use Rattle.cs_model.specs.Places.{place_in, begun_by};
 
 use crate::entry::Entry;
 use crate::print::append_entry;
+use crate::work::Actor;
 use cs_base::Memory;
 use cs_types::{Line, Schema};
 use std::alloc::Global;
 use std::collections::BTreeMap;
 
-/// How many statements each session began, by its number.
-type Places = BTreeMap<u32, u64>;
+/// How many statements each actor began, by its number.
+type Places = BTreeMap<u64, u64>;
 
-/// How many statements a session began.
-fn place_of(places: &Places, session: u32) -> u64
-    ensures { result ≡ place_in places.now session }
+/// How many statements an actor began.
+fn place_of(places: &Places, actor: u64) -> u64
+    ensures { result ≡ place_in places.now actor }
 {
-    match places.get(&session) {
+    match places.get(&actor) {
         Some(place) => *place,
         None => 0,
+    }
+}
+
+/// The number of an actor: that of a session, or 64 and that of a mover.
+fn number_of(actor: Actor) -> u64
+    ensures { result ≡ number_of actor }
+{
+    match actor {
+        Actor::Session(number) => number as u64,
+        Actor::Mover(number) => 64 + number as u64,
     }
 }
 
@@ -32,12 +44,14 @@ fn count(places: &mut Places, entry: &Entry) -> Result<u64, Memory>
 {
     match entry {
         Entry::Start { session, .. } => {
-            let place = place_of(places, *session) + 1;
-            places.insert(*session, place)?;
+            let session = *session as u64;
+            let place = place_of(places, session) + 1;
+            places.insert(session, place)?;
             Ok(place)
         }
-        Entry::Finish { session, .. } => Ok(place_of(places, *session)),
-        Entry::End { session } => Ok(place_of(places, *session)),
+        Entry::Finish { session, .. } => Ok(place_of(places, *session as u64)),
+        Entry::End { session } => Ok(place_of(places, *session as u64)),
+        Entry::Mover { actor, .. } => Ok(place_of(places, number_of(*actor))),
     }
 }
 
@@ -45,7 +59,7 @@ fn count(places: &mut Places, entry: &Entry) -> Result<u64, Memory>
 /// statements of its session.
 pub fn print_log(alloc: Global, schema: &Schema, log: &[Entry]) -> Result<Line, Memory>
     requires { All (IsPrintableEntry schema.now) log.now }
-    ensures { IfOk result (λ line. line ≡ text schema.now log.now) }
+    ensures { IfOk result (λ line. line ≡ text (begin_of schema.now) log.now) }
 {
     let mut line = Line::new(alloc);
     let mut places = BTreeMap::new(alloc);

@@ -2,11 +2,13 @@
 ghost use Rattle.std.specs.Prelude.{◌≡◌, ◌++◌, All, OnOk, OnErr, IsTrue, codes, decimal};
 ghost use Rattle.std.specs.List.{flat_map};
 ghost use Rattle.cs_types.specs.Text.{IsPrintable};
-ghost use Rattle.cs_model.specs.Text.{next_cell, cells_text, row_line, key_kind, key_text, valued_text, refusal_text, segments_line, reply_text, session_text, entry_text, IsPrintableRow, IsPrintableKey, IsPrintableRefusal, IsPrintableReply, IsPrintableEntry};
+ghost use Rattle.cs_model.specs.Works.{session_text};
+ghost use Rattle.cs_model.specs.Text.{next_cell, cells_text, row_line, key_kind, key_text, valued_text, refusal_text, segments_line, reply_text, entry_text, IsPrintableRow, IsPrintableKey, IsPrintableRefusal, IsPrintableReply, IsPrintableEntry};
 ghost use Rattle.cs_types.specs.Kinds.{keeps};
 ghost use Rattle.cs_types.specs.declared.Value.TheVariants as value;
 
 use crate::entry::{AnswerRow, Entry, Refusal, Reply};
+use crate::print_work::{append_actor, append_work};
 use cs_base::Memory;
 use cs_types::{ColumnType, Key, Line, Loose, Schema, Value, print_loose, print_value};
 use std::alloc::Global;
@@ -234,6 +236,14 @@ pub fn append_entry(
         Entry::End { session } => {
             append_session(event, *session, line)?;
             line.append(b" end\n")
+        }
+        Entry::Mover { actor, work } => {
+            line.append_number(event)?;
+            line.append(b" ")?;
+            append_actor(*actor, line)?;
+            line.append(b" ")?;
+            append_work(*work, line)?;
+            line.append(b"\n")
         }
     }
 }

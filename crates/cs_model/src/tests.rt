@@ -1,4 +1,4 @@
-use crate::{Bound, Entry, Refusal, Reply, print_entry};
+use crate::{Actor, Bound, Entry, Refusal, Reply, Work, print_entry};
 use cs_base::{Items, Memory};
 use cs_types::{Line, Schema};
 use std::alloc::Global;
@@ -50,5 +50,96 @@ fn entries_are_added_to_a_line(rt: HostRuntime) -> Result<(), Fail> {
         line.as_slice(),
         b"1 s12.4 >\n2 s3.1 < ok 2 affected\n3 s12.4 < error 102 at 8\n10 s64 end\n".as_slice()
     );
+    Ok(())
+}
+
+/// The text of these works of an actor, each as the eighth event.
+fn text_of(alloc: Global, actor: Actor, works: &[Work]) -> Result<Line, Memory> {
+    let schema = schema(alloc);
+    let mut line = Line::new(alloc);
+    for &work in works {
+        print_entry(
+            alloc,
+            &schema,
+            8,
+            0,
+            &Entry::Mover { actor, work },
+            &mut line,
+        )?;
+    }
+    Ok(line)
+}
+
+#[test]
+fn work_on_groups_is_added_to_a_line(rt: HostRuntime) -> Result<(), Fail> {
+    let (source, first, second, fresh, rows) = (1, 3, 4, 18446744073709551615, 90);
+    let works = [
+        Work::ClaimCompress { source, fresh },
+        Work::InstallCompress {
+            source,
+            fresh,
+            rows,
+        },
+        Work::ReleaseCompress { source, fresh },
+        Work::ClaimRebuild { source, fresh },
+        Work::InstallRebuild {
+            source,
+            fresh,
+            rows,
+        },
+        Work::ReleaseRebuild { source, fresh },
+        Work::ClaimMerge {
+            first,
+            second,
+            fresh,
+        },
+        Work::InstallMerge {
+            first,
+            second,
+            fresh,
+            rows,
+        },
+        Work::ReleaseMerge {
+            first,
+            second,
+            fresh,
+        },
+    ];
+    let text = b"8 m2 claim compress 1 to 18446744073709551615
+8 m2 install compress 1 to 18446744073709551615 rows 90
+8 m2 release compress 1 to 18446744073709551615
+8 m2 claim rebuild 1 to 18446744073709551615
+8 m2 install rebuild 1 to 18446744073709551615 rows 90
+8 m2 release rebuild 1 to 18446744073709551615
+8 m2 claim merge 3 4 to 18446744073709551615
+8 m2 install merge 3 4 to 18446744073709551615 rows 90
+8 m2 release merge 3 4 to 18446744073709551615
+";
+    let line = text_of(rt.alloc(), Actor::Mover(2), &works)?;
+    assert_eq!(rt; line.as_slice(), text.as_slice());
+    Ok(())
+}
+
+#[test]
+fn work_that_is_counted_is_added_to_a_line(rt: HostRuntime) -> Result<(), Fail> {
+    let works = [
+        Work::ClaimFlush { entries: 10 },
+        Work::InstallFlush { entries: 11 },
+        Work::ReleaseFlush { entries: 12 },
+        Work::Settle { ends: 13 },
+        Work::Clear { groups: 14 },
+        Work::Close { group: 0 },
+        Work::Memory,
+    ];
+    let text = b"8 s64 claim flush 10
+8 s64 install flush 11
+8 s64 release flush 12
+8 s64 settle 13
+8 s64 clear 14
+8 s64 close 0
+8 s64 memory
+";
+    let line = text_of(rt.alloc(), Actor::Session(64), &works)?;
+    assert_eq!(rt; line.as_slice(), text.as_slice());
     Ok(())
 }

@@ -1,21 +1,22 @@
 -- Each kind of event has its frame.
-use Rattle.std.proofs.Common.{◌≡◌, ℕ, ◌+◌, ◌<◌, ◌≤◌, List, [], ◌∷◌, ◌++◌, refl, sym, ap, subst, ◌∙◌, cond, Bool, true, false, arith, is_some, Option, None, Some, nat_le, Global}
+use Rattle.std.proofs.Common.{◌≡◌, ℕ, ◌+◌, ◌<◌, ◌≤◌, List, [], ◌++◌, refl, sym, ap, subst, ◌∙◌, cond, Bool, true, false, arith, is_some, Option, None, Some, nat_le, Global}
 use Rattle.std.specs.Prelude.{◌==◌}
 use Rattle.std.specs.declared.sync.Arc.{Arc}
 use Rattle.std.proofs.lemmas.List.{append-nil}
 use Rattle.std.proofs.lemmas.Bool.Decides.{nat_tests}
 use Rattle.cs_types.specs.declared.Schema.{Schema}
 use Rattle.cs_model.specs.declared.entry.Entry.{Entry}
-use Rattle.cs_model.specs.declared.entry.Entry.TheVariants.{Start, Finish, End}
+use Rattle.cs_model.specs.declared.entry.Entry.TheVariants.{Start, Finish, End, Mover}
 use Rattle.cs_model.specs.declared.entry.Bound.{Bound}
 use Rattle.cs_model.specs.declared.entry.Bound.TheVariants as bound
 use Rattle.cs_model.specs.declared.entry.Reply.{Reply}
 use Rattle.cs_model.specs.declared.entry.Reply.TheVariants as reply
+use Rattle.cs_model.specs.Actors.{actor_of, begun_by}
 use Rattle.cs_model.specs.Changes.{Edit}
-use Rattle.cs_model.specs.State.{Txn, Half, State, with, txn_set, half_set}
-use Rattle.cs_model.specs.Answers.{is_of_table}
+use Rattle.cs_model.specs.State.{Txn, Half, State, Begin, schema_now, with, txn_set, half_set}
+use Rattle.cs_model.specs.Kinds.{is_of_table}
 use Rattle.cs_model.specs.Steps.{IsStep, IsFinish, pinned, next_opened, or_clock, fixed, txn_opened, staged, is_empty, committed, writes_in, wrote, began, unwound, accepted, replied, commits, gone, ends_txn, rested}
-use Rattle.log_laws.specs.Frames.{Acts, Frames, SnapIn, SnapAtMost, IsDrawn, ticked}
+use Rattle.log_laws.specs.Frames.{Acts, Frames, SnapIn, SnapAtMost, IsDrawn, Ticks}
 
 pub at_own : {A : Type 0} (f : ℕ → A) (s : ℕ) (x : A) → with f s x s ≡ x
 at_own f s x = let e : (s == s) ≡ true = grind (arith, nat_tests) in rw e refl
@@ -23,17 +24,21 @@ at_own f s x = let e : (s == s) ≡ true = grind (arith, nat_tests) in rw e refl
 pub at_other : {A : Type 0} (f : ℕ → A) (s i : ℕ) (x : A) → (i == s) ≡ false → with f s x i ≡ f i
 at_other f s i x e = rw e refl
 
+-- an event without a commit leaves the clock
+ticks_none : (clock : ℕ) → Ticks clock [] clock
+ticks_none clock = record { least = omega arith; most = omega arith; committed = λ e. absurd (cc e) }
+
 -- ---- a session's transaction
 
 acts_same : (m : State) (s : ℕ) → Acts m s m
 acts_same m s = record {
   half = refl;
-  statistics = refl;
+  statistics = λ i e. refl;
   txns = λ i e. refl;
   txn = 0;
   own = [];
   changes = sym (append-nil m.changes);
-  clock = refl;
+  clock = ticks_none m.clock;
   next = omega arith;
   later = omega arith;
   snap = λ p. p;
@@ -45,12 +50,12 @@ acts_txn : (m : State) (s : ℕ) (o : Option Txn) (next : ℕ) → next ≤ m.ne
     → (IsDrawn (m.txns s) m.next → IsDrawn o next) → Acts m s (record m { txns = with m.txns s o; next = next })
 acts_txn m s o next le later snap drawn = record {
   half = refl;
-  statistics = refl;
+  statistics = λ i e. refl;
   txns = λ i e. at_other m.txns s i o e;
   txn = 0;
   own = [];
   changes = sym (append-nil m.changes);
-  clock = refl;
+  clock = ticks_none m.clock;
   next = le;
   later = later;
   snap = λ p. subst (λ x. SnapIn x m.clock) (sym (at_own m.txns s o)) (snap p);
@@ -68,12 +73,12 @@ acts_committed : (m : State) (s : ℕ) (txn : Txn) → (IsDrawn (m.txns s) m.nex
     → Acts m s (record (gone m s) { changes = m.changes ++ committed (m.clock + 1) txn; clock = m.clock + 1 })
 acts_committed m s txn writer some = record {
   half = refl;
-  statistics = refl;
+  statistics = λ i e. refl;
   txns = λ i e. at_other m.txns s i None e;
   txn = txn.number;
   own = txn.own;
   changes = refl;
-  clock = sym (ap (λ b. cond b m.clock (m.clock + 1)) some);
+  clock = record { least = omega arith; most = omega arith; committed = λ e. refl };
   next = omega arith;
   later = omega arith;
   snap = λ p. subst (λ x. SnapIn x m.clock) (sym (at_own m.txns s None)) tt;
@@ -218,21 +223,31 @@ finish_framed : (schema : Schema) (m : State) (s : ℕ) (h : Option Half) (r : R
 finish_framed schema m s None r after x = absurd x
 finish_framed schema m s (Some half) r after x = subst (λ z. Frames m (Finish s r) z) (sym x.1) (frames_finish m _ s r (acts_replied schema (rested m s) s half.bound r))
 
-pub framed : (schema : Schema) (m : State) (e : Entry) (after : State) → IsStep schema m e after → Frames m e after
-framed schema m (Start s b short) after x = subst (λ z. Frames m (Start s b short) z) (sym x.2) (frames_start m _ s b short (acts_if m s _ _ (is_of_table b.value) (acts_pinned m s short) (acts_same m s)))
-framed schema m (Finish s r) after x = finish_framed schema m s (m.half s) r after x
-framed schema m (End s) after x = subst (λ z. Frames m (End s) z) (sym x.1) (frames_end m s x.0)
+frames_mover : (m : State) (e : Entry) → begun_by (is_some (m.half (actor_of e))) e ≡ is_some (m.half (actor_of e)) → Frames m e m
+frames_mover m e same = record {
+  half = sym same;
+  halves = λ i e. refl;
+  statistics = λ i e. refl;
+  txns = λ i e. refl;
+  txn = 0;
+  own = [];
+  changes = sym (append-nil m.changes);
+  clock = ticks_none m.clock;
+  next = omega arith;
+  later = omega arith;
+  snap = λ p. p;
+  drawn = λ p. p;
+  writer = λ p e. absurd (cc e);
+}
+
+pub framed : (begin : Begin) (m : State) (e : Entry) (after : State) → IsStep begin m e after → Frames m e after
+framed begin m (Start s b short) after x = subst (λ z. Frames m (Start s b short) z) (sym x.2) (frames_start m _ s b short (acts_if m s _ _ (is_of_table b.value) (acts_pinned m s short) (acts_same m s)))
+framed begin m (Finish s r) after x = finish_framed (schema_now begin m) m s (m.half s) r after x
+framed begin m (End s) after x = subst (λ z. Frames m (End s) z) (sym x.1) (frames_end m s x.0)
+framed begin m (Mover actor work) after x = subst (λ z. Frames m (Mover actor work) z) (sym x) (frames_mover m (Mover actor work) refl)
 
 -- ---- the clock
 
-ticked_le : (clock : ℕ) (own : List Edit) → ticked clock own ≤ clock + 1
-ticked_le clock [] = omega arith
-ticked_le clock (x ∷ own) = omega arith
-
-ticked_ge : (clock : ℕ) (own : List Edit) → clock ≤ ticked clock own
-ticked_ge clock [] = omega arith
-ticked_ge clock (x ∷ own) = omega arith
-
 -- the clock stays, or is one more
 pub clock_step : (m : State) (e : Entry) (after : State) → Frames m e after → (after.clock ≤ m.clock + 1) × (m.clock ≤ after.clock)
-clock_step m e after f = let le = ticked_le m.clock f.own in let ge = ticked_ge m.clock f.own in let c = f.clock in (omega (arith, le, c), omega (arith, ge, c))
+clock_step m e after f = (f.clock.most, f.clock.least)

@@ -1,7 +1,11 @@
 pub mod Framed
 pub mod Logs
+pub mod Beginnings
 pub mod Entries
 pub mod Room
 pub mod Numbers
 pub mod StartedOn
 pub mod Owners
+pub mod Written
+pub mod Sound
+pub mod Floors

@@ -5,36 +5,43 @@ use Rattle.std.specs.List.Sorted.{IsNonDecreasingBy}
 use Rattle.std.proofs.lemmas.List.{get_or_append_left, get_or-append-add, length-append}
 use Rattle.std.proofs.lemmas.List.Elements.{All-nil, All-append, All-map, All-weaker}
 use Rattle.std.proofs.lemmas.Bool.Decides.{nat_tests}
-use Rattle.cs_types.specs.declared.Schema.{Schema}
 use Rattle.cs_model.specs.declared.entry.Entry.{Entry}
 use Rattle.cs_model.specs.Actors.{actor_of}
 use Rattle.cs_model.specs.Changes.{Edit, Change}
-use Rattle.cs_model.specs.State.{Txn, State, start}
+use Rattle.cs_model.specs.State.{Txn, State, Begin}
 use Rattle.cs_model.specs.Steps.{Leads, Legal, numbered, is_empty}
-use Rattle.log_laws.specs.Frames.{Frames, SnapIn, SnapAtMost, IsDrawn, ticked}
-use Rattle.log_laws.specs.Laws.{NumberedBelow, DrawnBelow, CommitsAscend}
+use Rattle.log_laws.specs.Frames.{Frames, SnapIn, SnapAtMost, IsDrawn, Ticks}
+use Rattle.log_laws.specs.Laws.{NumberedBelow, DrawnBelow, CommitsAscend, IsSound}
 use Rattle.log_laws.proofs.Framed.{framed, clock_step}
 
 -- ---- how far the numbers go
 
-pub small_from : (schema : Schema) (m after : State) (es : List Entry) → Leads schema m es after → (after.next ≤ m.next + length es) × (after.clock ≤ m.clock + length es)
-small_from schema m after [] l = subst (λ (x : State). (x.next ≤ m.next + 0) × (x.clock ≤ m.clock + 0)) (sym l) (omega arith, omega arith)
-small_from schema m after (e ∷ es) l =
-    let f = framed schema m e l.0 l.1 in
+pub small_from : (begin : Begin) (m after : State) (es : List Entry) → Leads begin m es after → (after.next ≤ m.next + length es) × (after.clock ≤ m.clock + length es)
+small_from begin m after [] l = subst (λ (x : State). (x.next ≤ m.next + 0) × (x.clock ≤ m.clock + 0)) (sym l) (omega arith, omega arith)
+small_from begin m after (e ∷ es) l =
+    let f = framed begin m e l.0 l.1 in
     let c = clock_step m e l.0 f in
-    let rest = small_from schema l.0 after es l.2 in
+    let rest = small_from begin l.0 after es l.2 in
     (omega (arith, rest.0, f.next), omega (arith, rest.1, c.0))
 
-pub small : (schema : Schema) (log : List Entry) (m : State) → Legal schema log m → (m.next ≤ 1 + length log) × (m.clock ≤ length log)
-small schema log m l = let n = small_from schema start m log l in (omega (arith, n.0), omega (arith, n.1))
+pub small : (begin : Begin) (log : List Entry) (m : State) → Legal begin log m → (m.next ≤ begin.state.next + length log) × (m.clock ≤ begin.state.clock + length log)
+small begin log m l = small_from begin begin.state m log l
+
+-- the clock never falls
+pub clock_later : (begin : Begin) (m after : State) (es : List Entry) → Leads begin m es after → m.clock ≤ after.clock
+clock_later begin m after [] l = subst (λ (x : State). m.clock ≤ x.clock) (sym l) (omega arith)
+clock_later begin m after (e ∷ es) l =
+    let c = clock_step m e l.0 (framed begin m e l.0 l.1) in
+    let rest = clock_later begin l.0 after es l.2 in
+    omega (arith, rest, c.1)
 
 -- ---- what holds of every state that is led to
 
 -- a law of states holds after the entries where each entry keeps it
-kept_from : (P : State → Type 0) (schema : Schema) → ((m : State) (e : Entry) (after : State) → Frames m e after → P m → P after)
-    → (m after : State) (es : List Entry) → Leads schema m es after → P m → P after
-kept_from P schema step m after [] l p = subst P (sym l) p
-kept_from P schema step m after (e ∷ es) l p = kept_from P schema step l.0 after es l.2 (step m e l.0 (framed schema m e l.0 l.1) p)
+kept_from : (P : State → Type 0) (begin : Begin) → ((m : State) (e : Entry) (after : State) → Frames m e after → P m → P after)
+    → (m after : State) (es : List Entry) → Leads begin m es after → P m → P after
+kept_from P begin step m after [] l p = subst P (sym l) p
+kept_from P begin step m after (e ∷ es) l p = kept_from P begin step l.0 after es l.2 (step m e l.0 (framed begin m e l.0 l.1) p)
 
 -- ---- snapshots are at most the clock
 
@@ -46,7 +53,7 @@ snap_on : (o : Option Txn) (a b : ℕ) → a ≤ b → SnapIn o a → SnapIn o b
 snap_on None a b le p = tt
 snap_on (Some txn) a b le p = snap_at_on txn.snapshot a b le p
 
-snap_step : (s : ℕ) (m : State) (e : Entry) (after : State) → Frames m e after → SnapIn (m.txns s) m.clock → SnapIn (after.txns s) after.clock
+pub snap_step : (s : ℕ) (m : State) (e : Entry) (after : State) → Frames m e after → SnapIn (m.txns s) m.clock → SnapIn (after.txns s) after.clock
 snap_step s m e after f p = snap_on (after.txns s) m.clock after.clock ((clock_step m e after f).1) (at (s == actor_of e) refl)
   where
     at : (b : Bool) → (s == actor_of e) ≡ b → SnapIn (after.txns s) m.clock
@@ -55,8 +62,8 @@ snap_step s m e after f p = snap_on (after.txns s) m.clock after.clock ((clock_s
         subst (λ n. SnapIn (after.txns n) m.clock) (sym is) (f.snap (subst (λ n. SnapIn (m.txns n) m.clock) is p))
     at false t = subst (λ o. SnapIn o m.clock) (sym (f.txns s t)) p
 
-pub snaps : (schema : Schema) (log : List Entry) (m : State) (s : ℕ) → Legal schema log m → SnapIn (m.txns s) m.clock
-snaps schema log m s l = kept_from (λ x. SnapIn (x.txns s) x.clock) schema (snap_step s) start m log l tt
+pub snaps : (begin : Begin) (log : List Entry) (m : State) (s : ℕ) → IsSound begin.state → Legal begin log m → SnapIn (m.txns s) m.clock
+snaps begin log m s sound l = kept_from (λ x. SnapIn (x.txns s) x.clock) begin (snap_step s) begin.state m log l (sound.snapshots s)
 
 -- ---- open transactions have drawn their numbers
 
@@ -73,14 +80,6 @@ drawn_step s m e after f p = at (s == actor_of e) refl
         subst (λ n. IsDrawn (after.txns n) after.next) (sym is) (f.drawn (subst (λ n. IsDrawn (m.txns n) m.next) is p))
     at false t = drawn_on (after.txns s) m.next after.next f.later (subst (λ o. IsDrawn o m.next) (sym (f.txns s t)) p)
 
-pub drawn : (schema : Schema) (log : List Entry) (m : State) (s : ℕ) → Legal schema log m → IsDrawn (m.txns s) m.next
-drawn schema log m s l = kept_from (λ x. IsDrawn (x.txns s) x.next) schema (drawn_step s) start m log l tt
-
--- ---- the setting of STATISTICS IO
-
-pub unset : (schema : Schema) (log : List Entry) (m : State) (s : ℕ) → Legal schema log m → m.statistics s ≡ false
-unset schema log m s l = kept_from (λ x. x.statistics s ≡ false) schema (λ m e after f p. ap (λ g. g s) f.statistics ∙ p) start m log l refl
-
 -- ---- the changes
 
 -- each change of a commit of these writes
@@ -90,9 +89,9 @@ all_numbered P k t own p = All-map P (λ edit. record { commit = k; txn = t; edi
 pub commits_of : (k t : ℕ) (own : List Edit) → All (λ (change : Change). change.commit ≡ k) (numbered k t own)
 commits_of k t own = all_numbered (λ (change : Change). change.commit ≡ k) k t own (λ edit. refl)
 
-late : (clock t : ℕ) (own : List Edit) → All (λ (change : Change). change.commit ≤ ticked clock own) (numbered (clock + 1) t own)
-late clock t [] = All-nil (λ (change : Change). change.commit ≤ ticked clock [])
-late clock t (x ∷ own) = all_numbered (λ (change : Change). change.commit ≤ clock + 1) (clock + 1) t (x ∷ own) (λ edit. omega arith)
+late : (clock t : ℕ) (own : List Edit) (after : ℕ) → Ticks clock own after → All (λ (change : Change). change.commit ≤ after) (numbered (clock + 1) t own)
+late clock t [] after k = All-nil (λ (change : Change). change.commit ≤ after)
+late clock t (x ∷ own) after k = let is = k.committed refl in all_numbered (λ (change : Change). change.commit ≤ after) (clock + 1) t (x ∷ own) (λ edit. omega (arith, is))
 
 numbered_step : (m : State) (e : Entry) (after : State) → Frames m e after → NumberedBelow m → NumberedBelow after
 numbered_step m e after f p =
@@ -100,26 +99,20 @@ numbered_step m e after f p =
     let old : All (λ (change : Change). change.commit ≤ after.clock) m.changes =
     All-weaker (λ (change : Change). change.commit ≤ m.clock) (λ (change : Change). change.commit ≤ after.clock) (λ change le. omega (arith, ge, le)) m.changes p in
     let new : All (λ (change : Change). change.commit ≤ after.clock) (numbered (m.clock + 1) f.txn f.own) =
-    subst (λ c. All (λ (change : Change). change.commit ≤ c) (numbered (m.clock + 1) f.txn f.own)) (sym f.clock) (late m.clock f.txn f.own) in
+    late m.clock f.txn f.own after.clock f.clock in
     subst (All (λ (change : Change). change.commit ≤ after.clock)) (sym f.changes) (All-append (λ (change : Change). change.commit ≤ after.clock) m.changes (numbered (m.clock + 1) f.txn f.own) old new)
-
-no_change : (P : Change → Type 0) → All P []
-no_change P = All-nil P
-
-pub numbered_below : (schema : Schema) (log : List Entry) (m : State) → Legal schema log m → NumberedBelow m
-numbered_below schema log m l = kept_from NumberedBelow schema numbered_step start m log l (no_change (λ (change : Change). change.commit ≤ 0))
 
 -- ---- the changes' transactions
 
-record Drawn (m : State) : Type 0 where
-  open_txns : (s : ℕ) → IsDrawn (m.txns s) m.next
-  changes : DrawnBelow m
+pub record Drawn (m : State) : Type 0 where
+  pub open_txns : (s : ℕ) → IsDrawn (m.txns s) m.next
+  pub changes : DrawnBelow m
 
 writers : (n k t : ℕ) (own : List Edit) → (is_empty own ≡ false → t < n) → All (λ (change : Change). change.txn < n) (numbered k t own)
 writers n k t [] lt = All-nil (λ (change : Change). change.txn < n)
 writers n k t (x ∷ own) lt = all_numbered (λ (change : Change). change.txn < n) k t (x ∷ own) (λ edit. lt refl)
 
-all_drawn : (m : State) (e : Entry) (after : State) → Frames m e after → Drawn m → Drawn after
+pub all_drawn : (m : State) (e : Entry) (after : State) → Frames m e after → Drawn m → Drawn after
 all_drawn m e after f p =
     let ge = f.later in
     let mine = p.open_txns (actor_of e) in
@@ -131,9 +124,6 @@ all_drawn m e after f p =
       open_txns = λ s. drawn_step s m e after f (p.open_txns s);
       changes = subst (All (λ (change : Change). change.txn < after.next)) (sym f.changes) (All-append (λ (change : Change). change.txn < after.next) m.changes (numbered (m.clock + 1) f.txn f.own) old new);
     }
-
-pub drawn_below : (schema : Schema) (log : List Entry) (m : State) → Legal schema log m → DrawnBelow m
-drawn_below schema log m l = (kept_from Drawn schema all_drawn start m log l (record { open_txns = λ s. tt; changes = no_change (λ (change : Change). change.txn < 1) })).changes
 
 -- ---- commit numbers ascend
 
@@ -168,16 +158,13 @@ module _ {X : Type 0} (n : X → ℕ) where
           let b = right j lj lt in
           omega (arith, a, b)
 
-record Ascends (m : State) : Type 0 where
-  below : NumberedBelow m
-  up : CommitsAscend m
+pub record Ascends (m : State) : Type 0 where
+  pub below : NumberedBelow m
+  pub up : CommitsAscend m
 
-ascends_step : (m : State) (e : Entry) (after : State) → Frames m e after → Ascends m → Ascends after
+pub ascends_step : (m : State) (e : Entry) (after : State) → Frames m e after → Ascends m → Ascends after
 ascends_step m e after f p = record {
   below = numbered_step m e after f p.below;
   up = subst (IsNonDecreasingBy (λ (change : Change). change.commit)) (sym f.changes)
       (ascend_append (λ (change : Change). change.commit) m.changes (numbered (m.clock + 1) f.txn f.own) m.clock p.up p.below (commits_of (m.clock + 1) f.txn f.own));
 }
-
-pub commits_ascend : (schema : Schema) (log : List Entry) (m : State) → Legal schema log m → CommitsAscend m
-commits_ascend schema log m l = (kept_from Ascends schema ascends_step start m log l (record { below = no_change (λ (change : Change). change.commit ≤ 0); up = λ i j d le lt. absurd (omega (arith, lt)) })).up

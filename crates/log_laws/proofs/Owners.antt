@@ -6,13 +6,13 @@ use Rattle.std.specs.Ordering.{match_ordering}
 use Rattle.std.specs.Cmp.{Equal-is}
 use Rattle.std.specs.BTreeMap.{insert_entry}
 use Rattle.std.proofs.lemmas.Cmp.{int_cmp_total}
-use Rattle.std.proofs.lemmas.List.Elements.{All-contains}
+use Rattle.std.proofs.lemmas.List.Elements.{All-nil, All-contains}
 use Rattle.std.proofs.lemmas.Bool.Decides.{nat_tests}
 use Rattle.cs_types.specs.declared.Key.{Key}
 use Rattle.cs_types.specs.declared.Schema.{Schema}
 use Rattle.cs_types.specs.declared.Value.{Value}
 use Rattle.cs_model.specs.declared.entry.Entry.{Entry}
-use Rattle.cs_model.specs.declared.entry.Entry.TheVariants.{Start, Finish, End}
+use Rattle.cs_model.specs.declared.entry.Entry.TheVariants.{Start, Finish, End, Mover}
 use Rattle.cs_model.specs.declared.entry.Bound.{Bound}
 use Rattle.cs_model.specs.declared.entry.Bound.TheVariants as bound
 use Rattle.cs_model.specs.declared.entry.Refusal.{Refusal}
@@ -20,12 +20,14 @@ use Rattle.cs_model.specs.declared.entry.Refusal.TheVariants.{Memory}
 use Rattle.cs_model.specs.declared.entry.Reply.{Reply}
 use Rattle.cs_model.specs.declared.entry.Reply.TheVariants as reply
 use Rattle.cs_types.specs.Keys.{key_cmp, same_key}
-use Rattle.cs_model.specs.Changes.{Edit, Table}
-use Rattle.cs_model.specs.State.{Txn, Half, State, start, with, txn_set, seen}
+use Rattle.cs_model.specs.Changes.{Edit, Table, newest}
+use Rattle.cs_model.specs.Floors.{snapshot_of}
+use Rattle.cs_model.specs.State.{Txn, Half, State, Begin, schema_now, with, txn_set, seen}
 use Rattle.cs_model.specs.Actors.{actor_of}
-use Rattle.cs_model.specs.Answers.{is_of_table, writes}
-use Rattle.cs_model.specs.Obstacles.{owns, IsFree, keys_of}
-use Rattle.cs_model.specs.Steps.{IsStep, IsFinish, Leads, Legal, IsReply, IsWriteReply, IsWriteReplyOf, staged, writes_in, edits_in, wrote, began, unwound, accepted, refused, replied, rested, pinned, next_opened, fixed, txn_opened, commits, committed, is_empty, gone, ends_txn}
+use Rattle.cs_model.specs.Kinds.{is_of_table}
+use Rattle.cs_model.specs.Answers.{writes}
+use Rattle.cs_model.specs.Obstacles.{owns, is_above, IsFree, keys_of}
+use Rattle.cs_model.specs.Steps.{IsStep, IsFinish, IsReply, IsWriteReply, IsWriteReplyOf, staged, writes_in, edits_in, wrote, began, unwound, accepted, refused, replied, rested, pinned, next_opened, fixed, txn_opened, commits, committed, is_empty, gone, ends_txn}
 use Rattle.log_laws.specs.Laws.{AreOwners}
 use Rattle.log_laws.proofs.Framed.{framed, at_own}
 
@@ -43,7 +45,7 @@ either false b e = inr e
 
 -- ---- keys of own writes
 
-abbrev has : List Edit → Key → Bool
+abbrev pub has : List Edit → Key → Bool
 has own key = list_any (λ (edit : Edit). same_key key edit.0) own
 
 has_same : (own : List Edit) (a b : Key) → same_key a b ≡ true → has own a ≡ has own b
@@ -85,10 +87,10 @@ module _ (key k : Key) (v : Option (List Value)) where
   has_put (x ∷ own) h = has_put_at x own (key_cmp k x.0) (has_put own) h
 
 -- the key is one of these
-abbrev IsListed : List Key → Key → Type 0
+abbrev pub IsListed : List Key → Key → Type 0
 IsListed keys key = (k : Key) × Contains keys k × (same_key key k ≡ true)
 
-has_staged : (own edits : List Edit) (key : Key) → has (staged own edits) key ≡ true → (has own key ≡ true) ⊎ IsListed (keys_of edits) key
+pub has_staged : (own edits : List Edit) (key : Key) → has (staged own edits) key ≡ true → (has own key ≡ true) ⊎ IsListed (keys_of edits) key
 has_staged own [] key h = inl h
 has_staged own (e ∷ edits) key h = at (has_staged (insert_entry key_cmp own e.0 e.1) edits key h)
   where
@@ -154,27 +156,35 @@ owned_refused m s refusal = owned_if m s _ _ (ends_txn (m.txns s) refusal) (owne
 
 -- ---- a write that is accepted had no obstacle
 
-abbrev IsAccepted : Reply → Type 0
+abbrev pub IsAccepted : Reply → Type 0
 IsAccepted r = (refusal : Refusal) → r ≡ reply.Refused refusal → ⊥
 
-no_keys : (m : State) (s : ℕ) → All (λ key. IsFree m.txns s key) (keys_of [])
-no_keys m s k d lt = absurd (omega (arith, lt))
+-- no other transaction has the key, and no change of it is above the snapshot
+abbrev pub IsClear : State → ℕ → Option ℕ → Key → Type 0
+IsClear m s snapshot key = IsFree m.txns s key × (is_above (newest key m.changes) snapshot ≡ false)
 
-freed_of : (m : State) (s : ℕ) (snapshot : Option ℕ) (table : Table) (b : Bound) (w : Result (List Edit) Refusal) (r : Reply) → IsAccepted r
-    → (r ≡ reply.Refused Memory) ⊎ IsWriteReplyOf m s snapshot table b w r → All (λ key. IsFree m.txns s key) (keys_of (edits_in w))
-freed_of m s snapshot table b w r not (inl e) = absurd (not Memory e)
-freed_of m s snapshot table b (Err refusal) r not (inr h) = absurd (not refusal h)
-freed_of m s snapshot table b (Ok edits) reply.Done not (inr h) = absurd h
-freed_of m s snapshot table b (Ok edits) (reply.Affected count) not (inr h) = λ k d lt. (h.0 k d lt).0
-freed_of m s snapshot table b (Ok edits) (reply.Rows list segments) not (inr h) = absurd h
-freed_of m s snapshot table b (Ok edits) (reply.Refused refusal) not (inr h) = absurd (not refusal refl)
+pub no_keys : (P : Key → Type 0) → All P (keys_of [])
+no_keys P = All-nil P
+
+cleared_of : (m : State) (s : ℕ) (snapshot : Option ℕ) (table : Table) (b : Bound) (w : Result (List Edit) Refusal) (r : Reply) → IsAccepted r
+    → (r ≡ reply.Refused Memory) ⊎ IsWriteReplyOf m s snapshot table b w r → All (IsClear m s snapshot) (keys_of (edits_in w))
+cleared_of m s snapshot table b w r not (inl e) = absurd (not Memory e)
+cleared_of m s snapshot table b (Err refusal) r not (inr h) = absurd (not refusal h)
+cleared_of m s snapshot table b (Ok edits) reply.Done not (inr h) = absurd h
+cleared_of m s snapshot table b (Ok edits) (reply.Affected count) not (inr h) = λ k d lt. ((h.0 k d lt).0, (h.0 k d lt).1)
+cleared_of m s snapshot table b (Ok edits) (reply.Rows list segments) not (inr h) = absurd h
+cleared_of m s snapshot table b (Ok edits) (reply.Refused refusal) not (inr h) = absurd (not refusal refl)
+
+pub cleared : (schema : Schema) (m : State) (s : ℕ) (o : Option Txn) (b : Bound) (r : Reply) → IsAccepted r
+    → (r ≡ reply.Refused Memory) ⊎ IsWriteReply schema m s o b r → All (IsClear m s (snapshot_of o)) (keys_of (writes_in schema m.changes o b))
+cleared schema m s None b r not h = no_keys (IsClear m s None)
+cleared schema m s (Some txn) b r not h = cleared_of m s txn.snapshot (seen m.changes txn) b (writes schema (seen m.changes txn) b) r not h
 
 freed : (schema : Schema) (m : State) (s : ℕ) (o : Option Txn) (b : Bound) (r : Reply) → IsAccepted r
     → (r ≡ reply.Refused Memory) ⊎ IsWriteReply schema m s o b r → All (λ key. IsFree m.txns s key) (keys_of (writes_in schema m.changes o b))
-freed schema m s None b r not h = no_keys m s
-freed schema m s (Some txn) b r not h = freed_of m s txn.snapshot (seen m.changes txn) b (writes schema (seen m.changes txn) b) r not h
+freed schema m s o b r not h = λ k d lt. (cleared schema m s o b r not h k d lt).0
 
-abbrev IsDefined : Schema → State → ℕ → Bound → Reply → Type 0
+abbrev pub IsDefined : Schema → State → ℕ → Bound → Reply → Type 0
 IsDefined schema m s b r = (r ≡ reply.Refused Memory) ⊎ IsReply schema m s b r
 
 owned_accepted : (schema : Schema) (m : State) (s : ℕ) (b : Bound) (r : Reply) → IsAccepted r → IsDefined schema m s b r → Owned m s (accepted schema (rested m s) s b)
@@ -186,7 +196,7 @@ owned_accepted schema m s (bound.Insert plan) r not h = owned_wrote (rested m s)
 owned_accepted schema m s (bound.Update plan) r not h = owned_wrote (rested m s) s (m.txns s) (writes_in schema m.changes (m.txns s) (bound.Update plan)) refl (freed schema m s (m.txns s) (bound.Update plan) r not h)
 owned_accepted schema m s (bound.Delete condition) r not h =
     owned_wrote (rested m s) s (m.txns s) (writes_in schema m.changes (m.txns s) (bound.Delete condition)) refl (freed schema m s (m.txns s) (bound.Delete condition) r not h)
-owned_accepted schema m s (bound.Select query) r not h = owned_wrote (rested m s) s (m.txns s) [] refl (no_keys m s)
+owned_accepted schema m s (bound.Select query) r not h = owned_wrote (rested m s) s (m.txns s) [] refl (no_keys (λ key. IsFree m.txns s key))
 owned_accepted schema m s (bound.Refused refusal) r not h = owned_same m s
 
 owned_replied : (schema : Schema) (m : State) (s : ℕ) (b : Bound) (r : Reply) → IsDefined schema m s b r → Owned m s (replied schema (rested m s) s b r)
@@ -195,7 +205,7 @@ owned_replied schema m s b (reply.Affected count) h = owned_accepted schema m s 
 owned_replied schema m s b (reply.Rows list segments) h = owned_accepted schema m s b (reply.Rows list segments) (λ refusal e. cc e) h
 owned_replied schema m s b (reply.Refused refusal) h = owned_refused (rested m s) s refusal
 
-defined_of : (schema : Schema) (m : State) (s : ℕ) (b : Bound) (r : Reply) (short : Bool) → (r ≡ reply.Refused Memory) ⊎ ((short ≡ false) × IsReply schema m s b r) → IsDefined schema m s b r
+pub defined_of : (schema : Schema) (m : State) (s : ℕ) (b : Bound) (r : Reply) (short : Bool) → (r ≡ reply.Refused Memory) ⊎ ((short ≡ false) × IsReply schema m s b r) → IsDefined schema m s b r
 defined_of schema m s b r short (inl e) = inl e
 defined_of schema m s b r short (inr h) = inr h.1
 
@@ -212,51 +222,45 @@ owned_start m s b short = owned_if m s _ _ (is_of_table b)
     (owned_set m s (Some (fixed (txn_opened (m.txns s) m.next) short m.clock)) (next_opened (m.txns s) m.next) (λ key h. inl (owned_opened (m.txns s) m.next m.clock short key h)))
     (owned_same m s)
 
-pub owned_step : (schema : Schema) (m : State) (e : Entry) (after : State) → IsStep schema m e after → Owned m (actor_of e) after
-owned_step schema m (Start s b short) after x = subst (λ z. Owned m s z) (sym x.2) (owned_start m s b.value short)
-owned_step schema m (Finish s r) after x = owned_finish schema m s (m.half s) r after x
-owned_step schema m (End s) after x = subst (λ z. Owned m s z) (sym x.1) (owned_rolled m s)
+pub owned_step : (begin : Begin) (m : State) (e : Entry) (after : State) → IsStep begin m e after → Owned m (actor_of e) after
+owned_step begin m (Start s b short) after x = subst (λ z. Owned m s z) (sym x.2) (owned_start m s b.value short)
+owned_step begin m (Finish s r) after x = owned_finish (schema_now begin m) m s (m.half s) r after x
+owned_step begin m (End s) after x = subst (λ z. Owned m s z) (sym x.1) (owned_rolled m s)
+owned_step begin m (Mover actor work) after x = subst (λ z. Owned m (actor_of (Mover actor work)) z) (sym x) (owned_same m (actor_of (Mover actor work)))
 
 -- ---- the law
 
-equal : (a b : ℕ) → (a == b) ≡ true → a ≡ b
+pub equal : (a b : ℕ) → (a == b) ≡ true → a ≡ b
 equal a b e = grind (arith, nat_tests)
 
-apart_is : (a b : ℕ) → (a == b) ≡ false → a ≢ b
+pub apart_is : (a b : ℕ) → (a == b) ≡ false → a ≢ b
 apart_is a b e = λ is. absurd (grind (arith, nat_tests, is, e))
 
-not_true : (b : Bool) → (b ≡ true → ⊥) → b ≡ false
+pub not_true : (b : Bool) → (b ≡ true → ⊥) → b ≡ false
 not_true true h = absurd (h refl)
 not_true false h = refl
 
-own_gains : (m : State) (n b : ℕ) (key : Key) → AreOwners m → (n == b) ≡ false → (owns (m.txns n) key ≡ true) ⊎ IsFree m.txns n key → owns (m.txns b) key ≡ false
+pub own_gains : (m : State) (n b : ℕ) (key : Key) → AreOwners m → (n == b) ≡ false → (owns (m.txns n) key ≡ true) ⊎ IsFree m.txns n key → owns (m.txns b) key ≡ false
 own_gains m n b key all ne (inl t) = all n b key ne t
 own_gains m n b key all ne (inr free) = free b (λ is. apart_is n b ne (sym is))
 
-owners_at : (schema : Schema) (m : State) (e : Entry) (after : State) → IsStep schema m e after → AreOwners m → (a b : ℕ) (key : Key) (t u : Bool) → (a == actor_of e) ≡ t → (b == actor_of e) ≡ u → (a == b) ≡ false
+pub owners_at : (begin : Begin) (m : State) (e : Entry) (after : State) → IsStep begin m e after → AreOwners m → (a b : ℕ) (key : Key) (t u : Bool) → (a == actor_of e) ≡ t → (b == actor_of e) ≡ u → (a == b) ≡ false
     → owns (after.txns a) key ≡ true → owns (after.txns b) key ≡ false
-owners_at schema m e after x all a b key true true t u ne h = absurd (apart_is a b ne (equal a (actor_of e) t ∙ sym (equal b (actor_of e) u)))
-owners_at schema m e after x all a b key true false t u ne h =
-    let f = framed schema m e after x in
+owners_at begin m e after x all a b key true true t u ne h = absurd (apart_is a b ne (equal a (actor_of e) t ∙ sym (equal b (actor_of e) u)))
+owners_at begin m e after x all a b key true false t u ne h =
+    let f = framed begin m e after x in
     let is : a ≡ actor_of e = equal a (actor_of e) t in
     let ne' : (actor_of e == b) ≡ false = subst (λ n. (n == b) ≡ false) is ne in
     let own : owns (after.txns (actor_of e)) key ≡ true = subst (λ n. owns (after.txns n) key ≡ true) is h in
-    ap (λ o. owns o key) (f.txns b u) ∙ own_gains m (actor_of e) b key all ne' (owned_step schema m e after x key own)
-owners_at schema m e after x all a b key false true t u ne h =
-    let f = framed schema m e after x in
+    ap (λ o. owns o key) (f.txns b u) ∙ own_gains m (actor_of e) b key all ne' (owned_step begin m e after x key own)
+owners_at begin m e after x all a b key false true t u ne h =
+    let f = framed begin m e after x in
     let is : b ≡ actor_of e = equal b (actor_of e) u in
     let was : owns (m.txns a) key ≡ true = sym (ap (λ o. owns o key) (f.txns a t)) ∙ h in
     let ne' : (actor_of e == a) ≡ false = grind (arith, nat_tests, t) in
     not_true (owns (after.txns b) key) (λ has.
     let own : owns (after.txns (actor_of e)) key ≡ true = subst (λ n. owns (after.txns n) key ≡ true) is has in
-    cc (sym was, own_gains m (actor_of e) a key all ne' (owned_step schema m e after x key own)))
-owners_at schema m e after x all a b key false false t u ne h =
-    let f = framed schema m e after x in
+    cc (sym was, own_gains m (actor_of e) a key all ne' (owned_step begin m e after x key own)))
+owners_at begin m e after x all a b key false false t u ne h =
+    let f = framed begin m e after x in
     ap (λ o. owns o key) (f.txns b u) ∙ all a b key ne (sym (ap (λ o. owns o key) (f.txns a t)) ∙ h)
-
-owners_from : (schema : Schema) (m after : State) (es : List Entry) → Leads schema m es after → AreOwners m → AreOwners after
-owners_from schema m after [] l all = subst AreOwners (sym l) all
-owners_from schema m after (e ∷ es) l all = owners_from schema l.0 after es l.2 (λ a b key ne h. owners_at schema m e l.0 l.1 all a b key (a == actor_of e) (b == actor_of e) refl refl ne h)
-
-pub owners : (schema : Schema) (log : List Entry) (m : State) → Legal schema log m → AreOwners m
-owners schema log m l = owners_from schema start m log l (λ a b key ne h. absurd (cc h))

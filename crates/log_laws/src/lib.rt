@@ -1,8 +1,9 @@
 //! Laws of legal logs, over the row model of `cs_model`: what holds of the state that a legal log leads to, and what a
-//! session that has begun a statement knows of it, whatever the other sessions do meanwhile.
+//! session that has begun a statement knows of it, whatever the others do meanwhile.
 //!
-//! Each function here does nothing: its contract is a law that is proved. The lemmas below them, by which the core that
-//! runs transactions keeps its own promises, stand in proofs/. It stands on `cs_model`.
+//! Each function here does nothing: its contract is a law that is proved, for a log that begins with any state that meets
+//! it. The lemmas below them, by which the core that runs transactions keeps its own promises, stand in proofs/. It stands on
+//! `cs_model`.
 #![tactic(auto)]
 
 ghost use Rattle.std.specs.Prelude.{◌≡◌, ◌+◌, ◌*◌, ◌≤◌, ℕ, List, [], ◌∷◌, ◌++◌, length, Contains, Option, None, Bool, true, false};
@@ -13,48 +14,64 @@ ghost use Rattle.cs_model.specs.declared.entry.Bound.{Bound};
 ghost use Rattle.cs_model.specs.declared.entry.Entry.{Entry};
 ghost use Rattle.cs_model.specs.declared.entry.Entry.TheVariants.{Start, Finish, End};
 ghost use Rattle.cs_model.specs.declared.entry.Reply.{Reply};
-ghost use Rattle.cs_model.specs.Actors.{entries_of, is_begun, has_ended, owed};
-ghost use Rattle.cs_model.specs.Changes.{Table};
-ghost use Rattle.cs_model.specs.State.{State};
-ghost use Rattle.cs_model.specs.Steps.{Legal};
-ghost use Rattle.log_laws.specs.Frames.{SnapIn, IsDrawn};
-ghost use Rattle.log_laws.specs.Laws.{AreDistinct, AreOwners, NumberedBelow, DrawnBelow, CommitsAscend};
+ghost use Rattle.cs_model.specs.Actors.{entries_of, turns_of, is_begun, has_ended, owed};
+ghost use Rattle.cs_model.specs.Changes.{Table, table};
+ghost use Rattle.cs_model.specs.Floors.{IsFloor, snapshots};
+ghost use Rattle.cs_model.specs.State.{State, Begin, begin_of};
+ghost use Rattle.cs_model.specs.Steps.{IsStep, Legal};
+ghost use Rattle.log_laws.specs.Frames.{Frames};
+ghost use Rattle.log_laws.specs.Laws.{AreDistinct, IsSound, MayBegin};
 ghost use Rattle.log_laws.specs.Started.{Starts, IsStarted};
 
-/// A legal log leads to one state: the events alone decide what is committed, open and half done.
+/// A legal log leads to one state from what it begins with: the events alone decide what is committed, open and half done.
 pub fn one_state()
-    ensures { (schema : Schema) (log : List Entry) (a b : State) → Legal schema log a → Legal schema log b → a ≡ b }
+    ensures { (begin : Begin) (log : List Entry) (a b : State) → Legal begin log a → Legal begin log b → a ≡ b }
 {}
 
-/// No two open transactions own one key: what one has among its own writes, no other has while it is open.
-pub fn one_owner()
-    ensures { (schema : Schema) (log : List Entry) (m : State) → Legal schema log m → AreOwners m }
+/// What each event does, whatever its kind: it changes the transaction, the half-done statement and the setting of its own actor
+/// alone, and adds to the changes those of one commit, under the number after the clock, or none; the clock rises by one at
+/// most, and by one where there is a commit.
+pub fn framed_events()
+    ensures { (begin : Begin) (m after : State) (entry : Entry) → IsStep begin m entry after → Frames m entry after }
 {}
 
-/// Numbers of transactions and of commits never pass the length of the log. The numbers of open and of committed
-/// transactions are below the next one to be drawn, and snapshots and the numbers of changes are at most the clock.
+/// What the state of every legal log meets, kept by each event: no two open transactions own one key; own writes are by key,
+/// one for each key, by a transaction with a snapshot, and no key of theirs has a change above it; a commit changes a key
+/// once; commit numbers ascend along the changes, and are at most the clock, as snapshots are; numbers of transactions are
+/// below the next one.
+pub fn sound_states()
+    ensures starts { (schema : Schema) → MayBegin (begin_of schema) }
+    ensures step { (begin : Begin) (m after : State) (entry : Entry) → IsSound m → IsStep begin m entry after → IsSound after }
+    ensures log { (begin : Begin) (log : List Entry) (m : State) → IsSound begin.state → Legal begin log m → IsSound m }
+{}
+
+/// Numbers of transactions and of commits never pass those that a log begins with by more than its length, and never fall.
 pub fn numbers_within_log()
-    ensures next { (schema : Schema) (log : List Entry) (m : State) → Legal schema log m → m.next ≤ 1 + length log }
-    ensures clock { (schema : Schema) (log : List Entry) (m : State) → Legal schema log m → m.clock ≤ length log }
-    ensures open_txns { (schema : Schema) (log : List Entry) (m : State) (session : ℕ) → Legal schema log m → IsDrawn (m.txns session) m.next }
-    ensures txns { (schema : Schema) (log : List Entry) (m : State) → Legal schema log m → DrawnBelow m }
-    ensures snapshots { (schema : Schema) (log : List Entry) (m : State) (session : ℕ) → Legal schema log m → SnapIn (m.txns session) m.clock }
-    ensures commits { (schema : Schema) (log : List Entry) (m : State) → Legal schema log m → NumberedBelow m }
+    ensures next { (begin : Begin) (log : List Entry) (m : State) → Legal begin log m → m.next ≤ begin.state.next + length log }
+    ensures clock { (begin : Begin) (log : List Entry) (m : State) → Legal begin log m → m.clock ≤ begin.state.clock + length log }
+    ensures later { (begin : Begin) (log : List Entry) (m : State) → Legal begin log m → begin.state.clock ≤ m.clock }
 {}
 
-/// Commit numbers ascend along the committed changes; those of one commit have its number.
-pub fn commits_ascend()
-    ensures { (schema : Schema) (log : List Entry) (m : State) → Legal schema log m → CommitsAscend m }
+/// The table of a snapshot stays whatever is committed later.
+pub fn table_stays()
+    ensures { (begin : Begin) (log rest : List Entry) (m after : State) (s : ℕ) → Legal begin log m → Legal begin (log ++ rest) after → s ≤ m.clock → table after.changes s ≡ table m.changes s }
 {}
 
-/// What a session has begun stays through the entries of other sessions: its statement is half done, and reads the same
-/// rows, whatever the others begin, commit or end meanwhile. A Start gives it: the rows of the snapshot that it takes or
-/// has, with the transaction's own writes.
+/// At most one number is the floor of a state, and it never falls along a log.
+pub fn floor_stays()
+    ensures one { (taken : ℕ → Option ℕ) (clock a b : ℕ) → IsFloor taken clock a → IsFloor taken clock b → a ≡ b }
+    ensures rises { (begin : Begin) (log rest : List Entry) (m after : State) (floor later : ℕ) → IsSound begin.state → Legal begin log m → Legal begin (log ++ rest) after
+        → IsFloor (snapshots m) m.clock floor → IsFloor (snapshots after) after.clock later → floor ≤ later }
+{}
+
+/// What a session has begun stays through all entries but its own Starts, Finishes and End: its statement is half done, and
+/// reads the same rows, whatever others begin, commit or end meanwhile, and whatever becomes of the row groups. A Start gives
+/// it: the rows of the snapshot that it takes or has, with the transaction's own writes.
 pub fn started_stays()
-    ensures starts { (schema : Schema) (log : List Entry) (m after : State) (session : ℕ) (b : Arc Bound Global) (short : Bool) (rows : Table) → Legal schema log m
-        → m.half session ≡ None → Starts m session b.value short rows after → IsStarted schema (log ++ Start session b short ∷ []) session b.value short rows }
-    ensures stays { (schema : Schema) (log rest : List Entry) (session : ℕ) (b : Bound) (short : Bool) (rows : Table) → entries_of session rest ≡ []
-        → IsStarted schema log session b short rows → IsStarted schema (log ++ rest) session b short rows }
+    ensures starts { (begin : Begin) (log : List Entry) (m after : State) (session : ℕ) (b : Arc Bound Global) (short : Bool) (rows : Table) → IsSound begin.state → Legal begin log m
+        → m.half session ≡ None → Starts m session b.value short rows after → IsStarted begin (log ++ Start session b short ∷ []) session b.value short rows }
+    ensures stays { (begin : Begin) (log rest : List Entry) (session : ℕ) (b : Bound) (short : Bool) (rows : Table) → turns_of session rest ≡ []
+        → IsStarted begin log session b short rows → IsStarted begin (log ++ rest) session b short rows }
 {}
 
 /// The entries that sessions owe: a Start adds its Finish to them, and a Finish and an End take themselves away. So a log

@@ -1,13 +1,16 @@
 -- Which events a script asks for, and in which order.
-use Rattle.std.specs.Prelude.{◌≡◌, ◌⊎◌, ℕ, List, [], ◌∷◌, ◌++◌, map, ◌==◌, if◌then◌else◌, Contains, Option, None, Some}
+use Rattle.std.specs.Prelude.{◌≡◌, ◌⊎◌, ℕ, zero, suc, List, [], ◌∷◌, ◌++◌, length, map, slice_get, ◌==◌, if◌then◌else◌, Contains, Option, None, Some}
 use Rattle.std.specs.List.{filter_map}
 use Rattle.cs_types.specs.declared.Schema.{Schema}
 use Rattle.cs_model.specs.declared.entry.Bound.{Bound}
 use Rattle.cs_model.specs.declared.entry.Bound.TheVariants.{Refused}
 use Rattle.cs_model.specs.declared.entry.Refusal.TheVariants.{Memory}
 use Rattle.cs_model.specs.declared.entry.Entry.{Entry}
-use Rattle.cs_model.specs.declared.entry.Entry.TheVariants.{Start, Finish, End}
-use Rattle.cs_model.specs.Actors.{entries_of}
+use Rattle.cs_model.specs.declared.entry.Entry.TheVariants.{Start, Finish, End, Mover}
+use Rattle.cs_model.specs.Actors.{turns_of}
+use Rattle.cs_model.specs.State.{State, Begin, begin_of, schema_now}
+use Rattle.cs_model.specs.Steps.{Legal}
+use Rattle.cs_model.specs.Text.{statements_of}
 use Rattle.tsql_binder.specs.Meaning.{Means}
 use Rattle.script_reader.specs.declared.script.Script.{Script}
 use Rattle.script_reader.specs.declared.script.Step.{Step}
@@ -17,34 +20,50 @@ use Rattle.script_reader.specs.declared.script.Step.TheVariants.{Whole, Begun, F
 abbrev pub IsBound : Schema → List ℕ → Bound → Type 0
 IsBound schema text bound = Means schema text bound ⊎ (bound ≡ Refused Memory)
 
+-- the same after this log, where it is legal, by the schema that it leads to
+abbrev pub IsBoundAfter : Begin → List Entry → List ℕ → Bound → Type 0
+IsBoundAfter begin before text bound = (m : State) → Legal begin before m → IsBound (schema_now begin m) text bound
+
 -- ---- line by line
 
--- the Start of a statement with this text
-abbrev pub IsStart : Schema → ℕ → List ℕ → Entry → Type 0
-IsStart schema session text (Start s bound short) = (s ≡ session) × IsBound schema text bound.value
-IsStart schema session text (Finish s reply) = ⊥
-IsStart schema session text (End s) = ⊥
+-- the Start of a statement with this text, after this log
+abbrev pub IsStart : Begin → List Entry → ℕ → List ℕ → Entry → Type 0
+IsStart begin before session text (Start s bound short) = (s ≡ session) × IsBoundAfter begin before text bound.value
+IsStart begin before session text (Finish s reply) = ⊥
+IsStart begin before session text (End s) = ⊥
+IsStart begin before session text (Mover actor work) = ⊥
 
 abbrev pub IsFinishOf : ℕ → Entry → Type 0
 IsFinishOf session (Start s bound short) = ⊥
 IsFinishOf session (Finish s reply) = s ≡ session
 IsFinishOf session (End s) = ⊥
+IsFinishOf session (Mover actor work) = ⊥
 
--- the events of a step: a Start, a Finish, or both
-abbrev pub IsPiece : Schema → Step → List Entry → Type 0
-IsPiece schema (Whole session text) piece = (a : Entry) × (b : Entry) × (piece ≡ a ∷ b ∷ []) × IsStart schema session text a × IsFinishOf session b
-IsPiece schema (Begun session text) piece = (a : Entry) × (piece ≡ a ∷ []) × IsStart schema session text a
-IsPiece schema (Finished session) piece = (b : Entry) × (piece ≡ b ∷ []) × IsFinishOf session b
+-- the moves of a session before the Finish of its statement; no statement makes any so far
+abbrev pub AreMoves : ℕ → List Entry → Type 0
+AreMoves session moves = moves ≡ []
 
--- the entries are a piece for each step, in order
-abbrev pub ArePieces : Schema → List Step → List Entry → Type 0
-ArePieces schema [] entries = entries ≡ []
-ArePieces schema (step ∷ steps) entries =
-    (piece : List Entry) × (others : List Entry) × (entries ≡ piece ++ others) × IsPiece schema step piece × ArePieces schema steps others
+-- the moves and the Finish of a statement
+abbrev pub IsFinishing : ℕ → List Entry → Type 0
+IsFinishing session piece = (moves : List Entry) × (b : Entry) × (piece ≡ moves ++ b ∷ []) × AreMoves session moves × IsFinishOf session b
+
+-- the events of a step after this log: a Start, a Finish with its moves, or both
+abbrev pub IsPiece : Begin → List Entry → Step → List Entry → Type 0
+IsPiece begin before (Whole session text) piece =
+    (a : Entry) × (rest : List Entry) × (piece ≡ a ∷ rest) × IsStart begin before session text a × IsFinishing session rest
+IsPiece begin before (Begun session text) piece = (a : Entry) × (piece ≡ a ∷ []) × IsStart begin before session text a
+IsPiece begin before (Finished session) piece = IsFinishing session piece
+
+-- the entries after this log are a piece for each step, in order
+abbrev pub ArePieces : Begin → List Entry → List Step → List Entry → Type 0
+ArePieces begin before [] entries = entries ≡ []
+ArePieces begin before (step ∷ steps) entries =
+    (piece : List Entry) × (others : List Entry) × (entries ≡ piece ++ others) × IsPiece begin before step piece × ArePieces begin (before ++ piece) steps others
 
 -- the log has a piece for each line, in order, and last the Ends of the sessions by their numbers
 abbrev pub Scheduled : Script → List Entry → Type 0
-Scheduled script log = (events : List Entry) × ArePieces script.schema script.lines events × (log ≡ events ++ map End script.sessions)
+Scheduled script log =
+    (events : List Entry) × ArePieces (begin_of script.schema) [] script.lines events × (log ≡ events ++ map End script.sessions)
 
 -- ---- session by session
 
@@ -58,19 +77,40 @@ started_in session (Finished s) = None
 abbrev pub texts_of : ℕ → List Step → List (List ℕ)
 texts_of session steps = filter_map (started_in session) steps
 
--- Start and Finish of each statement, once and in order, and then the End
-abbrev pub AreTurns : Schema → ℕ → List (List ℕ) → List Entry → Type 0
-AreTurns schema session [] entries = entries ≡ End session ∷ []
-AreTurns schema session (text ∷ texts) entries =
-    (a : Entry) × (b : Entry) × (others : List Entry)
-    × (entries ≡ a ∷ b ∷ others) × IsStart schema session text a × IsFinishOf session b × AreTurns schema session texts others
+abbrev pub IsStartIn : ℕ → Entry → Type 0
+IsStartIn session (Start s bound short) = s ≡ session
+IsStartIn session (Finish s reply) = ⊥
+IsStartIn session (End s) = ⊥
+IsStartIn session (Mover actor work) = ⊥
 
--- each session of the script has its statements' events once and in order, and then its End; no other session has one
+-- Start and Finish of so many statements, one after the other, and then the End
+abbrev pub AreTurns : ℕ → ℕ → List Entry → Type 0
+AreTurns session zero turns = turns ≡ End session ∷ []
+AreTurns session (suc n) turns =
+    (a : Entry) × (b : Entry) × (others : List Entry) × (turns ≡ a ∷ b ∷ others) × IsStartIn session a × IsFinishOf session b × AreTurns session n others
+
+-- a Start's statement is what its session's next text means
+abbrev pub IsMeant : Begin → List Step → List Entry → Entry → Type 0
+IsMeant begin steps before (Start session bound short) =
+    (text : List ℕ) × (slice_get (texts_of session steps) (statements_of session before) ≡ Some text) × IsBoundAfter begin before text bound.value
+IsMeant begin steps before (Finish session reply) = Unit {0}
+IsMeant begin steps before (End session) = Unit {0}
+IsMeant begin steps before (Mover actor work) = Unit {0}
+
+-- each Start of these entries, which come after those before, is meant
+abbrev pub AreMeant : Begin → List Step → List Entry → List Entry → Type 0
+AreMeant begin steps before [] = Unit {0}
+AreMeant begin steps before (entry ∷ entries) = IsMeant begin steps before entry × AreMeant begin steps (before ++ entry ∷ []) entries
+
+-- each session of the script has its statements' turns once and in order, and then its End; no other session has a turn; and
+-- each statement is what its text means
 pub record Turns (script : Script) (log : List Entry) : Type 0 where
-  pub each : (session : ℕ) → Contains script.sessions session → AreTurns script.schema session (texts_of session script.lines) (entries_of session log)
-  pub none : (session : ℕ) → (Contains script.sessions session → ⊥) → entries_of session log ≡ []
+  pub each : (session : ℕ) → Contains script.sessions session → AreTurns session (length (texts_of session script.lines)) (turns_of session log)
+  pub none : (session : ℕ) → (Contains script.sessions session → ⊥) → turns_of session log ≡ []
+  pub meant : AreMeant (begin_of script.schema) script.lines [] log
 
--- the same of a run that stopped: each session's entries are a front of its turns
+-- the same of a run that stopped: each session's turns are the first of those that it is to have
 pub record FrontTurns (script : Script) (log : List Entry) : Type 0 where
-  pub each : (session : ℕ) → Contains script.sessions session → (rest : List Entry) × AreTurns script.schema session (texts_of session script.lines) (entries_of session log ++ rest)
-  pub none : (session : ℕ) → (Contains script.sessions session → ⊥) → entries_of session log ≡ []
+  pub each : (session : ℕ) → Contains script.sessions session → (rest : List Entry) × AreTurns session (length (texts_of session script.lines)) (turns_of session log ++ rest)
+  pub none : (session : ℕ) → (Contains script.sessions session → ⊥) → turns_of session log ≡ []
+  pub meant : AreMeant (begin_of script.schema) script.lines [] log

@@ -6,7 +6,7 @@ use Rattle.std.proofs.lemmas.List.{append-nil, map-append, take_more, drop_more}
 use Rattle.std.proofs.lemmas.Grind.{common_steps}
 use Rattle.cs_model.specs.declared.entry.Entry.{Entry}
 use Rattle.cs_model.specs.declared.entry.Entry.TheVariants.{End}
-use Rattle.cs_model.specs.Actors.{entries_of, is_begun, has_ended}
+use Rattle.cs_model.specs.Actors.{entries_of, turns_of, is_begun, has_ended}
 use Rattle.log_laws.specs.Laws.{AreDistinct}
 use Rattle.log_laws.proofs.Entries.{entries_push}
 use Rattle.script_runner.specs.Running.{Ending}
@@ -21,9 +21,6 @@ rests_end log n s e = begun_after log (End n) s ∙ at (n == s)
     at : (t : Bool) → cond t false (is_begun (entries_of s log)) ≡ false
     at true = refl
     at false = e
-
-pub ending_first : (log : List Entry) (sessions : List ℕ) → ((s : ℕ) → is_begun (entries_of s log) ≡ false) → ((s : ℕ) → has_ended (entries_of s log) ≡ false) → AreDistinct sessions → Ending log log [] sessions
-ending_first log sessions rests going distinct = record { log = sym (append-nil log); rests = rests; going = λ k d lt. going (get_or sessions k d); distinct = distinct }
 
 pub ending_push : (first log : List Entry) (done left : List ℕ) (n : ℕ) → Ending first log done (n ∷ left) → Ending first (log ++ End n ∷ []) (done ++ n ∷ []) left
 ending_push first log done left n e = record {
@@ -48,16 +45,16 @@ ending_more first log new sessions i within e is =
 pub going_at : (first log : List Entry) (sessions : List ℕ) (i : ℕ) → i < length sessions → Ending first log (take i sessions) (drop i sessions) → has_ended (entries_of (get_or sessions i 0) log) ≡ false
 going_at first log sessions i within e = subst (λ left. All (λ s. has_ended (entries_of s log) ≡ false) left) (drop_more sessions i 0 within) e.going 0 0 (omega arith)
 
--- ---- the Ends of one session
+-- ---- the End of one session
 
-pub ends_none : (s : ℕ) (sessions : List ℕ) → All (λ y. s ≢ y) sessions → entries_of s (map End sessions) ≡ []
+pub ends_none : (s : ℕ) (sessions : List ℕ) → All (λ y. s ≢ y) sessions → turns_of s (map End sessions) ≡ []
 ends_none s [] all = refl
 ends_none s (n ∷ sessions) all =
     let not : s ≢ n = all 0 n (omega arith) in
     let ne : (n == s) ≡ false = grind (arith, nat_tests, not) in
-    ap (λ t. cond t (End n ∷ entries_of s (map End sessions)) (entries_of s (map End sessions))) ne ∙ ends_none s sessions (λ k d lt. all (suc k) d (omega (arith, lt)))
+    ap (λ t. cond t (End n ∷ turns_of s (map End sessions)) (turns_of s (map End sessions))) ne ∙ ends_none s sessions (λ k d lt. all (suc k) d (omega (arith, lt)))
 
-pub ends_one : (s : ℕ) (sessions : List ℕ) → AreDistinct sessions → Contains sessions s → entries_of s (map End sessions) ≡ End s ∷ []
+pub ends_one : (s : ℕ) (sessions : List ℕ) → AreDistinct sessions → Contains sessions s → turns_of s (map End sessions) ≡ End s ∷ []
 ends_one s [] distinct has = absurd (omega (arith, has.1))
 ends_one s (n ∷ sessions) distinct has = at (n == s) refl (λ k. ends_one s sessions distinct.1 k)
   where
@@ -65,12 +62,12 @@ ends_one s (n ∷ sessions) distinct has = at (n == s) refl (λ k. ends_one s se
     behind ne (zero, lt, e) = absurd (let is : n ≡ s = e in grind (arith, nat_tests, is))
     behind ne (suc k, lt, e) = (k, omega (arith, lt), e)
 
-    at : (t : Bool) → (n == s) ≡ t → (Contains sessions s → entries_of s (map End sessions) ≡ End s ∷ []) → entries_of s (map End (n ∷ sessions)) ≡ End s ∷ []
+    at : (t : Bool) → (n == s) ≡ t → (Contains sessions s → turns_of s (map End sessions) ≡ End s ∷ []) → turns_of s (map End (n ∷ sessions)) ≡ End s ∷ []
     at true t rest =
         let is : n ≡ s = grind (arith, nat_tests) in
-        let none : entries_of s (map End sessions) ≡ [] = ends_none s sessions (subst (λ x. All (λ y. x ≢ y) sessions) is distinct.0) in
-        ap (λ b. cond b (End n ∷ entries_of s (map End sessions)) (entries_of s (map End sessions))) t ∙ ap (λ es. End n ∷ es) none ∙ ap (λ x. End x ∷ []) is
-    at false t rest = ap (λ b. cond b (End n ∷ entries_of s (map End sessions)) (entries_of s (map End sessions))) t ∙ rest (behind t has)
+        let none : turns_of s (map End sessions) ≡ [] = ends_none s sessions (subst (λ x. All (λ y. x ≢ y) sessions) is distinct.0) in
+        ap (λ b. cond b (End n ∷ turns_of s (map End sessions)) (turns_of s (map End sessions))) t ∙ ap (λ es. End n ∷ es) none ∙ ap (λ x. End x ∷ []) is
+    at false t rest = ap (λ b. cond b (End n ∷ turns_of s (map End sessions)) (turns_of s (map End sessions))) t ∙ rest (behind t has)
 
 pub apart_all : (s : ℕ) (sessions : List ℕ) → (Contains sessions s → ⊥) → All (λ y. s ≢ y) sessions
 apart_all s sessions has_not = λ k d lt e. has_not (k, lt, same k d lt ∙ sym e)

@@ -1,17 +1,16 @@
 -- What the events of a step say of its session, and of the others.
-use Rattle.std.proofs.Common.{◌≡◌, ℕ, List, [], ◌∷◌, ◌++◌, refl, sym, ap, ◌∙◌, cond, Bool, true, false, ◌||◌, append_assoc}
+use Rattle.std.proofs.Common.{◌≡◌, ℕ, List, [], ◌∷◌, ◌++◌, refl, sym, ap, subst, ◌∙◌, cond, Bool, true, false, ◌||◌, append_assoc}
 use Rattle.std.specs.Prelude.{◌==◌, not}
-use Rattle.std.proofs.lemmas.Bool.{eq-eqb}
 use Rattle.std.proofs.lemmas.List.{append-nil}
-use Rattle.cs_types.specs.declared.Schema.{Schema}
 use Rattle.cs_model.specs.declared.entry.Entry.{Entry}
-use Rattle.cs_model.specs.declared.entry.Entry.TheVariants.{Start, Finish, End}
-use Rattle.cs_model.specs.Actors.{actor_of, entries_of, begun_by, is_end, is_begun, has_ended}
+use Rattle.cs_model.specs.declared.entry.Entry.TheVariants.{Start, Finish, End, Mover}
+use Rattle.cs_model.specs.State.{Begin}
+use Rattle.cs_model.specs.Actors.{actor_of, is_turn, entries_of, begun_by, is_end, is_begun, has_ended}
 use Rattle.log_laws.proofs.Entries.{entries_push, begun_push, ended_push}
 use Rattle.script_reader.specs.declared.script.Step.{Step}
 use Rattle.script_reader.specs.declared.script.Step.TheVariants.{Whole, Begun, Finished}
 use Rattle.script_reader.specs.Scripts.{session_of, half_done, may_follow}
-use Rattle.script_reader.specs.Schedule.{IsStart, IsFinishOf, IsPiece, ArePieces}
+use Rattle.script_reader.specs.Schedule.{IsStart, IsFinishOf, IsFinishing, IsPiece, ArePieces}
 use Rattle.script_runner.specs.Running.{finishes}
 
 -- ---- one entry more
@@ -32,21 +31,24 @@ ended_after log e s = ap has_ended (entries_push s log e) ∙ at (actor_of e == 
 
 -- ---- a Start, a Finish
 
--- an entry of one session, which leaves a statement half done or not, and is no End
+-- a turn of one session, which leaves a statement half done or not, and is no End
 pub record Does (session : ℕ) (begins : Bool) (e : Entry) : Type 0 where
   pub actor : actor_of e ≡ session
+  pub turn : is_turn e ≡ true
   pub begun : (before : Bool) → begun_by before e ≡ begins
   pub going : is_end e ≡ false
 
-pub start_does : (schema : Schema) (session : ℕ) (text : List ℕ) (e : Entry) → IsStart schema session text e → Does session true e
-start_does schema session text (Start s b short) h = record { actor = h.0; begun = λ before. refl; going = refl }
-start_does schema session text (Finish s r) h = absurd h
-start_does schema session text (End s) h = absurd h
+pub start_does : (begin : Begin) (before : List Entry) (session : ℕ) (text : List ℕ) (e : Entry) → IsStart begin before session text e → Does session true e
+start_does begin before session text (Start s b short) h = record { actor = h.0; turn = refl; begun = λ before. refl; going = refl }
+start_does begin before session text (Finish s r) h = absurd h
+start_does begin before session text (End s) h = absurd h
+start_does begin before session text (Mover actor work) h = absurd h
 
 pub finish_does : (session : ℕ) (e : Entry) → IsFinishOf session e → Does session false e
 finish_does session (Start s b short) h = absurd h
-finish_does session (Finish s r) h = record { actor = h; begun = λ before. refl; going = refl }
+finish_does session (Finish s r) h = record { actor = h; turn = refl; begun = λ before. refl; going = refl }
 finish_does session (End s) h = absurd h
+finish_does session (Mover actor work) h = absurd h
 
 one_begun : (log : List Entry) (e : Entry) (s session : ℕ) (begins : Bool) → Does session begins e → is_begun (entries_of s (log ++ e ∷ [])) ≡ cond (session == s) begins (is_begun (entries_of s log))
 one_begun log e s session begins d =
@@ -74,33 +76,60 @@ begins (Finished session) = false
 two : (log : List Entry) (a b : Entry) → log ++ a ∷ b ∷ [] ≡ (log ++ a ∷ []) ++ b ∷ []
 two log a b = sym (append_assoc log (a ∷ []) (b ∷ []))
 
-pub piece_begun : (schema : Schema) (step : Step) (piece log : List Entry) (s : ℕ) → IsPiece schema step piece → is_begun (entries_of s (log ++ piece)) ≡ cond (session_of step == s) (begins step) (is_begun (entries_of s log))
-piece_begun schema (Whole session text) piece log s p =
+-- the events of a step that makes no moves: a Start, a Finish, or both
+abbrev pub IsPlain : Begin → List Entry → Step → List Entry → Type 0
+IsPlain begin before (Whole session text) piece = (a : Entry) × (b : Entry) × (piece ≡ a ∷ b ∷ []) × IsStart begin before session text a × IsFinishOf session b
+IsPlain begin before (Begun session text) piece = (a : Entry) × (piece ≡ a ∷ []) × IsStart begin before session text a
+IsPlain begin before (Finished session) piece = (b : Entry) × (piece ≡ b ∷ []) × IsFinishOf session b
+
+one_finish : (session : ℕ) (piece : List Entry) → IsFinishing session piece → (b : Entry) × (piece ≡ b ∷ []) × IsFinishOf session b
+one_finish session piece f = (f.1, f.2 ∙ ap (λ moves. moves ++ f.1 ∷ []) f.3, f.4)
+
+pub plain : (begin : Begin) (before : List Entry) (step : Step) (piece : List Entry) → IsPiece begin before step piece → IsPlain begin before step piece
+plain begin before (Whole session text) piece p = let f = one_finish session p.1 p.4 in (p.0, f.0, p.2 ∙ ap (λ es. p.0 ∷ es) f.1, p.3, f.2)
+plain begin before (Begun session text) piece p = p
+plain begin before (Finished session) piece p = one_finish session piece p
+
+pub piece_begun : (begin : Begin) (step : Step) (piece log : List Entry) (s : ℕ) → IsPlain begin log step piece → is_begun (entries_of s (log ++ piece)) ≡ cond (session_of step == s) (begins step) (is_begun (entries_of s log))
+piece_begun begin (Whole session text) piece log s p =
     ap (λ es. is_begun (entries_of s es)) (ap (λ es. log ++ es) p.2 ∙ two log p.0 p.1)
     ∙ one_begun (log ++ p.0 ∷ []) p.1 s session false (finish_does session p.1 p.4)
-    ∙ ap (λ b. cond (session == s) false b) (one_begun log p.0 s session true (start_does schema session text p.0 p.3))
+    ∙ ap (λ b. cond (session == s) false b) (one_begun log p.0 s session true (start_does begin log session text p.0 p.3))
     ∙ at (session == s)
   where
     at : (t : Bool) → cond t false (cond t true (is_begun (entries_of s log))) ≡ cond t false (is_begun (entries_of s log))
     at true = refl
     at false = refl
-piece_begun schema (Begun session text) piece log s p =
-    ap (λ es. is_begun (entries_of s (log ++ es))) p.1 ∙ one_begun log p.0 s session true (start_does schema session text p.0 p.2)
-piece_begun schema (Finished session) piece log s p =
+piece_begun begin (Begun session text) piece log s p =
+    ap (λ es. is_begun (entries_of s (log ++ es))) p.1 ∙ one_begun log p.0 s session true (start_does begin log session text p.0 p.2)
+piece_begun begin (Finished session) piece log s p =
     ap (λ es. is_begun (entries_of s (log ++ es))) p.1 ∙ one_begun log p.0 s session false (finish_does session p.0 p.2)
 
-pub piece_going : (schema : Schema) (step : Step) (piece log : List Entry) (s : ℕ) → IsPiece schema step piece → has_ended (entries_of s (log ++ piece)) ≡ has_ended (entries_of s log)
-piece_going schema (Whole session text) piece log s p =
+pub piece_going : (begin : Begin) (step : Step) (piece log : List Entry) (s : ℕ) → IsPlain begin log step piece → has_ended (entries_of s (log ++ piece)) ≡ has_ended (entries_of s log)
+piece_going begin (Whole session text) piece log s p =
     ap (λ es. has_ended (entries_of s es)) (ap (λ es. log ++ es) p.2 ∙ two log p.0 p.1)
-    ∙ one_going (log ++ p.0 ∷ []) p.1 s session false (finish_does session p.1 p.4) ∙ one_going log p.0 s session true (start_does schema session text p.0 p.3)
-piece_going schema (Begun session text) piece log s p =
-    ap (λ es. has_ended (entries_of s (log ++ es))) p.1 ∙ one_going log p.0 s session true (start_does schema session text p.0 p.2)
-piece_going schema (Finished session) piece log s p =
+    ∙ one_going (log ++ p.0 ∷ []) p.1 s session false (finish_does session p.1 p.4) ∙ one_going log p.0 s session true (start_does begin log session text p.0 p.3)
+piece_going begin (Begun session text) piece log s p =
+    ap (λ es. has_ended (entries_of s (log ++ es))) p.1 ∙ one_going log p.0 s session true (start_does begin log session text p.0 p.2)
+piece_going begin (Finished session) piece log s p =
     ap (λ es. has_ended (entries_of s (log ++ es))) p.1 ∙ one_going log p.0 s session false (finish_does session p.0 p.2)
 
-pub pieces_push : (schema : Schema) (steps : List Step) (entries : List Entry) (step : Step) (piece : List Entry) → ArePieces schema steps entries → IsPiece schema step piece → ArePieces schema (steps ++ step ∷ []) (entries ++ piece)
-pieces_push schema [] entries step piece e p = (piece, [], ap (λ es. es ++ piece) e ∙ sym (append-nil piece), p, refl)
-pieces_push schema (first ∷ steps) entries step piece e p = (e.0, e.1 ++ piece, ap (λ es. es ++ piece) e.2 ∙ append_assoc e.0 e.1 piece, e.3, pieces_push schema steps e.1 step piece e.4 p)
+pub pieces_push : (begin : Begin) (before : List Entry) (steps : List Step) (entries : List Entry) (step : Step) (piece : List Entry) → ArePieces begin before steps entries → IsPiece begin (before ++ entries) step piece
+    → ArePieces begin before (steps ++ step ∷ []) (entries ++ piece)
+pieces_push begin before [] entries step piece e p = (
+  piece,
+  [],
+  ap (λ es. es ++ piece) e ∙ sym (append-nil piece),
+  subst (λ es. IsPiece begin es step piece) (ap (λ es. before ++ es) e ∙ append-nil before) p,
+  refl,
+)
+pieces_push begin before (first ∷ steps) entries step piece e p = (
+  e.0,
+  e.1 ++ piece,
+  ap (λ es. es ++ piece) e.2 ∙ append_assoc e.0 e.1 piece,
+  e.3,
+  pieces_push begin (before ++ e.0) steps e.1 step piece e.4 (subst (λ es. IsPiece begin es step piece) (ap (λ es. before ++ es) e.2 ∙ sym (append_assoc before e.0 e.1)) p),
+)
 
 -- ---- a step that may follow
 
@@ -113,30 +142,3 @@ pub follows : (before : List Step) (step : Step) → may_follow before step ≡ 
 follows before (Whole session text) may = is_not (half_done session before) may
 follows before (Begun session text) may = is_not (half_done session before) may
 follows before (Finished session) may = may
-
--- ---- the events of a step, one by one
-
--- behind its Start a statement is half done
-pub begun_there : (schema : Schema) (log new : List Entry) (session : ℕ) (text : List ℕ) → (e : Entry) × (new ≡ log ++ e ∷ []) × IsStart schema session text e → is_begun (entries_of session new) ≡ true
-begun_there schema log new session text x =
-    ap (λ es. is_begun (entries_of session es)) x.1 ∙ one_begun log x.0 session session true (start_does schema session text x.0 x.2)
-    ∙ ap (λ t. cond t true (is_begun (entries_of session log))) (eq-eqb session session refl)
-
--- it has not ended its session
-pub going_there : (schema : Schema) (log new : List Entry) (session : ℕ) (text : List ℕ) → (e : Entry) × (new ≡ log ++ e ∷ []) × IsStart schema session text e
-    → has_ended (entries_of session log) ≡ false → has_ended (entries_of session new) ≡ false
-going_there schema log new session text x going =
-    ap (λ es. has_ended (entries_of session es)) x.1 ∙ one_going log x.0 session session true (start_does schema session text x.0 x.2) ∙ going
-
-pub whole_piece : (schema : Schema) (log mid new : List Entry) (session : ℕ) (text : List ℕ) → (a : Entry) × (mid ≡ log ++ a ∷ []) × IsStart schema session text a
-    → (b : Entry) × (new ≡ mid ++ b ∷ []) × IsFinishOf session b → (piece : List Entry) × IsPiece schema (Whole session text) piece × (new ≡ log ++ piece)
-whole_piece schema log mid new session text x y =
-    (x.0 ∷ y.0 ∷ [], (x.0, y.0, refl, x.2, y.2), y.1 ∙ ap (λ es. es ++ y.0 ∷ []) x.1 ∙ append_assoc log (x.0 ∷ []) (y.0 ∷ []))
-
-pub begun_piece : (schema : Schema) (log new : List Entry) (session : ℕ) (text : List ℕ) → (a : Entry) × (new ≡ log ++ a ∷ []) × IsStart schema session text a
-    → (piece : List Entry) × IsPiece schema (Begun session text) piece × (new ≡ log ++ piece)
-begun_piece schema log new session text x = (x.0 ∷ [], (x.0, refl, x.2), x.1)
-
-pub finished_piece : (schema : Schema) (log new : List Entry) (session : ℕ) → (b : Entry) × (new ≡ log ++ b ∷ []) × IsFinishOf session b
-    → (piece : List Entry) × IsPiece schema (Finished session) piece × (new ≡ log ++ piece)
-finished_piece schema log new session x = (x.0 ∷ [], (x.0, refl, x.2), x.1)

@@ -2,11 +2,11 @@
 use Rattle.std.proofs.lemmas.List.Elements.{All-contains}
 use Rattle.std.proofs.Common.{◌≡◌, ℕ, ◌+◌, ◌<◌, ◌≤◌, List, [], ◌∷◌, ◌++◌, length, get_or, take, drop, refl, sym, ap, subst, ◌∙◌, cond, Bool, true, false, map, Contains, All, arith}
 use Rattle.std.proofs.lemmas.List.{take_more, drop_more}
-use Rattle.std.specs.Prelude.{Option, Some, ◌==◌, Result, Ok, Err, OnOk, OnErr}
-use Rattle.cs_types.specs.declared.Schema.{Schema}
+use Rattle.std.specs.Prelude.{Some, ◌==◌, Result, Ok, Err, OnOk, OnErr}
 use Rattle.cs_model.specs.declared.entry.Entry.{Entry}
 use Rattle.cs_model.specs.declared.entry.Entry.TheVariants.{End}
-use Rattle.cs_model.specs.State.{State}
+use Rattle.cs_types.specs.declared.Schema.{Schema}
+use Rattle.cs_model.specs.State.{State, Begin, begin_of}
 use Rattle.cs_model.specs.Steps.{Legal}
 use Rattle.cs_model.specs.Actors.{entries_of, is_begun, has_ended}
 use Rattle.script_reader.specs.declared.script.Script.{Script}
@@ -16,33 +16,30 @@ use Rattle.script_reader.specs.Scripts as reader
 use Rattle.script_reader.specs.Scripts.{session_of, text_of, half_done, ArePaired, IsRunnable}
 use Rattle.script_reader.specs.Schedule.{IsPiece, ArePieces, Scheduled}
 use Rattle.script_reader.proofs.Halves.{half_same, half_other, half_empty}
-use Rattle.statement_core.specs.declared.started.Started.{Started}
-use Rattle.script_runner.specs.Running.{Waits, Running, AreRunnable, IsFrontRun, finishes}
+use Rattle.script_runner.specs.Running.{Running, AreRunnable, IsFrontRun, finishes}
 use Rattle.script_runner.specs.Logs.{IsLogOf, IsFrontLogOf}
-use Rattle.script_runner.proofs.Pieces.{begins, piece_begun, piece_going, pieces_push, follows}
-use Rattle.script_runner.proofs.Turning.{turns_of, front_turns}
+use Rattle.script_runner.proofs.Pieces.{begins, plain, piece_begun, piece_going, pieces_push, follows}
+use Rattle.script_runner.proofs.Turning.{has_turns, has_front_turns}
 
 begins_is : (step : Step) → begins step ≡ reader.is_begun (Some step)
 begins_is (Whole session text) = refl
 begins_is (Begun session text) = refl
 begins_is (Finished session) = refl
 
-pub running_first : (schema : Schema) (log : List Entry) (waiting : ℕ → Option Started) (lines : List Step) → log ≡ [] → ArePaired [] lines → Running schema log waiting [] lines
-running_first schema log waiting lines e paired = record {
+pub running_first : (begin : Begin) (log : List Entry) (lines : List Step) → log ≡ [] → ArePaired [] lines → Running begin log [] lines
+running_first begin log lines e paired = record {
   pieces = e;
-  waits = λ s begun. let none : is_begun (entries_of s log) ≡ false = ap (λ es. is_begun (entries_of s es)) e in absurd (cc (none, begun));
   begun = λ s. ap (λ es. is_begun (entries_of s es)) e ∙ sym (half_empty s);
   going = λ s. ap (λ es. has_ended (entries_of s es)) e;
   paired = paired;
 }
 
-pub running_push : (schema : Schema) (log new : List Entry) (waiting after : ℕ → Option Started) (done left : List Step) (step : Step) (piece : List Entry)
-    → Running schema log waiting done (step ∷ left) → IsPiece schema step piece → new ≡ log ++ piece → Waits schema new after → Running schema new after (done ++ step ∷ []) left
-running_push schema log new waiting after done left step piece run p is waits = record {
-  pieces = subst (ArePieces schema (done ++ step ∷ [])) (sym is) (pieces_push schema done log step piece run.pieces p);
-  waits = waits;
-  begun = λ s. ap (λ es. is_begun (entries_of s es)) is ∙ piece_begun schema step piece log s p ∙ at s (session_of step == s) refl;
-  going = λ s. ap (λ es. has_ended (entries_of s es)) is ∙ piece_going schema step piece log s p ∙ run.going s;
+pub running_push : (begin : Begin) (log new : List Entry) (done left : List Step) (step : Step) (piece : List Entry)
+    → Running begin log done (step ∷ left) → IsPiece begin log step piece → new ≡ log ++ piece → Running begin new (done ++ step ∷ []) left
+running_push begin log new done left step piece run p is = record {
+  pieces = subst (ArePieces begin [] (done ++ step ∷ [])) (sym is) (pieces_push begin [] done log step piece run.pieces p);
+  begun = λ s. ap (λ es. is_begun (entries_of s es)) is ∙ piece_begun begin step piece log s (plain begin log step piece p) ∙ at s (session_of step == s) refl;
+  going = λ s. ap (λ es. has_ended (entries_of s es)) is ∙ piece_going begin step piece log s (plain begin log step piece p) ∙ run.going s;
   paired = run.paired.1;
 }
   where
@@ -60,10 +57,10 @@ pub record IsNext (sessions : List ℕ) (log : List Entry) (step : Step) : Type 
   pub going : has_ended (entries_of (session_of step) log) ≡ false
   pub short : length (text_of step) ≤ 65536
 
-module _ (schema : Schema) (lines : List Step) (i : ℕ) (step : Step) (within : i < length lines) (is : step ≡ get_or lines i step) (log : List Entry) (waiting : ℕ → Option Started)
-    (run : Running schema log waiting (take i lines) (drop i lines)) where
-  comes : Running schema log waiting (take i lines) (step ∷ drop (i + 1) lines)
-  comes = subst (Running schema log waiting (take i lines)) (drop_more lines i step within ∙ ap (λ x. x ∷ drop (i + 1) lines) (sym is)) run
+module _ (begin : Begin) (lines : List Step) (i : ℕ) (step : Step) (within : i < length lines) (is : step ≡ get_or lines i step) (log : List Entry)
+    (run : Running begin log (take i lines) (drop i lines)) where
+  comes : Running begin log (take i lines) (step ∷ drop (i + 1) lines)
+  comes = subst (Running begin log (take i lines)) (drop_more lines i step within ∙ ap (λ x. x ∷ drop (i + 1) lines) (sym is)) run
 
   pub next_at : (sessions : List ℕ) → AreRunnable sessions lines → IsNext sessions log step
   next_at sessions can =
@@ -76,17 +73,17 @@ module _ (schema : Schema) (lines : List Step) (i : ℕ) (step : Step) (within :
         short = subst (λ x. length (text_of x) ≤ 65536) (sym is) (can.short i step within);
       }
 
-  pub step_more : (now : Schema) (new : List Entry) (after : ℕ → Option Started) → now ≡ schema → (piece : List Entry) × IsPiece now step piece × (new ≡ log ++ piece) → Waits now new after
-      → Running schema new after (take (i + 1) lines) (drop (i + 1) lines)
-  step_more now new after same x waits =
-      subst (λ done. Running schema new after done (drop (i + 1) lines)) (sym (take_more lines i step within ∙ ap (λ s. take i lines ++ s ∷ []) (sym is)))
-      (running_push schema log new waiting after (take i lines) (drop (i + 1) lines) step x.0 comes (subst (λ s. IsPiece s step x.0) same x.1) x.2 (subst (λ s. Waits s new after) same waits))
+  pub step_more : (now : Begin) (new : List Entry) → now ≡ begin → (piece : List Entry) × IsPiece now log step piece × (new ≡ log ++ piece)
+      → Running begin new (take (i + 1) lines) (drop (i + 1) lines)
+  step_more now new same x =
+      subst (λ done. Running begin new done (drop (i + 1) lines)) (sym (take_more lines i step within ∙ ap (λ s. take i lines ++ s ∷ []) (sym is)))
+      (running_push begin log new (take i lines) (drop (i + 1) lines) step x.0 comes (subst (λ s. IsPiece s log step x.0) same x.1) x.2)
 
 -- ---- the end
 
--- behind the last step no session has a statement half done
-pub all_rest : (schema : Schema) (log : List Entry) (waiting : ℕ → Option Started) (done : List Step) → Running schema log waiting done [] → (s : ℕ) → is_begun (entries_of s log) ≡ false
-all_rest schema log waiting done run s = run.begun s ∙ run.paired s
+-- after the last step no session has a statement half done
+pub all_rest : (begin : Begin) (log : List Entry) (done : List Step) → Running begin log done [] → (s : ℕ) → is_begun (entries_of s log) ≡ false
+all_rest begin log done run s = run.begun s ∙ run.paired s
 
 -- a script's steps can be run by a core with its sessions
 pub runnable_of : (script : Script) (sessions : List ℕ) → All (λ session. Contains sessions session) script.sessions → IsRunnable script → AreRunnable sessions script.lines
@@ -96,24 +93,31 @@ runnable_of script sessions known can = record {
   paired = can.paired;
 }
 
-pub scheduled_of : (script : Script) (first : Schema) (steps : List Step) (sessions : List ℕ) (events log : List Entry) (waiting : ℕ → Option Started) → first ≡ script.schema → steps ≡ script.lines
-    → sessions ≡ script.sessions → Running first events waiting steps [] → log ≡ events ++ map End sessions → Scheduled script log
-scheduled_of script first steps sessions events log waiting of_first of_steps of_sessions run is = (
+pub scheduled_of : (script : Script) (first : Schema) (steps : List Step) (sessions : List ℕ) (events log : List Entry) → first ≡ script.schema → steps ≡ script.lines
+    → sessions ≡ script.sessions → Running (begin_of first) events steps [] → log ≡ events ++ map End sessions → Scheduled script log
+scheduled_of script first steps sessions events log of_first of_steps of_sessions run is = (
   events,
-  subst (λ xs. ArePieces script.schema xs events) of_steps (subst (λ s. ArePieces s steps events) of_first run.pieces),
+  subst (λ xs. ArePieces (begin_of script.schema) [] xs events) of_steps (subst (λ s. ArePieces (begin_of s) [] steps events) of_first run.pieces),
   is ∙ ap (λ xs. events ++ map End xs) of_sessions,
 )
 
-pub front_of : (script : Script) (first : Schema) (steps : List Step) (log : List Entry) → first ≡ script.schema → steps ≡ script.lines → IsFrontRun first steps log → IsFrontRun script.schema script.lines log
-front_of script first steps log of_first of_steps x = (x.0, subst (λ xs. ArePieces script.schema (take x.0 xs) log) of_steps (subst (λ s. ArePieces s (take x.0 steps) log) of_first x.1))
+pub front_of : (script : Script) (first : Schema) (steps : List Step) (log : List Entry) → first ≡ script.schema → steps ≡ script.lines → IsFrontRun (begin_of first) steps log
+    → IsFrontRun (begin_of script.schema) script.lines log
+front_of script first steps log of_first of_steps x =
+    (x.0, subst (λ xs. ArePieces (begin_of script.schema) [] (take x.0 xs) log) of_steps (subst (λ s. ArePieces (begin_of s) [] (take x.0 steps) log) of_first x.1))
 
 -- ---- the log
 
-pub log_of : (script : Script) (schema : Schema) (log : List Entry) → IsRunnable script → schema ≡ script.schema → (m : State) × Legal schema log m → Scheduled script log → IsLogOf script log
-log_of script schema log can same legal x = record { state = legal.0; legal = subst (λ s. Legal s log legal.0) same legal.1; scheduled = x; turns = turns_of script log x.0 can x.1 x.2 }
+pub log_of : (script : Script) (schema : Schema) (log : List Entry) → IsRunnable script → schema ≡ script.schema → (m : State) × Legal (begin_of schema) log m → Scheduled script log → IsLogOf script log
+log_of script schema log can same legal x = record {
+  history = record { state = legal.0; legal = subst (λ s. Legal (begin_of s) log legal.0) same legal.1; turns = has_turns script log x.0 can x.1 x.2 };
+  scheduled = x;
+}
 
-pub front_log_of : (script : Script) (schema : Schema) (log : List Entry) → IsRunnable script → schema ≡ script.schema → (m : State) × Legal schema log m → IsFrontRun script.schema script.lines log → IsFrontLogOf script log
-front_log_of script schema log can same legal x = record { state = legal.0; legal = subst (λ s. Legal s log legal.0) same legal.1; lines = x.0; followed = x.1; turns = front_turns script x.0 log can x.1 }
+pub front_log_of : (script : Script) (schema : Schema) (log : List Entry) → IsRunnable script → schema ≡ script.schema → (m : State) × Legal (begin_of schema) log m → IsFrontRun (begin_of script.schema) script.lines log
+    → IsFrontLogOf script log
+front_log_of script schema log can same legal x =
+    record { state = legal.0; legal = subst (λ s. Legal (begin_of s) log legal.0) same legal.1; lines = x.0; followed = x.1; turns = has_front_turns script x.0 log can x.1 }
 
 pub on_ok : {T E : Type 0} (P Q : Type 0) (r : Result T E) → (P → Q) → OnOk r P → OnOk r Q
 on_ok P Q (Ok x) f h = f h

@@ -1,31 +1,37 @@
 -- A log that follows a script has each session's turns.
-use Rattle.std.proofs.Common.{◌≡◌, ℕ, zero, suc, List, [], ◌∷◌, ◌++◌, map, take, get_or, refl, sym, ap, subst, ◌∙◌, cond, Bool, true, false, arith, All, Contains, append_assoc}
+use Rattle.std.proofs.Common.{◌≡◌, ℕ, zero, suc, List, [], ◌∷◌, ◌++◌, length, map, take, get_or, refl, sym, ap, subst, ◌∙◌, cond, Bool, true, false, arith, All, Contains, append_assoc}
 use Rattle.std.proofs.lemmas.List.{append-nil}
-use Rattle.std.specs.Prelude.{◌==◌, None, Some}
+use Rattle.std.specs.Prelude.{◌==◌, ◌&&◌, None, Some}
 use Rattle.std.specs.List.{cons_option}
 use Rattle.std.proofs.lemmas.Bool.{eqb-true}
 use Rattle.std.proofs.lemmas.List.Elements.{filter-append, All-take}
-use Rattle.cs_types.specs.declared.Schema.{Schema}
 use Rattle.cs_model.specs.declared.entry.Entry.{Entry}
-use Rattle.cs_model.specs.declared.entry.Entry.TheVariants.{Finish, End}
+use Rattle.cs_model.specs.declared.entry.Entry.TheVariants.{Start, Finish, End, Mover}
 use Rattle.cs_model.specs.declared.entry.Reply.TheVariants.{Done}
-use Rattle.cs_model.specs.Actors.{actor_of, entries_of}
+use Rattle.cs_model.specs.Actors.{actor_of, is_turn, turns_of}
+use Rattle.cs_model.specs.State.{Begin, begin_of}
 use Rattle.script_reader.specs.declared.script.Script.{Script}
 use Rattle.script_reader.specs.declared.script.Step.{Step}
 use Rattle.script_reader.specs.declared.script.Step.TheVariants.{Whole, Begun, Finished}
 use Rattle.script_reader.specs.Scripts.{session_of, half_done, may_follow, ArePaired, IsRunnable}
-use Rattle.script_reader.specs.Schedule.{IsStart, IsFinishOf, IsPiece, ArePieces, texts_of, AreTurns, Turns, FrontTurns}
+use Rattle.script_reader.specs.Schedule.{IsStart, IsStartIn, IsFinishOf, ArePieces, texts_of, AreTurns, Turns, FrontTurns}
 use Rattle.script_reader.proofs.Halves.{half_same, half_other, half_empty}
 use Rattle.script_runner.specs.Logs.{first_lines}
-use Rattle.script_runner.proofs.Pieces.{Does, start_does, finish_does, follows}
+use Rattle.script_runner.proofs.Pieces.{Does, start_does, finish_does, follows, IsPlain, plain}
+use Rattle.script_runner.proofs.Meanings.{all_meant, whole_meant}
 use Rattle.script_runner.proofs.Sessions.{sessions_distinct}
 use Rattle.script_runner.proofs.Endings.{ends_one, ends_none, apart_all}
 
--- these entries are a session's turns; where it has a statement half done, the Finish of that comes first
-abbrev Turned : Schema → ℕ → List (List ℕ) → List Entry → Bool → Type 0
-Turned schema session texts entries false = AreTurns schema session texts entries
-Turned schema session texts entries true =
-    (b : Entry) × (others : List Entry) × (entries ≡ b ∷ others) × IsFinishOf session b × AreTurns schema session texts others
+-- these are the turns of so many statements of a session; where it has one half done, the Finish of that comes first
+abbrev Turned : ℕ → ℕ → List Entry → Bool → Type 0
+Turned session n turns false = AreTurns session n turns
+Turned session n turns true = (b : Entry) × (others : List Entry) × (turns ≡ b ∷ others) × IsFinishOf session b × AreTurns session n others
+
+start_in : (begin : Begin) (before : List Entry) (session : ℕ) (text : List ℕ) (e : Entry) → IsStart begin before session text e → IsStartIn session e
+start_in begin before session text (Start s b short) h = h.0
+start_in begin before session text (Finish s r) h = absurd h
+start_in begin before session text (End s) h = absurd h
+start_in begin before session text (Mover actor work) h = absurd h
 
 -- each of the steps may follow those before it
 abbrev Follow : List Step → List Step → Type 0
@@ -45,97 +51,107 @@ rests_paired : (session : ℕ) (before steps : List Step) → ArePaired before s
 rests_paired session before [] paired = ap (half_done session) (append-nil before) ∙ paired session
 rests_paired session before (step ∷ steps) paired = ap (half_done session) (sym (append_assoc before (step ∷ []) steps)) ∙ rests_paired session (before ++ step ∷ []) steps paired.1
 
--- rest are the entries that come behind those of the steps
-module _ (schema : Schema) (session : ℕ) (rest : List Entry) where
-  entry_in : (s : ℕ) (k : Bool) (e : Entry) (es : List Entry) (t : Bool) → Does s k e → (s == session) ≡ t → entries_of session (e ∷ es) ≡ cond t (e ∷ entries_of session es) (entries_of session es)
-  entry_in s k e es t d is = ap (λ b. cond b (e ∷ entries_of session es) (entries_of session es)) (ap (λ n. n == session) d.actor ∙ is)
+-- rest are the turns that come after those of the steps
+module _ (begin : Begin) (session : ℕ) (rest : List Entry) where
+  turn_in : (s : ℕ) (k : Bool) (e : Entry) (es : List Entry) (t : Bool) → Does s k e → (s == session) ≡ t → turns_of session (e ∷ es) ≡ cond t (e ∷ turns_of session es) (turns_of session es)
+  turn_in s k e es t d is =
+      ap (λ b. cond b (e ∷ turns_of session es) (turns_of session es)) (ap (λ u. u && (actor_of e == session)) d.turn ∙ ap (λ n. n == session) d.actor ∙ is)
+
+  -- how many texts the session has in these steps
+  abbrev texts : List Step → ℕ
+  texts lines = length (texts_of session lines)
 
   -- ---- a step of another session
 
-  no_entry : (step : Step) (piece others : List Entry) → (session_of step == session) ≡ false → IsPiece schema step piece → entries_of session (piece ++ others) ≡ entries_of session others
-  no_entry (Whole s text) piece others e p =
-      ap (λ es. entries_of session (es ++ others)) p.2
-      ∙ entry_in s true p.0 (p.1 ∷ others) false (start_does schema s text p.0 p.3) e ∙ entry_in s false p.1 others false (finish_does s p.1 p.4) e
-  no_entry (Begun s text) piece others e p = ap (λ es. entries_of session (es ++ others)) p.1 ∙ entry_in s true p.0 others false (start_does schema s text p.0 p.2) e
-  no_entry (Finished s) piece others e p = ap (λ es. entries_of session (es ++ others)) p.1 ∙ entry_in s false p.0 others false (finish_does s p.0 p.2) e
+  no_turn : (log : List Entry) (step : Step) (piece others : List Entry) → (session_of step == session) ≡ false → IsPlain begin log step piece → turns_of session (piece ++ others) ≡ turns_of session others
+  no_turn log (Whole s text) piece others e p =
+      ap (λ es. turns_of session (es ++ others)) p.2
+      ∙ turn_in s true p.0 (p.1 ∷ others) false (start_does begin log s text p.0 p.3) e ∙ turn_in s false p.1 others false (finish_does s p.1 p.4) e
+  no_turn log (Begun s text) piece others e p = ap (λ es. turns_of session (es ++ others)) p.1 ∙ turn_in s true p.0 others false (start_does begin log s text p.0 p.2) e
+  no_turn log (Finished s) piece others e p = ap (λ es. turns_of session (es ++ others)) p.1 ∙ turn_in s false p.0 others false (finish_does s p.0 p.2) e
 
-  no_text : (step : Step) (lines : List Step) → (session_of step == session) ≡ false → texts_of session (step ∷ lines) ≡ texts_of session lines
-  no_text (Whole s text) lines e = ap (λ b. cons_option (cond b (Some text) None) (texts_of session lines)) e
-  no_text (Begun s text) lines e = ap (λ b. cons_option (cond b (Some text) None) (texts_of session lines)) e
+  no_text : (step : Step) (lines : List Step) → (session_of step == session) ≡ false → texts (step ∷ lines) ≡ texts lines
+  no_text (Whole s text) lines e = ap (λ b. length (cons_option (cond b (Some text) None) (texts_of session lines))) e
+  no_text (Begun s text) lines e = ap (λ b. length (cons_option (cond b (Some text) None) (texts_of session lines))) e
   no_text (Finished s) lines e = refl
 
-  other_turn : (step : Step) (before lines : List Step) (piece others : List Entry) (t : Bool) → half_done session before ≡ t → (session_of step == session) ≡ false → IsPiece schema step piece
-      → ((u : Bool) → half_done session (before ++ step ∷ []) ≡ u → Turned schema session (texts_of session lines) (entries_of session others ++ rest) u)
-      → Turned schema session (texts_of session (step ∷ lines)) (entries_of session (piece ++ others) ++ rest) t
-  other_turn step before lines piece others t half e p next =
-      subst (λ texts. Turned schema session texts (entries_of session (piece ++ others) ++ rest) t) (sym (no_text step lines e))
-      (subst (λ es. Turned schema session (texts_of session lines) (es ++ rest) t) (sym (no_entry step piece others e p)) (next t (half_other session before step e ∙ half)))
+  other_turn : (log : List Entry) (step : Step) (before lines : List Step) (piece others : List Entry) (t : Bool) → half_done session before ≡ t → (session_of step == session) ≡ false → IsPlain begin log step piece
+      → ((u : Bool) → half_done session (before ++ step ∷ []) ≡ u → Turned session (texts lines) (turns_of session others ++ rest) u)
+      → Turned session (texts (step ∷ lines)) (turns_of session (piece ++ others) ++ rest) t
+  other_turn log step before lines piece others t half e p next =
+      subst (λ n. Turned session n (turns_of session (piece ++ others) ++ rest) t) (sym (no_text step lines e))
+      (subst (λ es. Turned session (texts lines) (es ++ rest) t) (sym (no_turn log step piece others e p)) (next t (half_other session before step e ∙ half)))
 
   -- ---- a step of the session
 
   half_is : (step : Step) (before : List Step) (t : Bool) → (session_of step == session) ≡ true → half_done (session_of step) before ≡ t → half_done session before ≡ t
   half_is step before t e half = ap (λ s. half_done s before) (sym (eqb-true (session_of step) session e)) ∙ half
 
-  its_turn : (step : Step) (before lines : List Step) (piece others : List Entry) (t : Bool) → half_done session before ≡ t → (session_of step == session) ≡ true → may_follow before step ≡ true → IsPiece schema step piece
-      → ((u : Bool) → half_done session (before ++ step ∷ []) ≡ u → Turned schema session (texts_of session lines) (entries_of session others ++ rest) u)
-      → Turned schema session (texts_of session (step ∷ lines)) (entries_of session (piece ++ others) ++ rest) t
-  its_turn (Whole s text) before lines piece others true half e may p next = let rests = half_is (Whole s text) before false e (follows before (Whole s text) may) in absurd (cc (half, rests))
-  its_turn (Whole s text) before lines piece others false half e may p next =
+  -- one text more
+  more_texts : (s : ℕ) (text : List ℕ) (lines : List Step) → (s == session) ≡ true → length (cons_option (cond (s == session) (Some text) None) (texts_of session lines)) ≡ suc (texts lines)
+  more_texts s text lines e = ap (λ b. length (cons_option (cond b (Some text) None) (texts_of session lines))) e
+
+  its_turn : (log : List Entry) (step : Step) (before lines : List Step) (piece others : List Entry) (t : Bool) → half_done session before ≡ t → (session_of step == session) ≡ true → may_follow before step ≡ true → IsPlain begin log step piece
+      → ((u : Bool) → half_done session (before ++ step ∷ []) ≡ u → Turned session (texts lines) (turns_of session others ++ rest) u)
+      → Turned session (texts (step ∷ lines)) (turns_of session (piece ++ others) ++ rest) t
+  its_turn log (Whole s text) before lines piece others true half e may p next = let rests = half_is (Whole s text) before false e (follows before (Whole s text) may) in absurd (cc (half, rests))
+  its_turn log (Whole s text) before lines piece others false half e may p next =
       let same : s ≡ session = eqb-true s session e in
-      let entries : entries_of session (piece ++ others) ≡ p.0 ∷ p.1 ∷ entries_of session others =
-      ap (λ es. entries_of session (es ++ others)) p.2
-      ∙ entry_in s true p.0 (p.1 ∷ others) true (start_does schema s text p.0 p.3) e
-      ∙ ap (λ es. p.0 ∷ es) (entry_in s false p.1 others true (finish_does s p.1 p.4) e) in
-      subst (λ texts. AreTurns schema session texts (entries_of session (piece ++ others) ++ rest)) (sym (ap (λ b. cons_option (cond b (Some text) None) (texts_of session lines)) e)) (
+      let turns : turns_of session (piece ++ others) ≡ p.0 ∷ p.1 ∷ turns_of session others =
+      ap (λ es. turns_of session (es ++ others)) p.2
+      ∙ turn_in s true p.0 (p.1 ∷ others) true (start_does begin log s text p.0 p.3) e
+      ∙ ap (λ es. p.0 ∷ es) (turn_in s false p.1 others true (finish_does s p.1 p.4) e) in
+      subst (λ n. AreTurns session n (turns_of session (piece ++ others) ++ rest)) (sym (more_texts s text lines e)) (
         p.0,
         p.1,
-        entries_of session others ++ rest,
-        ap (λ es. es ++ rest) entries,
-        subst (λ k. IsStart schema k text p.0) same p.3,
+        turns_of session others ++ rest,
+        ap (λ es. es ++ rest) turns,
+        subst (λ k. IsStartIn k p.0) same (start_in begin log s text p.0 p.3),
         subst (λ k. IsFinishOf k p.1) same p.4,
         next false (half_same session before (Whole s text) e),
       )
-  its_turn (Begun s text) before lines piece others true half e may p next = let rests = half_is (Begun s text) before false e (follows before (Begun s text) may) in absurd (cc (half, rests))
-  its_turn (Begun s text) before lines piece others false half e may p next =
+  its_turn log (Begun s text) before lines piece others true half e may p next = let rests = half_is (Begun s text) before false e (follows before (Begun s text) may) in absurd (cc (half, rests))
+  its_turn log (Begun s text) before lines piece others false half e may p next =
       let same : s ≡ session = eqb-true s session e in
-      let entries : entries_of session (piece ++ others) ≡ p.0 ∷ entries_of session others =
-      ap (λ es. entries_of session (es ++ others)) p.1 ∙ entry_in s true p.0 others true (start_does schema s text p.0 p.2) e in
+      let turns : turns_of session (piece ++ others) ≡ p.0 ∷ turns_of session others =
+      ap (λ es. turns_of session (es ++ others)) p.1 ∙ turn_in s true p.0 others true (start_does begin log s text p.0 p.2) e in
       let more = next true (half_same session before (Begun s text) e) in
-      subst (λ texts. AreTurns schema session texts (entries_of session (piece ++ others) ++ rest)) (sym (ap (λ b. cons_option (cond b (Some text) None) (texts_of session lines)) e)) (
+      subst (λ n. AreTurns session n (turns_of session (piece ++ others) ++ rest)) (sym (more_texts s text lines e)) (
         p.0,
         more.0,
         more.1,
-        ap (λ es. es ++ rest) entries ∙ ap (λ es. p.0 ∷ es) more.2,
-        subst (λ k. IsStart schema k text p.0) same p.2,
+        ap (λ es. es ++ rest) turns ∙ ap (λ es. p.0 ∷ es) more.2,
+        subst (λ k. IsStartIn k p.0) same (start_in begin log s text p.0 p.2),
         more.3,
         more.4,
       )
-  its_turn (Finished s) before lines piece others false half e may p next = let begun = half_is (Finished s) before true e may in absurd (cc (half, begun))
-  its_turn (Finished s) before lines piece others true half e may p next =
+  its_turn log (Finished s) before lines piece others false half e may p next = let begun = half_is (Finished s) before true e may in absurd (cc (half, begun))
+  its_turn log (Finished s) before lines piece others true half e may p next =
       let same : s ≡ session = eqb-true s session e in
-      let entries : entries_of session (piece ++ others) ≡ p.0 ∷ entries_of session others =
-      ap (λ es. entries_of session (es ++ others)) p.1 ∙ entry_in s false p.0 others true (finish_does s p.0 p.2) e in
-      (p.0, entries_of session others ++ rest, ap (λ es. es ++ rest) entries, subst (λ k. IsFinishOf k p.0) same p.2, next false (half_same session before (Finished s) e))
+      let turns : turns_of session (piece ++ others) ≡ p.0 ∷ turns_of session others =
+      ap (λ es. turns_of session (es ++ others)) p.1 ∙ turn_in s false p.0 others true (finish_does s p.0 p.2) e in
+      (p.0, turns_of session others ++ rest, ap (λ es. es ++ rest) turns, subst (λ k. IsFinishOf k p.0) same p.2, next false (half_same session before (Finished s) e))
 
-  one_turn : (step : Step) (before lines : List Step) (piece others : List Entry) (t mine : Bool) → half_done session before ≡ t → (session_of step == session) ≡ mine → may_follow before step ≡ true → IsPiece schema step piece
-      → ((u : Bool) → half_done session (before ++ step ∷ []) ≡ u → Turned schema session (texts_of session lines) (entries_of session others ++ rest) u)
-      → Turned schema session (texts_of session (step ∷ lines)) (entries_of session (piece ++ others) ++ rest) t
-  one_turn step before lines piece others t true half e may p next = its_turn step before lines piece others t half e may p next
-  one_turn step before lines piece others t false half e may p next = other_turn step before lines piece others t half e p next
+  one_turn : (log : List Entry) (step : Step) (before lines : List Step) (piece others : List Entry) (t mine : Bool) → half_done session before ≡ t → (session_of step == session) ≡ mine → may_follow before step ≡ true → IsPlain begin log step piece
+      → ((u : Bool) → half_done session (before ++ step ∷ []) ≡ u → Turned session (texts lines) (turns_of session others ++ rest) u)
+      → Turned session (texts (step ∷ lines)) (turns_of session (piece ++ others) ++ rest) t
+  one_turn log step before lines piece others t true half e may p next = its_turn log step before lines piece others t half e may p next
+  one_turn log step before lines piece others t false half e may p next = other_turn log step before lines piece others t half e p next
 
-  turned : (lines before : List Step) (events : List Entry) → Follow before lines → ArePieces schema lines events → ((u : Bool) → half_done session (before ++ lines) ≡ u → Turned schema session [] rest u)
-      → (t : Bool) → half_done session before ≡ t → Turned schema session (texts_of session lines) (entries_of session events ++ rest) t
-  turned [] before events follow is last t half =
-      subst (λ es. Turned schema session [] (es ++ rest) t) (sym (ap (entries_of session) is)) (last t (ap (half_done session) (append-nil before) ∙ half))
-  turned (step ∷ lines) before events follow is last t half =
-      subst (λ es. Turned schema session (texts_of session (step ∷ lines)) (entries_of session es ++ rest) t) (sym is.2)
-      (one_turn step before lines is.0 is.1 t (session_of step == session) half refl follow.0 is.3
-      (turned lines (before ++ step ∷ []) is.1 follow.1 is.4 (λ u h. last u (ap (half_done session) (sym (append_assoc before (step ∷ []) lines)) ∙ h))))
+  turned : (lines before : List Step) (log events : List Entry) → Follow before lines → ArePieces begin log lines events → ((u : Bool) → half_done session (before ++ lines) ≡ u → Turned session 0 rest u)
+      → (t : Bool) → half_done session before ≡ t → Turned session (texts lines) (turns_of session events ++ rest) t
+  turned [] before log events follow is last t half =
+      subst (λ es. Turned session 0 (es ++ rest) t) (sym (ap (turns_of session) is)) (last t (ap (half_done session) (append-nil before) ∙ half))
+  turned (step ∷ lines) before log events follow is last t half =
+      subst (λ es. Turned session (texts (step ∷ lines)) (turns_of session es ++ rest) t) (sym is.2)
+      (one_turn log step before lines is.0 is.1 t (session_of step == session) half refl follow.0 (plain begin log step is.0 is.3)
+      (turned lines (before ++ step ∷ []) (log ++ is.0) is.1 follow.1 is.4 (λ u h. last u (ap (half_done session) (sym (append_assoc before (step ∷ []) lines)) ∙ h))))
 
-  none_in : (lines : List Step) (events : List Entry) → All (λ step. (session_of step == session) ≡ false) lines → ArePieces schema lines events → entries_of session events ≡ []
-  none_in [] events all is = ap (entries_of session) is
-  none_in (step ∷ lines) events all is =
-      ap (entries_of session) is.2 ∙ no_entry step is.0 is.1 (all 0 step (omega arith)) is.3 ∙ none_in lines is.1 (λ k d lt. all (suc k) d (omega (arith, lt))) is.4
+  none_in : (lines : List Step) (log events : List Entry) → All (λ step. (session_of step == session) ≡ false) lines → ArePieces begin log lines events → turns_of session events ≡ []
+  none_in [] log events all is = ap (turns_of session) is
+  none_in (step ∷ lines) log events all is =
+      ap (turns_of session) is.2 ∙ no_turn log step is.0 is.1 (all 0 step (omega arith)) (plain begin log step is.0 is.3)
+      ∙ none_in lines (log ++ is.0) is.1 (λ k d lt. all (suc k) d (omega (arith, lt))) is.4
 
 -- ---- the whole log
 
@@ -148,50 +164,52 @@ module _ (script : Script) (can : IsRunnable script) (session : ℕ) where
   unnamed : (Contains script.sessions session → ⊥) → All (λ step. (session_of step == session) ≡ false) script.lines
   unnamed has_not = λ k d lt. let step = get_or script.lines k d in let is_in = can.range k d lt in named (session_of step) (session_of step == session) has_not is_in.2 refl
 
-  all_turned : (events : List Entry) → ArePieces script.schema script.lines events → AreTurns script.schema session (texts_of session script.lines) (entries_of session events ++ End session ∷ [])
-  all_turned events pieces = turned script.schema session (End session ∷ []) script.lines [] events (follow_paired [] script.lines can.paired) pieces last false (half_empty session)
+  all_turned : (events : List Entry) → ArePieces (begin_of script.schema) [] script.lines events → AreTurns session (length (texts_of session script.lines)) (turns_of session events ++ End session ∷ [])
+  all_turned events pieces = turned (begin_of script.schema) session (End session ∷ []) script.lines [] [] events (follow_paired [] script.lines can.paired) pieces last false (half_empty session)
     where
-      last : (u : Bool) → half_done session script.lines ≡ u → Turned script.schema session [] (End session ∷ []) u
+      last : (u : Bool) → half_done session script.lines ≡ u → Turned session 0 (End session ∷ []) u
       last true h = let rests = rests_paired session [] script.lines can.paired in absurd (cc (h, rests))
       last false h = refl
 
-  -- the entries that are left behind these steps, if no other step comes
+  -- the turns that are left after these steps, if no other step comes
   abbrev left : Bool → List Entry
   left true = Finish session Done ∷ End session ∷ []
   left false = End session ∷ []
 
-  front_turned : (n : ℕ) (events : List Entry) → ArePieces script.schema (take n script.lines) events
-      → (rest : List Entry) × AreTurns script.schema session (texts_of session (take n script.lines)) (entries_of session events ++ rest)
+  front_turned : (n : ℕ) (events : List Entry) → ArePieces (begin_of script.schema) [] (take n script.lines) events
+      → (rest : List Entry) × AreTurns session (length (texts_of session (take n script.lines))) (turns_of session events ++ rest)
   front_turned n events pieces = (
     left (half_done session (take n script.lines)),
-    turned script.schema session (left (half_done session (take n script.lines))) (take n script.lines) [] events (follow_take n [] script.lines (follow_paired [] script.lines can.paired)) pieces last false
+    turned (begin_of script.schema) session (left (half_done session (take n script.lines))) (take n script.lines) [] [] events (follow_take n [] script.lines (follow_paired [] script.lines can.paired)) pieces last false
         (half_empty session),
   )
     where
-      at : (u : Bool) → Turned script.schema session [] (left u) u
+      at : (u : Bool) → Turned session 0 (left u) u
       at true = (Finish session Done, End session ∷ [], refl, refl, refl)
       at false = refl
 
-      last : (u : Bool) → half_done session (take n script.lines) ≡ u → Turned script.schema session [] (left (half_done session (take n script.lines))) u
-      last u h = subst (λ k. Turned script.schema session [] (left k) u) (sym h) (at u)
+      last : (u : Bool) → half_done session (take n script.lines) ≡ u → Turned session 0 (left (half_done session (take n script.lines))) u
+      last u h = subst (λ k. Turned session 0 (left k) u) (sym h) (at u)
 
-pub turns_of : (script : Script) (log events : List Entry) → IsRunnable script → ArePieces script.schema script.lines events → log ≡ events ++ map End script.sessions → Turns script log
-turns_of script log events can pieces is = record {
+pub has_turns : (script : Script) (log events : List Entry) → IsRunnable script → ArePieces (begin_of script.schema) [] script.lines events → log ≡ events ++ map End script.sessions → Turns script log
+has_turns script log events can pieces is = record {
   each = λ session has.
-      subst (λ es. AreTurns script.schema session (texts_of session script.lines) es)
-      (sym (split session ∙ ap (λ es. entries_of session events ++ es) (ends_one session script.sessions (sessions_distinct script can) has)))
+      subst (λ es. AreTurns session (length (texts_of session script.lines)) es)
+      (sym (split session ∙ ap (λ es. turns_of session events ++ es) (ends_one session script.sessions (sessions_distinct script can) has)))
       (all_turned script can session events pieces);
   none = λ session has_not.
-      split session ∙ ap (λ es. es ++ entries_of session (map End script.sessions)) (none_in script.schema session [] script.lines events (unnamed script can session has_not) pieces)
+      split session ∙ ap (λ es. es ++ turns_of session (map End script.sessions)) (none_in (begin_of script.schema) session [] script.lines [] events (unnamed script can session has_not) pieces)
       ∙ ends_none session script.sessions (apart_all session script.sessions has_not);
+  meant = whole_meant (begin_of script.schema) script.lines events log script.sessions pieces is;
 }
   where
-    split : (session : ℕ) → entries_of session log ≡ entries_of session events ++ entries_of session (map End script.sessions)
-    split session = ap (entries_of session) is ∙ filter-append (λ entry. actor_of entry == session) events (map End script.sessions)
+    split : (session : ℕ) → turns_of session log ≡ turns_of session events ++ turns_of session (map End script.sessions)
+    split session = ap (turns_of session) is ∙ filter-append (λ entry. is_turn entry && (actor_of entry == session)) events (map End script.sessions)
 
-pub front_turns : (script : Script) (n : ℕ) (log : List Entry) → IsRunnable script → ArePieces script.schema (take n script.lines) log → FrontTurns (first_lines n script) log
-front_turns script n log can pieces = record {
+pub has_front_turns : (script : Script) (n : ℕ) (log : List Entry) → IsRunnable script → ArePieces (begin_of script.schema) [] (take n script.lines) log → FrontTurns (first_lines n script) log
+has_front_turns script n log can pieces = record {
   each = λ session has. front_turned script can session n log pieces;
   none = λ session has_not.
-      none_in script.schema session [] (take n script.lines) log (All-take (λ step. (session_of step == session) ≡ false) n script.lines (unnamed script can session has_not)) pieces;
+      none_in (begin_of script.schema) session [] (take n script.lines) [] log (All-take (λ step. (session_of step == session) ≡ false) n script.lines (unnamed script can session has_not)) pieces;
+  meant = all_meant (begin_of script.schema) (take n script.lines) log pieces;
 }

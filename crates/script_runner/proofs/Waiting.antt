@@ -1,15 +1,16 @@
 -- What was started stands ready, one entry more.
 use Rattle.std.proofs.Common.{◌≡◌, ℕ, List, [], ◌∷◌, ◌++◌, refl, sym, ap, subst, ◌∙◌, cond, Bool, true, false, arith}
-use Rattle.std.specs.Prelude.{Option, None, Some, ◌==◌}
+use Rattle.std.specs.Prelude.{Option, None, Some, ◌==◌, ◌&&◌}
 use Rattle.std.proofs.lemmas.Bool.Decides.{nat_tests}
-use Rattle.cs_types.specs.declared.Schema.{Schema}
 use Rattle.cs_model.specs.declared.entry.Bound.{Bound}
 use Rattle.cs_model.specs.declared.entry.Reply.{Reply}
 use Rattle.cs_model.specs.declared.entry.Entry.{Entry}
-use Rattle.cs_model.specs.declared.entry.Entry.TheVariants.{Start, Finish, End}
-use Rattle.cs_model.specs.State.{with}
-use Rattle.cs_model.specs.Actors.{actor_of, entries_of, begun_by, is_begun}
+use Rattle.cs_model.specs.declared.entry.Entry.TheVariants.{Start, Finish, End, Mover}
+use Rattle.cs_types.specs.declared.Schema.{Schema}
+use Rattle.cs_model.specs.State.{Begin, begin_of, with}
+use Rattle.cs_model.specs.Actors.{actor_of, is_turn, entries_of, begun_by, is_begun}
 use Rattle.cs_model.specs.Held.{IsFitTable}
+use Rattle.cs_model.specs.Ready.{IsReady}
 use Rattle.log_laws.specs.Started.{IsStarted}
 use Rattle.log_laws.proofs.StartedOn.{started_on}
 use Rattle.statement_core.specs.declared.started.Started.{Started}
@@ -20,38 +21,42 @@ use Rattle.script_reader.specs.Schedule.{IsBound, IsStart, IsFinishOf}
 use Rattle.script_runner.specs.Running.{IsWaiting, Waits}
 use Rattle.script_runner.proofs.Pieces.{Does, begun_after, finish_does}
 
-waiting_on : (schema : Schema) (log : List Entry) (e : Entry) (s : ℕ) (o : Option Started) → (actor_of e == s) ≡ false → IsWaiting schema log s o → IsWaiting schema (log ++ e ∷ []) s o
-waiting_on schema log e s None other k = k
-waiting_on schema log e s (Some started) other k = (started_on schema log e s started.bound.value started.short started.rows.entries other k.0, k.1)
+and_false : (b : Bool) → (b && false) ≡ false
+and_false true = refl
+and_false false = refl
+
+waiting_on : (begin : Begin) (log : List Entry) (e : Entry) (s : ℕ) (o : Option Started) → (actor_of e == s) ≡ false → IsWaiting begin log s o → IsWaiting begin (log ++ e ∷ []) s o
+waiting_on begin log e s None other k = k
+waiting_on begin log e s (Some started) other k =
+    (started_on begin log e s started.bound.value started.short started.rows.entries (ap (λ b. is_turn e && b) other ∙ and_false (is_turn e)) k.0, k.1, k.2)
 
 -- another session's statement waits as before
-others_wait : (schema : Schema) (log : List Entry) (e : Entry) (n s : ℕ) (o o' : Option Started) (waiting : ℕ → Option Started) → (n == s) ≡ false → actor_of e ≡ n → waiting s ≡ o → o' ≡ o
-    → Waits schema log waiting → is_begun (entries_of s (log ++ e ∷ [])) ≡ true → IsWaiting schema (log ++ e ∷ []) s o'
-others_wait schema log e n s o o' waiting other actor at_s is waits begun =
+others_wait : (begin : Begin) (log : List Entry) (e : Entry) (n s : ℕ) (o o' : Option Started) (waiting : ℕ → Option Started) → (n == s) ≡ false → actor_of e ≡ n → waiting s ≡ o → o' ≡ o
+    → Waits begin log waiting → is_begun (entries_of s (log ++ e ∷ [])) ≡ true → IsWaiting begin (log ++ e ∷ []) s o'
+others_wait begin log e n s o o' waiting other actor at_s is waits begun =
     let apart : (actor_of e == s) ≡ false = ap (λ k. k == s) actor ∙ other in
     let was : is_begun (entries_of s log) ≡ true = sym (begun_after log e s ∙ ap (λ t. cond t (begun_by (is_begun (entries_of s log)) e) (is_begun (entries_of s log))) apart) ∙ begun in
-    subst (λ x. IsWaiting schema (log ++ e ∷ []) s x) (at_s ∙ sym is) (waiting_on schema log e s (waiting s) apart (waits s was))
+    subst (λ x. IsWaiting begin (log ++ e ∷ []) s x) (at_s ∙ sym is) (waiting_on begin log e s (waiting s) apart (waits s was))
 
-waits_start : (schema : Schema) (log : List Entry) (e : Entry) (n : ℕ) (waiting after : ℕ → Option Started) (started : Started) → Waits schema log waiting → Does n true e
-    → IsStarted schema (log ++ e ∷ []) n started.bound.value started.short started.rows.entries → IsFitTable schema started.rows.entries
-    → after ≡ with waiting n (Some started) → Waits schema (log ++ e ∷ []) after
-waits_start schema log e n waiting after started waits d is fit put = λ s begun. at s (s == n) refl begun
+waits_start : (begin : Begin) (log : List Entry) (e : Entry) (n : ℕ) (waiting after : ℕ → Option Started) (started : Started) → Waits begin log waiting → Does n true e
+    → IsWaiting begin (log ++ e ∷ []) n (Some started) → after ≡ with waiting n (Some started) → Waits begin (log ++ e ∷ []) after
+waits_start begin log e n waiting after started waits d is put = λ s begun. at s (s == n) refl begun
   where
-    at : (s : ℕ) (t : Bool) → (s == n) ≡ t → is_begun (entries_of s (log ++ e ∷ [])) ≡ true → IsWaiting schema (log ++ e ∷ []) s (after s)
+    at : (s : ℕ) (t : Bool) → (s == n) ≡ t → is_begun (entries_of s (log ++ e ∷ [])) ≡ true → IsWaiting begin (log ++ e ∷ []) s (after s)
     at s true t begun =
         let same : n ≡ s = grind (arith, nat_tests) in
         let has : after s ≡ Some started = (λ i. put i s) ∙ ap (λ b. cond b (Some started) (waiting s)) t in
-        subst (λ o. IsWaiting schema (log ++ e ∷ []) s o) (sym has) (subst (λ k. IsStarted schema (log ++ e ∷ []) k started.bound.value started.short started.rows.entries) same is, fit)
+        subst (λ o. IsWaiting begin (log ++ e ∷ []) s o) (sym has) (subst (λ k. IsWaiting begin (log ++ e ∷ []) k (Some started)) same is)
     at s false t begun =
         let other : (n == s) ≡ false = grind (arith, nat_tests) in
         let has : after s ≡ waiting s = (λ i. put i s) ∙ ap (λ b. cond b (Some started) (waiting s)) t in
-        others_wait schema log e n s (waiting s) (after s) waiting other d.actor refl has waits begun
+        others_wait begin log e n s (waiting s) (after s) waiting other d.actor refl has waits begun
 
-waits_finish : (schema : Schema) (log : List Entry) (e : Entry) (n : ℕ) (waiting after : ℕ → Option Started) → Waits schema log waiting → Does n false e
-    → after ≡ with waiting n None → Waits schema (log ++ e ∷ []) after
-waits_finish schema log e n waiting after waits d put = λ s begun. at s (s == n) refl begun
+waits_finish : (begin : Begin) (log : List Entry) (e : Entry) (n : ℕ) (waiting after : ℕ → Option Started) → Waits begin log waiting → Does n false e
+    → after ≡ with waiting n None → Waits begin (log ++ e ∷ []) after
+waits_finish begin log e n waiting after waits d put = λ s begun. at s (s == n) refl begun
   where
-    at : (s : ℕ) (t : Bool) → (s == n) ≡ t → is_begun (entries_of s (log ++ e ∷ [])) ≡ true → IsWaiting schema (log ++ e ∷ []) s (after s)
+    at : (s : ℕ) (t : Bool) → (s == n) ≡ t → is_begun (entries_of s (log ++ e ∷ [])) ≡ true → IsWaiting begin (log ++ e ∷ []) s (after s)
     at s true t begun =
         let same : (n == s) ≡ true = grind (arith, nat_tests) in
         let its : (actor_of e == s) ≡ true = ap (λ k. k == s) d.actor ∙ same in
@@ -60,52 +65,69 @@ waits_finish schema log e n waiting after waits d put = λ s begun. at s (s == n
     at s false t begun =
         let other : (n == s) ≡ false = grind (arith, nat_tests) in
         let has : after s ≡ waiting s = (λ i. put i s) ∙ ap (λ b. cond b None (waiting s)) t in
-        others_wait schema log e n s (waiting s) (after s) waiting other d.actor refl has waits begun
+        others_wait begin log e n s (waiting s) (after s) waiting other d.actor refl has waits begun
 
 -- ---- a Start
 
 start_of_does : (session : ℕ) (b : Bound) (short : Bool) (e : Entry) → IsStartOf session b short e → Does session true e
-start_of_does session b short (Start s bound why) h = record { actor = h.0; begun = λ before. refl; going = refl }
+start_of_does session b short (Start s bound why) h = record { actor = h.0; turn = refl; begun = λ before. refl; going = refl }
 start_of_does session b short (Finish s r) h = absurd h
 start_of_does session b short (End s) h = absurd h
+start_of_does session b short (Mover actor work) h = absurd h
 
-start_is : (schema : Schema) (session : ℕ) (text : List ℕ) (b : Bound) (short : Bool) (e : Entry) → IsStartOf session b short e → IsBound schema text b → IsStart schema session text e
-start_is schema session text b short (Start s bound why) h means = (h.0, subst (IsBound schema text) (sym h.1) means)
-start_is schema session text b short (Finish s r) h means = absurd h
-start_is schema session text b short (End s) h means = absurd h
+start_is : (begin : Begin) (log : List Entry) (session : ℕ) (text : List ℕ) (b : Bound) (short : Bool) (e : Entry) → IsStartOf session b short e → IsBound begin.schema text b → IsStart begin log session text e
+start_is begin log session text b short (Start s bound why) h means = (h.0, λ m l. subst (IsBound begin.schema text) (sym h.1) means)
+start_is begin log session text b short (Finish s r) h means = absurd h
+start_is begin log session text b short (End s) h means = absurd h
+start_is begin log session text b short (Mover actor work) h means = absurd h
 
 -- the Start of a statement that is bound to what its text means
-pub begun_is : (schema : Schema) (log new : List Entry) (session : ℕ) (text : List ℕ) (b : Bound) (short : Bool) → (e : Entry) × (new ≡ log ++ e ∷ []) × IsStartOf session b short e → IsBound schema text b
-    → (e : Entry) × (new ≡ log ++ e ∷ []) × IsStart schema session text e
-begun_is schema log new session text b short x means = (x.0, x.1, start_is schema session text b short x.0 x.2 means)
+pub begun_is : (begin : Begin) (log new : List Entry) (session : ℕ) (text : List ℕ) (b : Bound) (short : Bool) → (e : Entry) × (new ≡ log ++ e ∷ []) × IsStartOf session b short e → IsBound begin.schema text b
+    → (e : Entry) × (new ≡ log ++ e ∷ []) × IsStart begin log session text e
+begun_is begin log new session text b short x means = (x.0, x.1, start_is begin log session text b short x.0 x.2 means)
 
-pub waits_begun : (schema now : Schema) (log new : List Entry) (n : ℕ) (b : Bound) (waiting after : ℕ → Option Started) (started : Started) → Waits schema log waiting → now ≡ schema
-    → (e : Entry) × (new ≡ log ++ e ∷ []) × IsStartOf n b started.short e → IsStarted now new n started.bound.value started.short started.rows.entries → IsFitTable now started.rows.entries
-    → after ≡ with waiting n (Some started) → Waits schema new after
-waits_begun schema now log new n b waiting after started waits same x is fit put =
-    subst (λ es. Waits schema es after) (sym x.1)
-    (waits_start schema log x.0 n waiting after started waits (start_of_does n b started.short x.0 x.2)
-    (subst (λ es. IsStarted schema es n started.bound.value started.short started.rows.entries) x.1 (subst (λ k. IsStarted k new n started.bound.value started.short started.rows.entries) same is))
-    (subst (λ k. IsFitTable k started.rows.entries) same fit) put)
+pub waits_begun : (schema now : Schema) (log new : List Entry) (n : ℕ) (b : Bound) (waiting after : ℕ → Option Started) (started : Started) → Waits (begin_of schema) log waiting → now ≡ schema
+    → (e : Entry) × (new ≡ log ++ e ∷ []) × IsStartOf n b started.short e → IsStarted (begin_of now) new n started.bound.value started.short started.rows.entries → IsFitTable now started.rows.entries
+    → started.bound.value ≡ b → IsReady schema b → after ≡ with waiting n (Some started) → Waits (begin_of schema) new after
+waits_begun schema now log new n b waiting after started waits same x is fit bound ready put =
+    subst (λ es. Waits (begin_of schema) es after) (sym x.1)
+    (waits_start (begin_of schema) log x.0 n waiting after started waits (start_of_does n b started.short x.0 x.2)
+    (subst (λ es. IsWaiting (begin_of schema) es n (Some started)) x.1
+    (subst (λ k. IsWaiting (begin_of k) new n (Some started)) same (is, fit, subst (λ k. IsReady k started.bound.value) (sym same) (subst (IsReady schema) (sym bound) ready)))) put)
 
 -- ---- a Finish
 
 pub finished_is : (log new : List Entry) (session : ℕ) → (r : Reply) × (new ≡ log ++ Finish session r ∷ []) → (e : Entry) × (new ≡ log ++ e ∷ []) × IsFinishOf session e
 finished_is log new session x = (Finish session x.0, x.1, refl)
 
-pub waits_finished : (schema : Schema) (log new : List Entry) (n : ℕ) (waiting after : ℕ → Option Started) → Waits schema log waiting → (r : Reply) × (new ≡ log ++ Finish n r ∷ [])
-    → after ≡ with waiting n None → Waits schema new after
-waits_finished schema log new n waiting after waits x put =
-    subst (λ es. Waits schema es after) (sym x.1) (waits_finish schema log (Finish n x.0) n waiting after waits (finish_does n (Finish n x.0) refl) put)
-
-pub none_waits : (schema : Schema) (log : List Entry) (waiting : ℕ → Option Started) (s : ℕ) → Waits schema log waiting → is_begun (entries_of s log) ≡ true → waiting s ≡ None → ⊥
-none_waits schema log waiting s waits begun e = subst (λ o. IsWaiting schema log s o) e (waits s begun)
+pub waits_finished : (begin : Begin) (log new : List Entry) (n : ℕ) (waiting after : ℕ → Option Started) → Waits begin log waiting → (r : Reply) × (new ≡ log ++ Finish n r ∷ [])
+    → after ≡ with waiting n None → Waits begin new after
+waits_finished begin log new n waiting after waits x put =
+    subst (λ es. Waits begin es after) (sym x.1) (waits_finish begin log (Finish n x.0) n waiting after waits (finish_does n (Finish n x.0) refl) put)
 
 -- what waits in the seat of a session that has begun a statement
-pub waits_there : (schema : Schema) (log : List Entry) (waiting : ℕ → Option Started) (s : ℕ) (started : Started) → Waits schema log waiting → is_begun (entries_of s log) ≡ true → waiting s ≡ Some started
-    → IsWaiting schema log s (Some started)
-waits_there schema log waiting s started waits begun e = subst (λ o. IsWaiting schema log s o) e (waits s begun)
+pub waits_there : (begin : Begin) (log : List Entry) (waiting : ℕ → Option Started) (s : ℕ) (started : Started) → Waits begin log waiting → is_begun (entries_of s log) ≡ true → waiting s ≡ Some started
+    → IsWaiting begin log s (Some started)
+waits_there begin log waiting s started waits begun e = subst (λ o. IsWaiting begin log s o) e (waits s begun)
 
-pub waiting_done : (schema : Schema) (log : List Entry) (s : ℕ) (started : Started) (o : Outcome) → IsWaiting schema log s (Some started)
-    → GivesOn schema started.bound.value started.short started.rows.entries o → IsDone schema log s o
-waiting_done schema log s started o w g = record { bound = started.bound.value; short = started.short; rows = started.rows.entries; started = w.0; gives = g }
+pub waiting_done : (begin : Begin) (log : List Entry) (s : ℕ) (started : Started) (o : Outcome) → IsWaiting begin log s (Some started)
+    → GivesOn begin.schema started.bound.value started.short started.rows.entries o → IsDone begin log s o
+waiting_done begin log s started o w g = record { bound = started.bound.value; short = started.short; rows = started.rows.entries; started = w.0; gives = g }
+
+-- ---- no statement half done, and an End
+
+pub waits_first : (begin : Begin) (log : List Entry) (waiting : ℕ → Option Started) → log ≡ [] → Waits begin log waiting
+waits_first begin log waiting e = λ s begun. let none : is_begun (entries_of s log) ≡ false = ap (λ es. is_begun (entries_of s es)) e in absurd (cc (none, begun))
+
+-- no Start was made
+pub waits_same : (begin : Begin) (log new : List Entry) (waiting after : ℕ → Option Started) → Waits begin log waiting → new ≡ log → after ≡ waiting → Waits begin new after
+waits_same begin log new waiting after waits is same = subst (λ es. Waits begin es after) (sym is) (subst (Waits begin log) (sym same) waits)
+
+pub waits_end : (begin : Begin) (log new : List Entry) (n : ℕ) (waiting : ℕ → Option Started) → Waits begin log waiting → new ≡ log ++ End n ∷ [] → Waits begin new waiting
+waits_end begin log new n waiting waits is = subst (λ es. Waits begin es waiting) (sym is) (λ s begun. at s (n == s) refl begun)
+  where
+    at : (s : ℕ) (t : Bool) → (n == s) ≡ t → is_begun (entries_of s (log ++ End n ∷ [])) ≡ true → IsWaiting begin (log ++ End n ∷ []) s (waiting s)
+    at s true t begun =
+        let none : is_begun (entries_of s (log ++ End n ∷ [])) ≡ false = begun_after log (End n) s ∙ ap (λ b. cond b false (is_begun (entries_of s log))) t in
+        absurd (cc (none, begun))
+    at s false t begun = others_wait begin log (End n) n s (waiting s) (waiting s) waiting t refl refl refl waits begun

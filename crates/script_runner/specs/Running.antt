@@ -1,9 +1,10 @@
 -- A run of a script's steps so far.
 use Rattle.std.specs.Prelude.{◌≡◌, ◌≤◌, ◌<◌, ℕ, List, [], ◌++◌, length, map, take, All, Contains, Bool, true, false, Option, None, Some}
-use Rattle.cs_types.specs.declared.Schema.{Schema}
 use Rattle.cs_model.specs.declared.entry.Entry.{Entry}
 use Rattle.cs_model.specs.declared.entry.Entry.TheVariants.{End}
 use Rattle.cs_model.specs.Actors.{entries_of, is_begun, has_ended}
+use Rattle.cs_model.specs.State.{Begin}
+use Rattle.cs_model.specs.Ready.{IsReady}
 use Rattle.cs_model.specs.Held.{IsFitTable}
 use Rattle.log_laws.specs.Laws.{AreDistinct}
 use Rattle.log_laws.specs.Started.{IsStarted}
@@ -14,14 +15,14 @@ use Rattle.script_reader.specs.Schedule.{ArePieces}
 use Rattle.statement_core.specs.declared.started.Started.{Started}
 
 -- what a session has started is known to be so
-abbrev pub IsWaiting : Schema → List Entry → ℕ → Option Started → Type 0
-IsWaiting schema log session None = ⊥
-IsWaiting schema log session (Some started) =
-    IsStarted schema log session started.bound.value started.short started.rows.entries × IsFitTable schema started.rows.entries
+abbrev pub IsWaiting : Begin → List Entry → ℕ → Option Started → Type 0
+IsWaiting begin log session None = ⊥
+IsWaiting begin log session (Some started) =
+    IsStarted begin log session started.bound.value started.short started.rows.entries × IsFitTable begin.schema started.rows.entries × IsReady begin.schema started.bound.value
 
 -- what was started stands ready for each statement that is half done
-abbrev pub Waits : Schema → List Entry → (ℕ → Option Started) → Type 0
-Waits schema log waiting = (session : ℕ) → is_begun (entries_of session log) ≡ true → IsWaiting schema log session (waiting session)
+abbrev pub Waits : Begin → List Entry → (ℕ → Option Started) → Type 0
+Waits begin log waiting = (session : ℕ) → is_begun (entries_of session log) ≡ true → IsWaiting begin log session (waiting session)
 
 -- whether a step finishes a statement that was started before it
 abbrev pub finishes : Step → Bool
@@ -36,16 +37,15 @@ pub record AreRunnable (sessions : List ℕ) (steps : List Step) : Type 0 where
   pub paired : ArePaired [] steps
 
 -- the steps done have their pieces in the log, and those left may follow
-pub record Running (schema : Schema) (log : List Entry) (waiting : ℕ → Option Started) (done left : List Step) : Type 0 where
-  pub pieces : ArePieces schema done log
-  pub waits : Waits schema log waiting
+pub record Running (begin : Begin) (log : List Entry) (done left : List Step) : Type 0 where
+  pub pieces : ArePieces begin [] done log
   pub begun : (session : ℕ) → is_begun (entries_of session log) ≡ half_done session done
   pub going : (session : ℕ) → has_ended (entries_of session log) ≡ false
   pub paired : ArePaired done left
 
 -- the log follows the first of these steps
-abbrev pub IsFrontRun : Schema → List Step → List Entry → Type 0
-IsFrontRun schema steps log = (n : ℕ) × ArePieces schema (take n steps) log
+abbrev pub IsFrontRun : Begin → List Step → List Entry → Type 0
+IsFrontRun begin steps log = (n : ℕ) × ArePieces begin [] (take n steps) log
 
 -- the Ends of the first of these sessions came behind the first log
 pub record Ending (first now : List Entry) (done left : List ℕ) : Type 0 where

@@ -2,10 +2,13 @@
 //!
 //! Its one contract: `run_schedule` gives a log that is legal from the empty state, follows the script line by line, and has
 //! each session's statements once and in order, with its End. Where memory gives out, the log is legal too and is that of
-//! the lines before. It stands on `statement_core` for the events, on `script_reader` for the steps, and on `tsql_binder`
-//! for what their texts mean.
+//! the lines before. It is a loop over a `Runner`, whose calls make the events of one step and the End of one session. It
+//! stands on `statement_core` for the events, on `script_reader` for the steps, and on `tsql_binder` for what their texts
+//! mean.
 #![tactic(auto)]
 
 mod run;
+mod runner;
 
 pub use run::run_schedule;
+pub use runner::Runner;

@@ -1,5 +1,5 @@
 -- What an event leaves fits the table, and its reply can be printed.
-use Rattle.std.proofs.Common.{◌≡◌, ℕ, List, [], ◌∷◌, ◌++◌, sym, subst, inl, inr, ◌⊎◌, Bool, true, false, cond, All, Option, None, Some, nat_lt, nat_le, ◌+◌, ◌-◌}
+use Rattle.std.proofs.Common.{◌≡◌, ℕ, List, [], ◌∷◌, ◌++◌, refl, sym, subst, inl, inr, ◌⊎◌, Bool, true, false, cond, All, Option, None, Some, nat_lt, nat_le, ◌+◌, ◌-◌}
 use Rattle.std.specs.Prelude.{◌==◌}
 use Rattle.std.specs.declared.cmp.Ordering.{Ordering}
 use Rattle.std.specs.declared.cmp.Ordering.TheVariants.{Less, Equal, Greater}
@@ -16,14 +16,16 @@ use Rattle.cs_model.specs.declared.entry.Reply.{Reply}
 use Rattle.cs_model.specs.declared.entry.Reply.TheVariants as reply
 use Rattle.cs_types.specs.Keys.{key_cmp}
 use Rattle.cs_model.specs.Changes.{Edit, Table, Change, table}
-use Rattle.cs_model.specs.Held.{IsFit, IsFitEntry, IsFitTable, AreFit}
+use Rattle.cs_model.specs.Held.{MayStand, IsFit, IsFitEntry, IsFitTable, AreFit}
+use Rattle.cs_model.specs.Ready.{IsOfReading, IsReady}
+use Rattle.cs_types.proofs.KeyLemmas.{exact_key}
 use Rattle.cs_model.specs.State.{State, Txn, Half, with, txn_set, half_set, seen, seen_at}
-use Rattle.cs_model.specs.Answers.{is_of_table}
+use Rattle.cs_model.specs.Kinds.{is_of_table}
 use Rattle.cs_model.specs.Obstacles.{keys_of, is_present, IsObstacle}
 use Rattle.cs_model.specs.Steps.{IsReply, began, unwound, settled, commits, wrote, gone, refused, replied, accepted, ends_txn, staged, is_empty, numbered, begin_reply, done_in, pinned, started, fixed, txn_opened}
 use Rattle.cs_model.specs.Text.{IsPrintableKey, IsPrintableRefusal, IsPrintableReply}
 use Rattle.change_list.proofs.Rows.{table_all, laid_all}
-use Rattle.statement_core.specs.Fit.{IsOfReading, IsReady, IsFitTxn, IsReadyHalf, IsFitState}
+use Rattle.statement_core.specs.Fit.{IsFitTxn, IsReadyHalf, IsFitState}
 use Rattle.statement_core.specs.Settled.{wrote_or, IsWrittenIn, IsRead}
 
 module _ (schema : Schema) where
@@ -63,12 +65,12 @@ module _ (schema : Schema) where
 
   insert_fits : (own : List Edit) (edit : Edit) → IsFit schema edit → All (IsFit schema) own → All (IsFit schema) (insert_entry key_cmp own edit.0 edit.1)
   insert_fits [] edit p all = All-cons (IsFit schema) edit [] p all
-  insert_fits (e ∷ es) edit p all = at (key_cmp edit.0 e.0) (insert_fits es edit p (All-tail (IsFit schema) e es all))
+  insert_fits (e ∷ es) edit p all = at (key_cmp edit.0 e.0) refl (insert_fits es edit p (All-tail (IsFit schema) e es all))
     where
-      at : (r : Ordering) → All (IsFit schema) (insert_entry key_cmp es edit.0 edit.1) → All (IsFit schema) (match_ordering r ((edit.0, edit.1) ∷ e ∷ es) ((e.0, edit.1) ∷ es) (e ∷ insert_entry key_cmp es edit.0 edit.1))
-      at Less rest = All-cons (IsFit schema) edit (e ∷ es) p all
-      at Equal rest = All-cons (IsFit schema) (e.0, edit.1) es ((All-head (IsFit schema) e es all).0, p.1) (All-tail (IsFit schema) e es all)
-      at Greater rest = All-cons (IsFit schema) e (insert_entry key_cmp es edit.0 edit.1) (All-head (IsFit schema) e es all) rest
+      at : (r : Ordering) → key_cmp edit.0 e.0 ≡ r → All (IsFit schema) (insert_entry key_cmp es edit.0 edit.1) → All (IsFit schema) (match_ordering r ((edit.0, edit.1) ∷ e ∷ es) ((e.0, edit.1) ∷ es) (e ∷ insert_entry key_cmp es edit.0 edit.1))
+      at Less is rest = All-cons (IsFit schema) edit (e ∷ es) p all
+      at Equal is rest = All-cons (IsFit schema) (e.0, edit.1) es ((All-head (IsFit schema) e es all).0, subst (λ key. MayStand schema key edit.1) (exact_key edit.0 e.0 is) p.1) (All-tail (IsFit schema) e es all)
+      at Greater is rest = All-cons (IsFit schema) e (insert_entry key_cmp es edit.0 edit.1) (All-head (IsFit schema) e es all) rest
 
   fit_staged : (own edits : List Edit) → All (IsFit schema) own → All (IsFit schema) edits → All (IsFit schema) (staged own edits)
   fit_staged own [] a b = a

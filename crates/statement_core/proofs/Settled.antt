@@ -1,6 +1,6 @@
 -- What a Finish leaves.
 use Rattle.std.proofs.Common.{◌≡◌, ℕ, List, [], length, refl, sym, ap, subst, ◌∙◌, inl, inr, ◌⊎◌, Bool, true, false, Option, None, Some, Result, Ok, Err}
-use Rattle.std.specs.Prelude.{◌||◌, nat_lt}
+use Rattle.std.specs.Prelude.{◌||◌, ◌&&◌, nat_lt}
 use Rattle.std.specs.BTreeMap.{BTreeMap}
 use Rattle.std.specs.Map.{values_of}
 use Rattle.cs_types.specs.declared.Key.{Key}
@@ -14,16 +14,20 @@ use Rattle.cs_model.specs.declared.entry.Reply.{Reply}
 use Rattle.cs_model.specs.declared.entry.Reply.TheVariants as reply
 use Rattle.cs_model.specs.Changes.{Edit, Table, table, laid}
 use Rattle.cs_model.specs.State.{State, Txn, Half, seen, seen_at, half_set}
-use Rattle.cs_model.specs.Answers.{is_of_table, writes}
-use Rattle.cs_model.specs.Obstacles.{has_row, keys_of, is_present, IsObstacle, IsJudged}
+use Rattle.cs_model.specs.declared.kind.Kind.{Kind}
+use Rattle.cs_model.specs.declared.kind.Kind.TheVariants as kind
+use Rattle.cs_model.specs.Kinds.{kind_of, kind_is_write, kind_is_of_table, is_of_table, reads_rows, is_write}
+use Rattle.cs_model.specs.Answers.{writes}
+use Rattle.cs_model.specs.Obstacles.{has_row, stands_twice, keys_of, is_present, IsObstacle, IsJudged}
 use Rattle.cs_model.specs.Steps.{IsReply, IsWriteReply, IsWriteReplyOf, IsAnswerIn, IsAnswer, IsFinish, edits_in, writes_in, replied, accepted, wrote, refused, rested}
-use Rattle.log_laws.specs.Started.{Shows, IsPinnedAt, IsPinned, seen_in, reads_rows}
+use Rattle.log_laws.specs.Frames.{IsPinnedAt, IsPinned}
+use Rattle.log_laws.specs.Started.{Shows, seen_in}
 use Rattle.txn_table.specs.declared.txn.Txn as kept
 use Rattle.statement_core.specs.CoreState.{txn_in}
 use Rattle.statement_core.specs.declared.started.Outcome.{Outcome}
 use Rattle.statement_core.specs.declared.started.Outcome.TheVariants as outcome
 use Rattle.statement_core.specs.Least.{is_taken}
-use Rattle.statement_core.specs.Outcomes.{is_write, IsValued, IsDecided, GivesOn}
+use Rattle.statement_core.specs.Outcomes.{IsValued, IsDecided, GivesOn}
 use Rattle.statement_core.specs.Settled.{Settles, WriteSettles, Replies, GivesIn, Suits, IsDoneAt, IsWrittenIn, IsJudgedIn, AreCountsFor, wrote_or}
 
 -- ---- the outcome, over other rows
@@ -186,27 +190,12 @@ written_settles schema m after session b short edits r g h = at_short schema m a
 -- ---- the counts of an INSERT's keys
 
 pub taken_is : (b : Bound) (edits : List Edit) (table : Table) (counts : Option (BTreeMap Key ℕ)) → AreCountsFor b (keys_of edits) counts → is_taken counts table ≡ is_present b edits table
-taken_is b edits table counts h = λ i key. at b counts key h i
+taken_is b edits table counts h = λ i key. at counts key h i
   where
-    at : (b : Bound) (counts : Option (BTreeMap Key ℕ)) (key : Key) → AreCountsFor b (keys_of edits) counts → is_taken counts table key ≡ is_present b edits table key
-    at bound.Begin None key h = refl
-    at bound.Commit None key h = refl
-    at bound.Rollback None key h = refl
-    at bound.Nothing None key h = refl
-    at (bound.Insert plan) None key h = absurd (cc h)
-    at (bound.Update plan) None key h = refl
-    at (bound.Delete condition) None key h = refl
-    at (bound.Select query) None key h = refl
-    at (bound.Refused refusal) None key h = refl
-    at bound.Begin (Some counts) key h = absurd (cc h.0)
-    at bound.Commit (Some counts) key h = absurd (cc h.0)
-    at bound.Rollback (Some counts) key h = absurd (cc h.0)
-    at bound.Nothing (Some counts) key h = absurd (cc h.0)
-    at (bound.Insert plan) (Some counts) key h = ap (λ n. has_row table key || nat_lt 1 n) (h.1 key)
-    at (bound.Update plan) (Some counts) key h = absurd (cc h.0)
-    at (bound.Delete condition) (Some counts) key h = absurd (cc h.0)
-    at (bound.Select query) (Some counts) key h = absurd (cc h.0)
-    at (bound.Refused refusal) (Some counts) key h = absurd (cc h.0)
+    at : (counts : Option (BTreeMap Key ℕ)) (key : Key) → AreCountsFor b (keys_of edits) counts → is_taken counts table key ≡ is_present b edits table key
+    at None key h = sym (ap (λ t. t && (has_row table key || stands_twice (keys_of edits) key)) h)
+    at (Some counts) key h =
+        ap (λ n. has_row table key || nat_lt 1 n) (h.1 key) ∙ sym (ap (λ t. t && (has_row table key || stands_twice (keys_of edits) key)) h.0)
 
 -- ---- a Finish
 
@@ -250,16 +239,15 @@ gives_half schema m mid session half o is e d =
 
 -- ---- what an outcome says of its statement
 
+kind_of_table : (k : Kind) → kind_is_write k ≡ true → kind_is_of_table k ≡ true
+kind_of_table kind.Control e = absurd (cc e)
+kind_of_table kind.Insert e = refl
+kind_of_table kind.Change e = refl
+kind_of_table kind.Query e = absurd (cc e)
+kind_of_table kind.Refused e = absurd (cc e)
+
 write_of_table : (b : Bound) → is_write b ≡ true → is_of_table b ≡ true
-write_of_table bound.Begin e = absurd (cc e)
-write_of_table bound.Commit e = absurd (cc e)
-write_of_table bound.Rollback e = absurd (cc e)
-write_of_table bound.Nothing e = absurd (cc e)
-write_of_table (bound.Insert plan) e = refl
-write_of_table (bound.Update plan) e = refl
-write_of_table (bound.Delete condition) e = refl
-write_of_table (bound.Select query) e = absurd (cc e)
-write_of_table (bound.Refused refusal) e = absurd (cc e)
+write_of_table b e = kind_of_table (kind_of b) e
 
 pub suits : (schema : Schema) (m : State) (session : ℕ) (b : Bound) (short : Bool) (o : Outcome) → GivesIn schema m session b short o → Suits m session b o
 suits schema m session b short outcome.Nothing g = g.gives.1

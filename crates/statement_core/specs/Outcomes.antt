@@ -9,24 +9,13 @@ use Rattle.cs_model.specs.declared.entry.Refusal.{Refusal}
 use Rattle.cs_model.specs.declared.entry.Reply.{Reply}
 use Rattle.cs_model.specs.declared.entry.Reply.TheVariants as reply
 use Rattle.cs_model.specs.Changes.{Edit, Table}
-use Rattle.cs_model.specs.Answers.{is_of_table, writes}
+use Rattle.cs_model.specs.Kinds.{is_of_table, is_write}
+use Rattle.cs_model.specs.Answers.{writes}
 use Rattle.cs_model.specs.Held.{IsFit}
 use Rattle.cs_model.specs.Steps.{IsAnswer}
 use Rattle.cs_model.specs.Text.{IsPrintableReply}
 use Rattle.statement_core.specs.declared.started.Outcome.{Outcome}
 use Rattle.statement_core.specs.declared.started.Outcome.TheVariants as outcome
-
--- INSERT, UPDATE and DELETE
-abbrev pub is_write : Bound → Bool
-is_write bound.Begin = false
-is_write bound.Commit = false
-is_write bound.Rollback = false
-is_write bound.Nothing = false
-is_write (bound.Insert plan) = true
-is_write (bound.Update plan) = true
-is_write (bound.Delete condition) = true
-is_write (bound.Select query) = false
-is_write (bound.Refused refusal) = false
 
 -- the reply is a write's first value refusal
 abbrev pub IsValued : Result (List Edit) Refusal → Reply → Type 0

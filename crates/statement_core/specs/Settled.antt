@@ -5,7 +5,6 @@ use Rattle.cs_types.specs.declared.Key.{Key}
 use Rattle.cs_types.specs.declared.Schema.{Schema}
 use Rattle.write_set.specs.declared.write.Write.{Write}
 use Rattle.cs_model.specs.declared.entry.Bound.{Bound}
-use Rattle.cs_model.specs.declared.entry.Bound.TheVariants as bound
 use Rattle.cs_model.specs.declared.entry.Refusal.{Refusal}
 use Rattle.cs_model.specs.declared.entry.Refusal.TheVariants.{Memory}
 use Rattle.cs_model.specs.declared.entry.Reply.{Reply}
@@ -13,10 +12,11 @@ use Rattle.cs_model.specs.declared.entry.Reply.TheVariants as reply
 use Rattle.cs_model.specs.Changes.{Edit, Table}
 use Rattle.cs_types.specs.Keys.{same_key}
 use Rattle.cs_model.specs.State.{Txn, State, seen}
-use Rattle.cs_model.specs.Answers.{is_of_table}
+use Rattle.cs_model.specs.Kinds.{is_of_table, is_insert}
 use Rattle.cs_model.specs.Obstacles.{has_row, keys_of, is_present, IsObstacle, IsJudged}
 use Rattle.cs_model.specs.Steps.{IsReply, IsWritten, is_empty, numbered, replied, wrote, refused, commits, fixed, txn_opened}
-use Rattle.log_laws.specs.Started.{Shows, IsPinned, seen_in}
+use Rattle.log_laws.specs.Frames.{IsPinned}
+use Rattle.log_laws.specs.Started.{Shows, seen_in}
 use Rattle.statement_core.specs.declared.started.Outcome.{Outcome}
 use Rattle.statement_core.specs.declared.started.Outcome.TheVariants as outcome
 use Rattle.statement_core.specs.Least.{count_in}
@@ -63,17 +63,6 @@ committed_in m session (Some txn) = commits m session txn
 pub record Replies (m : State) (session : ℕ) (given r : Reply) (after : State) : Type 0 where
   pub reply : (r ≡ reply.Refused Memory) ⊎ (r ≡ given)
   pub state : after ≡ wrote_or m session [] r
-
-abbrev pub is_insert : Bound → Bool
-is_insert bound.Begin = false
-is_insert bound.Commit = false
-is_insert bound.Rollback = false
-is_insert bound.Nothing = false
-is_insert (bound.Insert plan) = true
-is_insert (bound.Update plan) = false
-is_insert (bound.Delete condition) = false
-is_insert (bound.Select query) = false
-is_insert (bound.Refused refusal) = false
 
 -- the counts of the keys of an INSERT, and none for another write
 abbrev pub AreCountsFor : Bound → List Key → Option (BTreeMap Key ℕ) → Type 0

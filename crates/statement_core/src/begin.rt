@@ -1,9 +1,9 @@
 // What a Start does.
 ghost use Rattle.std.specs.Prelude.{◌≡◌, ◌<◌, IfOk, true, false};
-ghost use Rattle.cs_model.specs.Answers.{is_of_table};
+ghost use Rattle.cs_model.specs.Kinds.{is_of_table, reads_rows};
 ghost use Rattle.cs_model.specs.State.{seen};
 ghost use Rattle.cs_model.specs.Steps.{fixed, txn_opened};
-ghost use Rattle.log_laws.specs.Started.{Starts, reads_rows};
+ghost use Rattle.log_laws.specs.Started.{Starts};
 ghost use Rattle.statement_core.specs.CoreState.{state_of, IsWithin};
 ghost use Rattle.statement_core.specs.Replaced.{AreReplaced};
 ghost use Rattle.statement_core.specs.Settled.{IsRead};
@@ -11,7 +11,7 @@ ghost use Rattle.statement_core.specs.Settled.{IsRead};
 use crate::core_state::{CoreState, HalfDone, pin, set_half};
 use change_list::{Rows, lay};
 use cs_base::Memory;
-use cs_model::Bound;
+use cs_model::{Bound, Kind};
 use std::alloc::Global;
 use std::collections::BTreeMap;
 use std::sync::Arc;
@@ -19,25 +19,18 @@ use std::sync::Arc;
 fn is_of_table(bound: &Bound) -> bool
     ensures { result ≡ is_of_table bound.now }
 {
-    match bound {
-        Bound::Insert(_) | Bound::Update(_) | Bound::Delete(_) | Bound::Select(_) => true,
-        Bound::Begin | Bound::Commit | Bound::Rollback | Bound::Nothing | Bound::Refused(_) => {
-            false
-        }
+    match bound.kind() {
+        Kind::Insert | Kind::Change | Kind::Query => true,
+        Kind::Control | Kind::Refused => false,
     }
 }
 
 fn reads_rows(bound: &Bound) -> bool
     ensures { result ≡ reads_rows bound.now }
 {
-    match bound {
-        Bound::Update(_) | Bound::Delete(_) | Bound::Select(_) => true,
-        Bound::Begin
-        | Bound::Commit
-        | Bound::Rollback
-        | Bound::Nothing
-        | Bound::Insert(_)
-        | Bound::Refused(_) => false,
+    match bound.kind() {
+        Kind::Change | Kind::Query => true,
+        Kind::Control | Kind::Insert | Kind::Refused => false,
     }
 }
 

@@ -3,7 +3,7 @@ ghost use Rattle.std.specs.Prelude.{◌≡◌, ◌≤◌, ◌<◌, ◌++◌, ◌
 ghost use Rattle.cs_model.specs.declared.entry.Entry.TheVariants.{Finish, End};
 ghost use Rattle.cs_model.specs.declared.entry.Entry.{Entry};
 ghost use Rattle.cs_model.specs.declared.entry.Reply.{Reply};
-ghost use Rattle.cs_model.specs.State.{State};
+ghost use Rattle.cs_model.specs.State.{State, begin_of};
 ghost use Rattle.cs_model.specs.Actors.{entries_of, is_begun, has_ended};
 ghost use Rattle.cs_model.specs.Held.{IsFitTable};
 ghost use Rattle.cs_model.specs.Steps.{Legal};
@@ -11,7 +11,7 @@ ghost use Rattle.cs_model.specs.Text.{IsPrintableEntry};
 ghost use Rattle.log_laws.specs.Laws.{AreDistinct};
 ghost use Rattle.log_laws.specs.Started.{IsStarted};
 ghost use Rattle.statement_core.specs.Cores.{IsDone, IsStartOf};
-ghost use Rattle.statement_core.specs.Fit.{IsReady};
+ghost use Rattle.cs_model.specs.Ready.{IsReady};
 
 use crate::begin::start;
 use crate::core_state::CoreState;
@@ -52,11 +52,12 @@ impl Model for Core {
     ghost coded = { Prim.hlevel (codes, expr.the_row.coded, pred.the_row.coded) };
 
     ghost use Rattle.std.specs.Prelude.{vec_capacity};
+    ghost use Rattle.cs_model.specs.State.{begin_of};
     ghost use Rattle.statement_core.specs.Cores.{IsCore};
 
     ghost view = { λ c. record { schema = c.schema; log = c.log.items; sessions = c.sessions.items } };
 
-    ghost invariant = { λ c. IsCore c.schema c.held c.log.items (vec_capacity c.log) c.sessions.items };
+    ghost invariant = { λ c. IsCore (begin_of c.schema) c.held c.log.items (vec_capacity c.log) c.sessions.items };
 }
 
 impl Core {
@@ -96,7 +97,7 @@ impl Core {
         requires ready { IsReady self.old.schema bound }
         ensures log { IfOk result (λ started. (entry : Entry) × (self.new.log ≡ self.old.log ++ entry ∷ []) × IsStartOf session bound started.short entry) }
         ensures bound { IfOk result (λ started. started.bound.value ≡ bound) }
-        ensures started { IfOk result (λ started. IsStarted self.new.schema self.new.log session started.bound.value started.short started.rows.entries) }
+        ensures started { IfOk result (λ started. IsStarted (begin_of self.new.schema) self.new.log session started.bound.value started.short started.rows.entries) }
         ensures fit { IfOk result (λ started. IsFitTable self.new.schema started.rows.entries) }
         ensures schema { self.new.schema ≡ self.old.schema }
         ensures sessions { self.new.sessions ≡ self.old.sessions }
@@ -122,7 +123,7 @@ impl Core {
     /// there, it is error 701. It takes no memory for its entry.
     pub fn finish(&mut self, session: u32, outcome: Outcome)
         requires known { Contains self.old.sessions session }
-        requires outcome { IsDone self.old.schema self.old.log session outcome }
+        requires outcome { IsDone (begin_of self.old.schema) self.old.log session outcome }
         ensures log { (reply : Reply) × (self.new.log ≡ self.old.log ++ Finish session reply ∷ []) }
         ensures schema { self.new.schema ≡ self.old.schema }
         ensures sessions { self.new.sessions ≡ self.old.sessions }
@@ -154,7 +155,7 @@ impl Core {
     /// The log, which is legal: it leads from the empty state, entry by entry, to a state of the row model, and can be printed.
     pub fn log(&self) -> &[Entry]
         ensures log { result.now ≡ self.now.log }
-        ensures legal { (m : State) × Legal self.now.schema self.now.log m }
+        ensures legal { (m : State) × Legal (begin_of self.now.schema) self.now.log m }
         ensures printable { All (IsPrintableEntry self.now.schema) self.now.log }
     {
         self.log.as_slice()

@@ -3,25 +3,26 @@ ghost use Rattle.std.specs.Prelude.{Bool, ◌≡◌, ◌+◌, ◌<◌, ◌^◌, 
 ghost use Rattle.cs_types.specs.declared.Schema.{Schema};
 ghost use Rattle.txn_table.specs.Txns.{txn_of};
 ghost use Rattle.change_list.specs.Edits.{edits_of};
-ghost use Rattle.cs_model.specs.Answers.{is_of_table};
+ghost use Rattle.cs_model.specs.Kinds.{is_of_table, is_insert};
 ghost use Rattle.cs_model.specs.Changes.{table};
-ghost use Rattle.cs_model.specs.State.{State};
+ghost use Rattle.cs_model.specs.State.{State, Begin};
 ghost use Rattle.cs_model.specs.Steps.{is_changed, ends_txn, refused, wrote, began, IsStep};
 ghost use Rattle.cs_model.specs.Text.{IsPrintableReply};
 ghost use Rattle.cs_model.specs.declared.entry.Bound.TheVariants as bound;
 ghost use Rattle.cs_model.specs.declared.entry.Entry.TheVariants.{Finish, End};
-ghost use Rattle.log_laws.specs.Started.{IsPinned};
+ghost use Rattle.log_laws.specs.Frames.{IsPinned};
 ghost use Rattle.statement_core.specs.CoreState.{txn_in, state_of, IsWithin};
-ghost use Rattle.statement_core.specs.Fit.{IsFitState, IsReady};
+ghost use Rattle.cs_model.specs.Ready.{IsReady};
+ghost use Rattle.statement_core.specs.Fit.{IsFitState};
 ghost use Rattle.statement_core.specs.Replaced.{AreReplaced};
-ghost use Rattle.statement_core.specs.Settled.{Settles, WriteSettles, Replies, GivesIn, Suits, IsDoneAt, IsJudgedIn, AreCountsFor, is_insert, write_on, recorded, committed_in};
+ghost use Rattle.statement_core.specs.Settled.{Settles, WriteSettles, Replies, GivesIn, Suits, IsDoneAt, IsJudgedIn, AreCountsFor, write_on, recorded, committed_in};
 
 use crate::core_state::{CoreState, deepen, set_half, set_txn, stage};
 use crate::judge::{Counts, count_keys, judge, keys_of};
 use crate::started::Outcome;
 use change_list::Changes;
 use cs_base::{Items, Memory};
-use cs_model::{Bound, Refusal, Reply};
+use cs_model::{Bound, Kind, Refusal, Reply};
 use cs_types::{Key, Row};
 use std::alloc::Global;
 use txn_table::Txn;
@@ -279,16 +280,9 @@ fn answered(held: &mut CoreState, session: u32, reply: Reply) -> Reply
 fn is_insert(bound: &Bound) -> bool
     ensures { result ≡ is_insert bound.now }
 {
-    match bound {
-        Bound::Insert(_) => true,
-        Bound::Begin
-        | Bound::Commit
-        | Bound::Rollback
-        | Bound::Nothing
-        | Bound::Update(_)
-        | Bound::Delete(_)
-        | Bound::Select(_)
-        | Bound::Refused(_) => false,
+    match bound.kind() {
+        Kind::Insert => true,
+        Kind::Control | Kind::Change | Kind::Query | Kind::Refused => false,
     }
 }
 
@@ -377,7 +371,7 @@ fn settle(
 pub fn finish(alloc: Global, held: &mut CoreState, session: u32, outcome: Outcome) -> Reply
     requires within { IsWithin held.old session }
     requires done { (schema : Schema) × IsDoneAt schema (state_of held.old) session outcome }
-    ensures step { (schema : Schema) → IsDoneAt schema (state_of held.old) session outcome → IsStep schema (state_of held.old) (Finish session result) (state_of held.new) }
+    ensures step { (begin : Begin) → IsDoneAt begin.schema (state_of held.old) session outcome → IsStep begin (state_of held.old) (Finish session result) (state_of held.new) }
     ensures fits { (schema : Schema) → IsDoneAt schema (state_of held.old) session outcome → IsFitState schema (state_of held.old)
         → IsFitState schema (state_of held.new) × IsPrintableReply schema result }
     ensures replaced { AreReplaced held.old → AreReplaced held.new }
@@ -392,7 +386,7 @@ pub fn finish(alloc: Global, held: &mut CoreState, session: u32, outcome: Outcom
 pub fn end(held: &mut CoreState, session: u32)
     requires within { session < 65 }
     requires rests { (state_of held.old).half session ≡ None }
-    ensures step { (schema : Schema) → IsStep schema (state_of held.old) (End session) (state_of held.new) }
+    ensures step { (begin : Begin) → IsStep begin (state_of held.old) (End session) (state_of held.new) }
     ensures replaced { AreReplaced held.old → AreReplaced held.new }
 {
     set_txn(held, session, None);

@@ -1,6 +1,7 @@
 // A statement that was started, and what its work gives.
 ghost use Rattle.cs_types.specs.Schemas.{IsSchema};
 ghost use Rattle.cs_model.specs.Held.{IsFitTable};
+ghost use Rattle.cs_model.specs.Ready.{IsReady};
 ghost use Rattle.statement_core.specs.Outcomes.{GivesOn};
 
 use change_list::Rows;
@@ -39,5 +40,6 @@ pub trait Desk {
     fn work(&self, alloc: Global, schema: &Schema, started: &Started) -> Outcome
         requires schema { IsSchema schema.now }
         requires rows { IsFitTable schema.now started.now.rows.entries }
+        requires ready { IsReady schema.now started.now.bound.value }
         ensures { GivesOn schema.now started.now.bound.value started.now.short started.now.rows.entries result };
 }

@@ -17,7 +17,7 @@ use Rattle.cs_model.specs.declared.pred.Pred.{Pred}
 use Rattle.cs_model.specs.Queries.{keeps as is_chosen}
 use Rattle.cs_model.specs.Answers.{edits_of, chosen, deleted}
 use Rattle.cs_model.specs.Changes.{Table}
-use Rattle.cs_model.specs.Held.{holds, IsHeld, IsFit, IsFitEntry, IsFitTable}
+use Rattle.cs_model.specs.Held.{holds, IsHeld, IsRowAt, IsFit, IsFitEntry, IsFitTable}
 use Rattle.cs_model.specs.Text.{kind_or, IsPrintableKey}
 
 -- ---- keys
@@ -50,19 +50,23 @@ held_key schema row is held =
     let both = key_value c.0 (cell_at row schema.key) (is.key_kind c.0 c.1) (is.key_never_null c.0 c.1) (held schema.key c.0 c.1) in
     (both.0, subst (λ o. IsTrue (keeps (kind_or o) (Number (key_in schema.key row).0))) (sym c.1) both.1)
 
+-- a row of the table under its own key
+abbrev pub IsRow : Schema → List Value → Type 0
+IsRow schema row = IsRowAt schema (key_in schema.key row) row
+
 -- each of the rows has a key
-pub are_numbers : (schema : Schema) (rows : List (List Value)) → IsSchema schema → All (IsHeld schema) rows → All (λ row. IsNumber (cell_at row schema.key)) rows
-are_numbers schema rows is held = λ k d lt. (held_key schema _ is (held k d lt)).0
+pub are_numbers : (schema : Schema) (rows : List (List Value)) → IsSchema schema → All (IsRow schema) rows → All (λ row. IsNumber (cell_at row schema.key)) rows
+are_numbers schema rows is all = λ k d lt. (held_key schema _ is (all k d lt).held).0
 
 -- ---- edits
 
 -- rows at their keys
-pub edits_fit : (schema : Schema) (rows : List (List Value)) → IsSchema schema → All (IsHeld schema) rows → All (IsFit schema) (edits_of schema rows)
-edits_fit schema [] is held = All-nil (IsFit schema)
-edits_fit schema (row ∷ rows) is held =
-    let here = held 0 row (omega arith) in
-    All-cons (IsFit schema) (key_in schema.key row, Some row) (edits_of schema rows) ((held_key schema row is here).1, here)
-    (edits_fit schema rows is (λ k d lt. held (suc k) d (omega arith)))
+pub edits_fit : (schema : Schema) (rows : List (List Value)) → IsSchema schema → All (IsRow schema) rows → All (IsFit schema) (edits_of schema rows)
+edits_fit schema [] is all = All-nil (IsFit schema)
+edits_fit schema (row ∷ rows) is all =
+    let here = all 0 row (omega arith) in
+    All-cons (IsFit schema) (key_in schema.key row, Some row) (edits_of schema rows) ((held_key schema row is here.held).1, here)
+    (edits_fit schema rows is (λ k d lt. all (suc k) d (omega arith)))
 
 -- keys of a table with nothing in their places
 pub deleted_fit : (schema : Schema) (condition : Option Pred) (table : Table) → IsFitTable schema table → All (IsFit schema) (deleted schema condition table)
@@ -79,7 +83,7 @@ deleted_fit schema condition (entry ∷ table) fit = at (is_chosen schema condit
 -- the rows of a table
 pub table_held : (schema : Schema) (table : Table) → IsFitTable schema table → All (IsHeld schema) (values_of table)
 table_held schema [] fit = All-nil (IsHeld schema)
-table_held schema (entry ∷ table) fit = All-cons (IsHeld schema) entry.1 (values_of table) (fit 0 entry (omega arith)).1 (table_held schema table (λ k d lt. fit (suc k) d (omega arith)))
+table_held schema (entry ∷ table) fit = All-cons (IsHeld schema) entry.1 (values_of table) (fit 0 entry (omega arith)).1.held (table_held schema table (λ k d lt. fit (suc k) d (omega arith)))
 
 pub head_fit : (schema : Schema) (entry : Key × List Value) (rest table : Table) → table ≡ entry ∷ rest → IsFitTable schema table → IsFitEntry schema entry
 head_fit schema entry rest table is fit = (subst (IsFitTable schema) is fit) 0 entry (omega arith)

@@ -1,11 +1,13 @@
 -- Cells and rows that are written one by one.
-use Rattle.std.proofs.Common.{◌≡◌, ℕ, ℤ, pos, ◌+ℤ◌, ◌==◌, zero, suc, ◌+◌, ◌<◌, ◌≤◌, List, [], ◌∷◌, ◌++◌, length, drop, get_or, refl, sym, ap, subst, ◌∙◌, append_assoc, arith, cond, Bool, true, false, IsTrue, All}
+use Rattle.std.proofs.Common.{◌≡◌, ◌≢◌, ℕ, ℤ, pos, ◌+ℤ◌, ◌==◌, zero, suc, ◌+◌, ◌<◌, ◌≤◌, List, [], ◌∷◌, ◌++◌, length, drop, get_or, refl, sym, ap, subst, ◌∙◌, append_assoc, arith, cond, Bool, true, false, IsTrue, All}
 use Rattle.std.specs.Prelude.{Result, Ok, Err, Some, None, Option, slice_get, IfOk}
 use Rattle.std.specs.List.{find}
-use Rattle.std.proofs.lemmas.List.Elements.{All-nil, All-cons}
+use Rattle.std.proofs.lemmas.Bool.Decides.{nat_tests}
+use Rattle.std.proofs.lemmas.List.Elements.{All-nil, All-cons, All-head, All-tail}
 use Rattle.std.proofs.lemmas.List.{drop_more, drop_all, append-nil}
 use Rattle.std.proofs.lemmas.List.FromFn.{length-map-range_with_len, get_or-map-range_with_len}
 use Rattle.cs_types.specs.declared.Column.{Column}
+use Rattle.cs_types.specs.declared.Key.{Key}
 use Rattle.cs_types.specs.declared.Schema.{Schema}
 use Rattle.cs_types.specs.declared.Value.{Value}
 use Rattle.cs_types.specs.declared.Value.TheVariants.{Null, Number, Text}
@@ -14,7 +16,8 @@ use Rattle.cs_types.specs.declared.refusal.ValueRefusal.{ValueRefusal}
 use Rattle.cs_types.specs.declared.refusal.ValueRefusal.TheVariants.{NullHere, TooLong, Overflow}
 use Rattle.cs_types.specs.Fit.{rounded, range_refusal}
 use Rattle.cs_types.specs.Kinds.{scale_of, is_short, keeps}
-use Rattle.cs_types.specs.Rows.{cell_at}
+use Rattle.cs_types.specs.Rows.{cell_at, number_in, key_in}
+use Rattle.cs_types.specs.Schemas.{IsSchema}
 use Rattle.cs_model.specs.declared.expr.Expr.{Expr}
 use Rattle.cs_model.specs.declared.entry.Refusal.{Refusal}
 use Rattle.cs_model.specs.declared.entry.Refusal.TheVariants.{Valued}
@@ -22,7 +25,7 @@ use Rattle.cs_model.specs.Expressions.{Computed, compute}
 use Rattle.cs_model.specs.Answers.{numbered, kept, computed_of, given, cell_onto, cells_from, row_onto, rows_from, inserted_cell, series_len, series, updated_by, updated_cell, updated_row}
 use Rattle.statement_work.specs.declared.refusal.WriteRefusal.{WriteRefusal}
 use Rattle.statement_work.specs.declared.refusal.WriteRefusal.TheVariants as refusal
-use Rattle.cs_model.specs.Held.{holds, IsHeld}
+use Rattle.cs_model.specs.Held.{holds, IsHeld, IsRowAt}
 use Rattle.statement_work.specs.Gives.{RefusesCell, RefusesRow, RefusesRows, GivesRows}
 
 -- what stands behind a front, or its refusal
@@ -137,7 +140,20 @@ cells_held cell i (c ∷ list) cells all is =
     onto_held i c list (cell i c) (cells_from cell (i + 1) list) cells (all 0 c refl i (omega arith))
     (λ more. cells_held cell (i + 1) list more (λ k column e j at. all (suc k) column e j (omega (arith, at)))) is
 
-pub inserted_held : (schema source : Schema) (columns : List ℕ) (read : List Value) (exprs : List Expr) (cells : List Value)
+-- ---- as many cells as columns
+
+onto_wide : (i n : ℕ) (k : Result Value ℕ) (rest : Result (List Value) (ℕ × ℕ)) (cells : List Value) → ((more : List Value) → rest ≡ Ok more → length more ≡ n) → cell_onto i k rest ≡ Ok cells → length cells ≡ suc n
+onto_wide i n (Err number) rest cells wide is = absurd (cc)
+onto_wide i n (Ok v) (Err e) cells wide is = absurd (cc)
+onto_wide i n (Ok v) (Ok more) cells wide is = let same : v ∷ more ≡ cells = cc in sym (ap length same) ∙ ap suc (wide more refl)
+
+cells_wide : (cell : ℕ → Column → Result Value ℕ) (i : ℕ) (list : List Column) (cells : List Value) → cells_from cell i list ≡ Ok cells → length cells ≡ length list
+cells_wide cell i [] cells is = let same : [] ≡ cells = cc in sym (ap length same)
+cells_wide cell i (c ∷ list) cells is = onto_wide i (length list) (cell i c) (cells_from cell (i + 1) list) cells (λ more. cells_wide cell (i + 1) list more) is
+
+-- ---- rows of the table under their keys
+
+inserted_held : (schema source : Schema) (columns : List ℕ) (read : List Value) (exprs : List Expr) (cells : List Value)
     → cells_from (inserted_cell source read columns exprs) 0 schema.columns ≡ Ok cells → IsHeld schema cells
 inserted_held schema source columns read exprs cells is =
     cells_held (inserted_cell source read columns exprs) 0 schema.columns cells (λ k column e j at v. kept_holds column (computed_of source read (given columns exprs j)) v) is
@@ -146,27 +162,77 @@ set_held : (schema : Schema) (row : List Value) (k : ℕ) (column : Column) (set
 set_held schema row k column None v was is = let same : cell_at row k ≡ v = cc in subst (λ x. IsTrue (holds column x)) same was
 set_held schema row k column (Some set) v was is = kept_holds column (compute set.1 row schema) v is
 
-pub updated_held : (schema : Schema) (sets : List (ℕ × Expr)) (row cells : List Value) → IsHeld schema row → updated_row schema sets row ≡ Ok cells → IsHeld schema cells
+pub inserted_is_row : (schema source : Schema) (columns : List ℕ) (read : List Value) (exprs : List Expr) (cells : List Value)
+    → cells_from (inserted_cell source read columns exprs) 0 schema.columns ≡ Ok cells → IsRowAt schema (key_in schema.key cells) cells
+inserted_is_row schema source columns read exprs cells is = record {
+  held = inserted_held schema source columns read exprs cells is;
+  width = (let wide = cells_wide (inserted_cell source read columns exprs) 0 schema.columns cells is in omega (arith, wide));
+  under = refl;
+}
+
+updated_held : (schema : Schema) (sets : List (ℕ × Expr)) (row cells : List Value) → IsHeld schema row → updated_row schema sets row ≡ Ok cells → IsHeld schema cells
 updated_held schema sets row cells held is =
     cells_held (updated_cell schema sets row) 0 schema.columns cells
     (λ k column e j at v. set_held schema row j column (find (λ (set : ℕ × Expr). set.0 == j) sets) v
     (let same : k ≡ j = omega (arith, at) in subst (λ n. IsTrue (holds column (cell_at row n))) same (held k column e))) is
 
-rows_onto_held : (P : List Value → Type 0) (n : ℕ) (row : Result (List Value) (ℕ × ℕ)) (rest : Result (List (List Value)) Refusal) (rows : List (List Value)) → ((cells : List Value) → row ≡ Ok cells → P cells)
+-- the cell that is written at a place
+abbrev IsWritten : (ℕ → Column → Result Value ℕ) → ℕ → ℕ → List Value → Type 0
+IsWritten cell k j cells = (column : Column) × (cell j column ≡ Ok (cell_at cells k))
+
+onto_written : (i : ℕ) (x : Result Value ℕ) (rest : Result (List Value) (ℕ × ℕ)) (cells : List Value) → cell_onto i x rest ≡ Ok cells → (v : Value) × (more : List Value) × (x ≡ Ok v) × (rest ≡ Ok more) × (v ∷ more ≡ cells)
+onto_written i (Err number) rest cells is = absurd (cc)
+onto_written i (Ok v) (Err e) cells is = absurd (cc)
+onto_written i (Ok v) (Ok more) cells is = (v, more, refl, refl, cc)
+
+cell_written : (cell : ℕ → Column → Result Value ℕ) (i : ℕ) (list : List Column) (cells : List Value) (k j : ℕ) → k < length list → j ≡ i + k → cells_from cell i list ≡ Ok cells → IsWritten cell k j cells
+cell_written cell i [] cells k j within at is = absurd (omega arith)
+cell_written cell i (c ∷ list) cells zero j within at is =
+    let parts = onto_written i (cell i c) (cells_from cell (i + 1) list) cells is in
+    let here : i ≡ j = omega (arith, at) in
+    (c, subst (λ n. cell n c ≡ Ok (cell_at cells 0)) here (parts.2 ∙ ap (λ row. Ok (cell_at row 0)) parts.4))
+cell_written cell i (c ∷ list) cells (suc k) j within at is =
+    let parts = onto_written i (cell i c) (cells_from cell (i + 1) list) cells is in
+    let rest = cell_written cell (i + 1) list parts.1 k j (omega (arith, within)) (omega (arith, at)) parts.3 in
+    (rest.0, rest.1 ∙ ap (λ row. Ok (cell_at row (suc k))) parts.4)
+
+-- no set is of this column
+none_sets : (sets : List (ℕ × Expr)) (i : ℕ) → All (λ (set : ℕ × Expr). set.0 ≢ i) sets → find (λ (set : ℕ × Expr). set.0 == i) sets ≡ None
+none_sets [] i others = refl
+none_sets (set ∷ sets) i others = at (set.0 == i) refl (none_sets sets i (All-tail (λ (s : ℕ × Expr). s.0 ≢ i) set sets others))
+  where
+    at : (t : Bool) → (set.0 == i) ≡ t → find (λ (s : ℕ × Expr). s.0 == i) sets ≡ None → cond t (Some set) (find (λ (s : ℕ × Expr). s.0 == i) sets) ≡ None
+    at true e rest = let same : set.0 ≡ i = grind (arith, nat_tests, e) in absurd (All-head (λ (s : ℕ × Expr). s.0 ≢ i) set sets others same)
+    at false e rest = rest
+
+-- an UPDATE that sets no key leaves a row under its key
+pub updated_row_at : (schema : Schema) (sets : List (ℕ × Expr)) (key : Key) (row cells : List Value) → IsSchema schema → All (λ (set : ℕ × Expr). set.0 ≢ schema.key) sets
+    → IsRowAt schema key row → updated_row schema sets row ≡ Ok cells → IsRowAt schema key cells
+updated_row_at schema sets key row cells is others at written =
+    let there = cell_written (updated_cell schema sets row) 0 schema.columns cells schema.key schema.key is.key_there (omega arith) written in
+    let stays : Ok (cell_at row schema.key) ≡ Ok (cell_at cells schema.key) = sym (ap (updated_by schema row schema.key there.0) (none_sets sets schema.key others)) ∙ there.1 in
+    let same : cell_at cells schema.key ≡ cell_at row schema.key = cc in
+    record {
+      held = updated_held schema sets row cells at.held written;
+      width = (let wide = cells_wide (updated_cell schema sets row) 0 schema.columns cells written in omega (arith, wide));
+      under = ap (λ v. record { 0 = number_in v }) same ∙ at.under;
+    }
+
+rows_onto_all : (P : List Value → Type 0) (n : ℕ) (row : Result (List Value) (ℕ × ℕ)) (rest : Result (List (List Value)) Refusal) (rows : List (List Value)) → ((cells : List Value) → row ≡ Ok cells → P cells)
     → ((more : List (List Value)) → rest ≡ Ok more → All P more) → row_onto n row rest ≡ Ok rows → All P rows
-rows_onto_held P n (Err e) rest rows one all is = absurd (cc)
-rows_onto_held P n (Ok cells) (Err e) rows one all is = absurd (cc)
-rows_onto_held P n (Ok cells) (Ok more) rows one all is = let same : cells ∷ more ≡ rows = cc in subst (All P) same (All-cons P cells more (one cells refl) (all more refl))
+rows_onto_all P n (Err e) rest rows one all is = absurd (cc)
+rows_onto_all P n (Ok cells) (Err e) rows one all is = absurd (cc)
+rows_onto_all P n (Ok cells) (Ok more) rows one all is = let same : cells ∷ more ≡ rows = cc in subst (All P) same (All-cons P cells more (one cells refl) (all more refl))
 
-pub rows_held : {X : Type 0} (P : List Value → Type 0) (row_of : X → Result (List Value) (ℕ × ℕ)) (n : ℕ) (plan : List X) (rows : List (List Value)) → ((x : X) (cells : List Value) → row_of x ≡ Ok cells → P cells)
+pub rows_all : {X : Type 0} (P : List Value → Type 0) (row_of : X → Result (List Value) (ℕ × ℕ)) (n : ℕ) (plan : List X) (rows : List (List Value)) → ((x : X) (cells : List Value) → row_of x ≡ Ok cells → P cells)
     → rows_from row_of n plan ≡ Ok rows → All P rows
-rows_held P row_of n [] rows one is = let same : [] ≡ rows = cc in subst (All P) same (All-nil P)
-rows_held P row_of n (x ∷ rest) rows one is =
-    rows_onto_held P n (row_of x) (rows_from row_of (n + 1) rest) rows (one x) (λ more. rows_held P row_of (n + 1) rest more one) is
+rows_all P row_of n [] rows one is = let same : [] ≡ rows = cc in subst (All P) same (All-nil P)
+rows_all P row_of n (x ∷ rest) rows one is =
+    rows_onto_all P n (row_of x) (rows_from row_of (n + 1) rest) rows (one x) (λ more. rows_all P row_of (n + 1) rest more one) is
 
-pub gives_held : (P : List Value → Type 0) (wanted : Result (List (List Value)) Refusal) (r : Result (List (List Value)) WriteRefusal) → ((rows : List (List Value)) → wanted ≡ Ok rows → All P rows) → GivesRows wanted r → IfOk r (All P)
-gives_held P wanted (Ok rows) all is = all rows is
-gives_held P wanted (Err e) all is = tt
+pub gives_all : (P : List Value → Type 0) (wanted : Result (List (List Value)) Refusal) (r : Result (List (List Value)) WriteRefusal) → ((rows : List (List Value)) → wanted ≡ Ok rows → All P rows) → GivesRows wanted r → IfOk r (All P)
+gives_all P wanted (Ok rows) all is = all rows is
+gives_all P wanted (Err e) all is = tt
 
 -- ---- rows over the numbers of a series
 

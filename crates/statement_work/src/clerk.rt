@@ -7,7 +7,8 @@ ghost use Rattle.cs_model.specs.declared.entry.Bound.TheVariants as bound;
 ghost use Rattle.cs_model.specs.Answers.{writes};
 ghost use Rattle.cs_model.specs.Changes.{Table};
 ghost use Rattle.cs_model.specs.Held.{IsFit, IsFitTable};
-ghost use Rattle.statement_core.specs.Outcomes.{is_write, GivesOn};
+ghost use Rattle.cs_model.specs.Kinds.{is_write};
+ghost use Rattle.statement_core.specs.Outcomes.{GivesOn};
 ghost use Rattle.statement_work.specs.Gives.{GivesRows};
 
 use crate::delete::deleted;

@@ -1,13 +1,14 @@
 //! The rows that an UPDATE writes.
 
-ghost use Rattle.std.specs.Prelude.{◌≡◌, ◌<◌, ◌==◌, ℕ, All, IfOk};
+ghost use Rattle.std.specs.Prelude.{◌≡◌, ◌≢◌, ◌<◌, ◌==◌, ℕ, All, IfOk};
 ghost use Rattle.std.specs.List.{find};
 ghost use Rattle.std.specs.Option.{option_copied};
+ghost use Rattle.cs_types.specs.declared.Key.{Key};
 ghost use Rattle.cs_types.specs.Kinds.{IsColumnType};
 ghost use Rattle.cs_types.specs.Schemas.{IsSchema};
 ghost use Rattle.cs_model.specs.declared.expr.Expr.{Expr};
 ghost use Rattle.cs_model.specs.Answers as spec;
-ghost use Rattle.cs_model.specs.Held.{IsHeld, IsFit, IsFitTable};
+ghost use Rattle.cs_model.specs.Held.{IsRowAt, IsFit, IsFitTable};
 ghost use Rattle.statement_work.specs.Gives.{GivesCell, GivesRow, GivesRows};
 
 use crate::refusal::WriteRefusal;
@@ -48,6 +49,7 @@ fn updated_cell(
 
 /// What an UPDATE makes of a row: each column that it sets computed from the row as it was and fitted, the others as they
 /// were. `Value` with the first refusal by column: 515, 2628, 220, 8115 and 8134. `Memory` where there is no room for the row.
+/// Condition: no set is of the key, so that the row stays under its own.
 fn updated_row(
     alloc: Global,
     schema: &Schema,
@@ -56,9 +58,9 @@ fn updated_row(
     row: u64,
 ) -> Result<Row, WriteRefusal>
     requires schema { IsSchema schema.now }
-    requires held { IsHeld schema.now old.now }
+    requires other { All (λ (set : ℕ × Expr). set.0 ≢ schema.now.key) sets.now }
     ensures gives { GivesRow row (spec.updated_row schema.now sets.now old.now) result }
-    ensures held { IfOk result (IsHeld schema.now) }
+    ensures under { (key : Key) → IsRowAt schema.now key old.now → IfOk result (IsRowAt schema.now key) }
 {
     let mut cells = Row::new(alloc);
     for (i, column) in schema.columns.as_slice().iter().enumerate() {
@@ -70,7 +72,7 @@ fn updated_row(
 
 /// What an UPDATE puts at the keys of the rows that its filter keeps, in the order of their keys. `Value` with the first
 /// refusal by row, counted among those that it keeps, and then by column, as `updated_row` has them. `Memory` where there
-/// is no room for the rows. Condition: the columns hold the rows.
+/// is no room for the rows. Conditions: the columns hold the rows, each under its key, and no set is of the key.
 pub fn updated(
     alloc: Global,
     schema: &Schema,
@@ -79,6 +81,7 @@ pub fn updated(
 ) -> Result<Items<Edit>, WriteRefusal>
     requires schema { IsSchema schema.now }
     requires table { IsFitTable schema.now rows.now.entries }
+    requires other { All (λ (set : ℕ × Expr). set.0 ≢ schema.now.key) plan.now.sets }
     ensures gives { GivesRows (spec.updated schema.now plan.now rows.now.entries) result }
     ensures fit { IfOk result (λ edits. All (IsFit schema.now) edits) }
 {

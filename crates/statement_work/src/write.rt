@@ -6,7 +6,8 @@ ghost use Rattle.std.specs.Option.{option_copied};
 ghost use Rattle.cs_types.specs.Kinds.{IsColumnType};
 ghost use Rattle.cs_types.specs.Schemas.{IsSchema};
 ghost use Rattle.cs_model.specs.Expressions.{Computed, Gives};
-ghost use Rattle.cs_model.specs.Held.{IsHeld};
+ghost use Rattle.cs_types.specs.Rows.{key_in};
+ghost use Rattle.cs_model.specs.Held.{IsRowAt};
 ghost use Rattle.cs_model.specs.Answers.{kept, computed_of, given, inserted_row, rows_from, series_len, series, inserted};
 ghost use Rattle.cs_model.specs.Series.{series_schema};
 ghost use Rattle.statement_work.specs.Gives.{GivesCell, GivesRow, GivesRows};
@@ -220,7 +221,8 @@ pub fn written_rows(
 ) -> Result<Items<Row>, WriteRefusal>
     requires { IsSchema schema.now }
     ensures gives { GivesRows (inserted schema.now plan.now) result }
-    ensures held { IfOk result (λ rows. All (IsHeld schema.now) rows) }
+    // Each is a row of the table under its own key.
+    ensures under { IfOk result (λ rows. All (λ row. IsRowAt schema.now (key_in schema.now.key row) row) rows) }
 {
     let columns = plan.columns.as_slice();
     let rows = plan.rows.as_slice();

@@ -2,6 +2,7 @@
 
 ghost use Rattle.std.specs.Prelude.{◌≡◌, ◌≤◌, ℕ, List, length, Result, IfOk};
 ghost use Rattle.cs_model.specs.declared.entry.Bound.{Bound};
+ghost use Rattle.cs_model.specs.Ready.{IsReady};
 ghost use Rattle.tsql_exprs.specs.Refusals.{AnswersOnly};
 ghost use Rattle.tsql_reader.specs.Statements.{IsNoStatement, RefusesStatement};
 ghost use Rattle.bind_faults.specs.declared.fault.Fault.{Fault};
@@ -78,7 +79,9 @@ fn refused(number: u32, at: u32) -> Bound
 /// for a table that is not there; then the leftmost fault, at one place the one of the least number. `Memory` where there is
 /// no room for the bound form.
 pub fn bind(alloc: Global, schema: &Schema, statement: &Statement) -> Result<Bound, BindRefusal>
-    ensures { GivesBound (bound_of schema.now statement.now) result }
+    ensures gives { GivesBound (bound_of schema.now statement.now) result }
+    // An UPDATE that is bound sets no key.
+    ensures ready { IfOk result (IsReady schema.now) }
 {
     let fault = if is_postponed(statement) {
         Some(LATER)
@@ -124,6 +127,8 @@ pub fn bind_text(alloc: Global, schema: &Schema, text: &[u8]) -> Result<Bound, M
     ensures found { IfOk result (λ bound. Means schema.now text.now bound) }
     // It means nothing else.
     ensures only { (other : Bound) → Means schema.now text.now other → IfOk result (λ bound. bound ≡ other) }
+    // It can be run: an UPDATE sets no key, and a refusal is one of reading.
+    ensures ready { IfOk result (IsReady schema.now) }
 {
     match read_statement(alloc, text) {
         Ok(statement) => meaning(bind(alloc, schema, &statement)),

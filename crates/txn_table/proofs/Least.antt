@@ -4,7 +4,8 @@ use Rattle.std.specs.Option.{IsSomeAnd, unwrap_or}
 use Rattle.std.proofs.lemmas.Bool.{cases_lt}
 use Rattle.std.proofs.lemmas.Option.{slice_get_past}
 use Rattle.txn_table.specs.declared.txn.Txn.{Txn}
-use Rattle.txn_table.specs.Txns.{txn_at, or_none, snapshot_of, lesser_of, IsFloor}
+use Rattle.cs_model.specs.Floors.{IsFloor}
+use Rattle.txn_table.specs.Txns.{txn_at, or_none, snapshot_of, snapshots_in, lesser_of}
 
 -- the least snapshot of the sessions below n
 pub record IsLeastBelow (txns : ℕ → Option Txn) (n : ℕ) (least : Option ℕ) : Type 0 where
@@ -54,10 +55,10 @@ past : (places : List (Option Txn)) (session : ℕ) → length places ≤ sessio
 past places session over = ap (λ o. snapshot_of (or_none o)) (slice_get_past places session over)
 
 -- the floor of all places
-pub floor_is : (places : List (Option Txn)) (clock : ℕ) (least : Option ℕ) → IsLeastBelow (txn_at places) (length places) least → IsFloor (txn_at places) clock (unwrap_or least clock)
+pub floor_is : (places : List (Option Txn)) (clock : ℕ) (least : Option ℕ) → IsLeastBelow (txn_at places) (length places) least → IsFloor (snapshots_in (txn_at places)) clock (unwrap_or least clock)
 floor_is places clock None h = record {
   least = λ session s e. absurd (none session s e);
-  taken = inr (refl, λ session. nothing session (snapshot_of (txn_at places session)) refl);
+  one_of = inr (refl, λ session. nothing session (snapshot_of (txn_at places session)) refl);
 }
   where
     none : (session s : ℕ) → snapshot_of (txn_at places session) ≡ Some s → ⊥
@@ -77,7 +78,7 @@ floor_is places clock (Some m) h = record {
     | inl within ↦ h.below session s within e
     | inr over ↦ absurd (differ s (sym (past places session over) ∙ e))
   ];
-  taken = inl h.is;
+  one_of = inl h.is;
 }
   where
     differ : (s : ℕ) → None ≡ Some s → ⊥

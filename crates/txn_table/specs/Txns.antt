@@ -1,5 +1,5 @@
 -- Open transactions by session.
-use Rattle.std.specs.Prelude.{◌≡◌, ◌≢◌, ◌⊎◌, ℕ, ◌<◌, ◌≤◌, min, List, [], slice_get, Any, ◌==◌, if◌then◌else◌, unwrap_or, Option, None, Some}
+use Rattle.std.specs.Prelude.{◌≡◌, ◌≢◌, ℕ, ◌<◌, min, List, [], slice_get, Any, ◌==◌, if◌then◌else◌, unwrap_or, Option, None, Some}
 use Rattle.cs_types.specs.declared.Key.{Key}
 use Rattle.write_set.specs.declared.write.Write.{Write}
 use Rattle.write_set.specs.Writes.{staged}
@@ -72,10 +72,9 @@ OwnsAs (Some txn) key number = (txn.number ≡ number) × Owns (Some txn) key
 abbrev pub IsHolder : (ℕ → Option Txn) → Key → ℕ → ℕ → Type 0
 IsHolder txns key but number = (other : ℕ) × (other ≢ but) × OwnsAs (txns other) key number
 
--- the floor is the least snapshot, or the clock where there is none
-pub record IsFloor (txns : ℕ → Option Txn) (clock floor : ℕ) : Type 0 where
-  pub least : (session s : ℕ) → snapshot_of (txns session) ≡ Some s → floor ≤ s
-  pub taken : ((session : ℕ) × (snapshot_of (txns session) ≡ Some floor)) ⊎ ((floor ≡ clock) × ((session : ℕ) → snapshot_of (txns session) ≡ None))
+-- the snapshots of the open transactions, by session
+abbrev pub snapshots_in : (ℕ → Option Txn) → ℕ → Option ℕ
+snapshots_in txns session = snapshot_of (txns session)
 
 abbrev pub lesser_of : Option ℕ → Option ℕ → Option ℕ
 lesser_of None other = other

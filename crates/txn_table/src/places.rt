@@ -1,6 +1,7 @@
 // The transactions by session.
 ghost use Rattle.std.specs.Prelude.{◌≡◌, ◌≢◌, ℕ, ◌<◌, ◌≤◌, IfSome, IfNone};
-ghost use Rattle.txn_table.specs.Txns.{txn_at, Owns, IsHolder, IsFloor, lesser_of};
+ghost use Rattle.txn_table.specs.Txns.{txn_at, Owns, IsHolder, snapshots_in, lesser_of};
+ghost use Rattle.cs_model.specs.Floors.{IsFloor};
 
 use crate::changes::{number_of_owner, snapshot_of_txn};
 use crate::txn::Txn;
@@ -35,7 +36,7 @@ fn lesser(least: Option<u64>, other: Option<u64>) -> Option<u64>
 
 /// The least snapshot, or the clock where there is none.
 pub fn floor_in(places: &[Option<Txn>], clock: u64) -> u64
-    ensures { IsFloor (txn_at places.now) clock result }
+    ensures { IsFloor (snapshots_in (txn_at places.now)) clock result }
 {
     let mut least = None;
     for place in places {

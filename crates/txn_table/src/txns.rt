@@ -27,7 +27,8 @@ impl Model for Txns {
 
 impl Txns {
     ghost use Rattle.std.specs.Prelude.{◌≡◌, ◌≢◌, ℕ, ◌+◌, ◌-◌, ◌^◌, ◌<◌, None, Some, IsSome, IfSome, IfNone, IfOk, OnOk, OnErr};
-    ghost use Rattle.txn_table.specs.Txns.{IsSession, txn_of, with, opened, deepened, fixed, widened, snapshot_of, depth_of, own_of, Owns, IsHolder, IsFloor};
+    ghost use Rattle.txn_table.specs.Txns.{IsSession, txn_of, with, opened, deepened, fixed, widened, snapshot_of, depth_of, own_of, Owns, IsHolder, snapshots_in};
+    ghost use Rattle.cs_model.specs.Floors.{IsFloor};
 
     /// No transactions. It takes no memory.
     pub fn new() -> Txns
@@ -146,7 +147,7 @@ impl Txns {
 
     /// The least snapshot of the open transactions, or the clock where none has one.
     pub fn floor(&self, clock: u64) -> u64
-        ensures { IsFloor (txn_of self.now) clock result }
+        ensures { IsFloor (snapshots_in (txn_of self.now)) clock result }
     {
         floor_in(&self.places, clock)
     }

@@ -1,5 +1,6 @@
 use Rattle.std.proofs.Common.{◌≡◌, ℕ, ◌≤◌, ◌<◌, ◌+◌, ◌^◌, ◌∙◌, take, arith, rules}
 use Rattle.cs_model.specs.Actors.{actor_of}
+use Rattle.cs_model.specs.State.{begin_of}
 use Rattle.cs_model.specs.Text.{statements_of}
 use Rattle.cs_model.specs.Places.{place_in}
 use Rattle.cs_model.proofs.LogText.{few, counts_more, prints_more}
@@ -20,7 +21,7 @@ loop-i-preserved c =
     λ session. counts_more log c.loop-i.i c.index-log-i.result c.loop-i-test.true c.index-log-i.is session (place_in c.loop-i.places session) (place_in c.count.new.places session)
     (c.loop-i.invariant.places session) (c.in_ok-place.ensures.counts session) in
     record {
-      text = prints_more log c.loop-i.i c.index-log-i.result c.loop-i-test.true c.index-log-i.is c.args.schema.now c.loop-i.line c.append_entry.new.line c.in_ok-place.place
+      text = prints_more log c.loop-i.i c.index-log-i.result c.loop-i-test.true c.index-log-i.is (begin_of c.args.schema.now) c.loop-i.line c.append_entry.new.line c.in_ok-place.place
           (c.in_ok-place.ensures.place ∙ places (actor_of c.index-log-i.result)) c.in_ok-append_entry.ensures c.loop-i.invariant.text;
       places = places;
     }

@@ -1,4 +1,5 @@
 use Rattle.std.proofs.Common.{◌∙◌}
+use Rattle.cs_model.specs.State.{begin_of}
 use Rattle.script_reader.specs.Schedule.{Scheduled}
 use Rattle.script_runner.specs.Running.{IsFrontRun}
 use Rattle.script_runner.specs.Logs.{IsLogOf, IsFrontLogOf}
@@ -8,13 +9,13 @@ use Rattle.script_runner.proofs.run.run_schedule.Goals as goal
 pub returns-clause-log : goal.returns-clause-log
 returns-clause-log g c =
     let script = c.args.script.now in
-    let log = c.run_script-result.new.core.log in
+    let log = c.run_script-result.new.runner.log in
     on_ok (Scheduled script log) (IsLogOf script log) c.run_script-result.result
-    (log_of script c.run_script-result.new.core.schema log c.requires.runnable (c.run_script-result.ensures.schema ∙ c.requires.schema) c.log-log.ensures.legal) c.run_script-result.ensures.scheduled
+    (log_of script c.run_script-result.new.runner.schema log c.requires.runnable (c.run_script-result.ensures.schema ∙ c.requires.schema) c.log-log.ensures.legal) c.run_script-result.ensures.scheduled
 
 pub returns-clause-front : goal.returns-clause-front
 returns-clause-front g c =
     let script = c.args.script.now in
-    let log = c.run_script-result.new.core.log in
-    on_err (IsFrontRun script.schema script.lines log) (IsFrontLogOf script log) c.run_script-result.result
-    (front_log_of script c.run_script-result.new.core.schema log c.requires.runnable (c.run_script-result.ensures.schema ∙ c.requires.schema) c.log-log.ensures.legal) c.run_script-result.ensures.front
+    let log = c.run_script-result.new.runner.log in
+    on_err (IsFrontRun (begin_of script.schema) script.lines log) (IsFrontLogOf script log) c.run_script-result.result
+    (front_log_of script c.run_script-result.new.runner.schema log c.requires.runnable (c.run_script-result.ensures.schema ∙ c.requires.schema) c.log-log.ensures.legal) c.run_script-result.ensures.front

@@ -1,6 +1,7 @@
 use Rattle.std.proofs.Common.{sym, subst, rules, ◌≡◌, Some, None}
 use Rattle.cs_model.specs.State.{Half}
-use Rattle.statement_core.specs.Fit.{IsFitState, IsReady, IsReadyHalf}
+use Rattle.cs_model.specs.Ready.{IsReady}
+use Rattle.statement_core.specs.Fit.{IsFitState, IsReadyHalf}
 use Rattle.statement_core.specs.CoreState.{state_of}
 use Rattle.statement_core.specs.Settled.{Settles, GivesIn, Suits}
 use Rattle.statement_core.proofs.Settled.{finish_steps, gives_half, suits}
@@ -8,7 +9,8 @@ use Rattle.statement_core.proofs.Fitting.{fit_half}
 use Rattle.statement_core.proofs.finish.finish.Goals as goal
 
 pub returns-clause-step : goal.returns-clause-step
-returns-clause-step c = λ schema done.
+returns-clause-step c = λ begin done.
+    let schema = begin.schema in
     let m = state_of c.args.held.now in
     let mid = state_of c.set_half.new.held in
     let half : Half = record { bound = c.in-Some.half.bound.value; short = c.in-Some.half.short } in

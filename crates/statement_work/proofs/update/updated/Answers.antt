@@ -24,11 +24,12 @@ loop-key-preserved c =
     let rest = c.next.new.self in
     let is : left ≡ entry ∷ rest = rest_more deref_pair left rest c.next.result (c.in-Some.key, c.in-Some.row) c.in-Some.is c.next.ensures.steps in
     let gives : spec.updated_row schema plan.sets entry.1 ≡ Ok after = ap (λ sets. spec.updated_row schema sets entry.1) (sym c.as_slice-sets.ensures) ∙ c.in_ok-after.ensures.gives in
+    let here = head_fit schema entry rest left is c.loop-key.invariant.rest in
     let kept : c.keeps.result ≡ true = search (rules, c.if-not-keeps.false) in
     let pushed = c.in_ok-push.ensures.ok in
     record {
       gives = edit_more schema plan.filter plan.sets edits new entry after rest left is (sym c.keeps.ensures ∙ kept) gives pushed ∙ c.loop-key.invariant.gives;
-      fit = subst (All (IsFit schema)) (sym pushed) (All-push (IsFit schema) edits (entry.0, Some after) c.loop-key.invariant.fit ((head_fit schema entry rest left is c.loop-key.invariant.rest).0, c.in_ok-after.ensures.held));
+      fit = subst (All (IsFit schema)) (sym pushed) (All-push (IsFit schema) edits (entry.0, Some after) c.loop-key.invariant.fit (here.0, c.in_ok-after.ensures.under entry.0 here.1));
       rest = tail_fit schema entry rest left is c.loop-key.invariant.rest;
       few = few_more edits new (entry.0, Some after) entry rest left (btree_map_len c.args.rows.now) is pushed c.loop-key.invariant.few;
     }

@@ -1,5 +1,6 @@
 use Rattle.std.proofs.Common.{◌≡◌, ℕ, ◌+◌, ◌<◌, length, sym, ap, ◌∙◌, subst, arith, Option}
-use Rattle.txn_table.specs.Txns.{txn_at, snapshot_of, lesser_of, IsFloor}
+use Rattle.cs_model.specs.Floors.{IsFloor}
+use Rattle.txn_table.specs.Txns.{txn_at, snapshot_of, snapshots_in, lesser_of}
 use Rattle.txn_table.proofs.Least.{IsLeastBelow, least_more, floor_is}
 use Rattle.txn_table.proofs.PlaceSet.{txn_at-within}
 use Rattle.txn_table.proofs.places.floor_in.Goals as goal
@@ -18,5 +19,5 @@ pub returns : goal.returns
 returns c =
     let places = c.args.places.now in
     let all : c.loop-place.place-index ≡ length c.args.places.now = omega arith in
-    subst (λ (n : ℕ). IsFloor (txn_at places) c.args.clock n) (sym c.unwrap_or.ensures)
+    subst (λ (n : ℕ). IsFloor (snapshots_in (txn_at places)) c.args.clock n) (sym c.unwrap_or.ensures)
     (floor_is places c.args.clock c.loop-place.least (subst (λ (n : ℕ). IsLeastBelow (txn_at places) n c.loop-place.least) all c.loop-place.invariant))

@@ -1,0 +1,10 @@
+pub mod Answered
+pub mod Gathered
+pub mod Keys
+pub mod Least
+pub mod Moves
+pub mod Needed
+pub mod Once
+pub mod Orders
+pub mod Sorts
+pub mod Ties

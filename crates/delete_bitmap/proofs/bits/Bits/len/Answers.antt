@@ -1,6 +1,0 @@
-use Rattle.std.proofs.Common.{sym}
-use Rattle.delete_bitmap.proofs.BitLemmas.{length-bits_in}
-use Rattle.delete_bitmap.proofs.bits.Bits.len.Goals as goal
-
-pub returns : goal.returns
-returns c = rw (← c.self.view_is) (sym (length-bits_in c.self.inside.length c.self.inside.words.items))

@@ -1,5 +1,0 @@
-use Rattle.delete_bitmap.proofs.BitLemmas.{bits_in-none}
-use Rattle.delete_bitmap.proofs.bits.Bits.new.Goals as goal
-
-pub returns : goal.returns
-returns c = rw c.new.ensures.items (bits_in-none c.args.length)

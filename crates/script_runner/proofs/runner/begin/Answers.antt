@@ -1,0 +1,25 @@
+use Rattle.std.proofs.Common.{refl, subst}
+use Rattle.cs_model.specs.Ready.{IsReady}
+use Rattle.cs_model.specs.State.{begin_of}
+use Rattle.script_reader.specs.Schedule.{IsBound}
+use Rattle.statement_core.specs.Seats.{seat}
+use Rattle.script_runner.proofs.Waiting.{begun_is, waits_begun, waits_same}
+use Rattle.script_runner.proofs.runner.begin.Goals as goal
+
+pub start-requires-clause-ready : goal.start-requires-clause-ready
+start-requires-clause-ready c = subst (λ s. IsReady s c.bound_of-bound.result) c.schema.ensures c.bound_of-bound.ensures.ready
+
+pub returns-clause-log : goal.returns-clause-log
+returns-clause-log c =
+    begun_is (begin_of c.args.core.now.schema) c.args.core.now.log c.start.new.self.log c.args.session c.args.text.now c.bound_of-bound.result c.in_ok-started.started.short c.in_ok-started.ensures.log
+    (subst (λ s. IsBound s c.args.text.now c.bound_of-bound.result) c.schema.ensures c.bound_of-bound.ensures.bound)
+
+pub returns-clause-waits : goal.returns-clause-waits
+returns-clause-waits c =
+    let x = c.in_ok-started.ensures in
+    waits_begun c.args.core.now.schema c.start.new.self.schema c.args.core.now.log c.start.new.self.log c.args.session c.bound_of-bound.result (seat c.args.waiting.now) (seat c.set.new.self) c.in_ok-started.started
+    c.requires.waits x.schema x.log x.started x.fit x.bound (subst (λ s. IsReady s c.bound_of-bound.result) c.schema.ensures c.bound_of-bound.ensures.ready) c.set.ensures.after
+
+pub returns-in_err-started-clause-waits : goal.returns-in_err-started-clause-waits
+returns-in_err-started-clause-waits c =
+    waits_same (begin_of c.args.core.now.schema) c.args.core.now.log c.start.new.self.log (seat c.args.waiting.now) (seat c.args.waiting.now) c.requires.waits c.in_err-started.ensures.err refl

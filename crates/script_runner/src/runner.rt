@@ -1,0 +1,213 @@
+// Runs steps over a core, one by one.
+ghost use Rattle.std.specs.Prelude.{All, ◌≡◌, ◌≤◌, ◌<◌, ◌++◌, ◌∷◌, [], List, length, Contains, IfOk, OnOk, OnErr, true, false};
+ghost use Rattle.cs_types.specs.Schemas.{IsSchema};
+ghost use Rattle.cs_model.specs.declared.entry.Entry.{Entry};
+ghost use Rattle.cs_model.specs.declared.entry.Entry.TheVariants.{End};
+ghost use Rattle.cs_model.specs.Actors.{entries_of, is_begun, has_ended};
+ghost use Rattle.cs_model.specs.Ready.{IsReady};
+ghost use Rattle.cs_model.specs.State.{State, begin_of};
+ghost use Rattle.cs_model.specs.Steps.{Legal};
+ghost use Rattle.cs_model.specs.Text.{IsPrintableEntry};
+ghost use Rattle.script_reader.specs.Schedule.{IsBound, IsStart, IsFinishOf, IsPiece};
+ghost use Rattle.script_reader.specs.Scripts.{session_of, text_of};
+ghost use Rattle.statement_core.specs.Seats.{seat};
+ghost use Rattle.script_runner.specs.Running.{Waits, finishes};
+
+use cs_base::Memory;
+use cs_model::{Bound, Entry, Refusal};
+use cs_types::Schema;
+use script_reader::Step;
+use statement_core::{Core, Desk, Seats, Started};
+use std::alloc::Global;
+use std::marker::Model;
+use tsql_binder::bind_text;
+
+/// What a text is bound to; a refusal where there is no memory for it.
+fn bound_of(alloc: Global, schema: &Schema, text: &[u8]) -> Bound
+    requires { length text.now ≤ 65_536 }
+    ensures bound { IsBound schema.now text.now result }
+    ensures ready { IsReady schema.now result }
+{
+    match bind_text(alloc, schema, text) {
+        Ok(bound) => bound,
+        Err(_) => Bound::Refused(Refusal::Memory),
+    }
+}
+
+/// Starts a statement; it waits in its session's seat for the Finish.
+fn begin(
+    alloc: Global,
+    core: &mut Core,
+    waiting: &mut Seats<Started>,
+    session: u32,
+    text: &[u8],
+) -> Result<(), Memory>
+    requires seat { session < 65 }
+    requires known { Contains core.old.sessions session }
+    requires rests { is_begun (entries_of session core.old.log) ≡ false }
+    requires going { has_ended (entries_of session core.old.log) ≡ false }
+    requires waits { Waits (begin_of core.old.schema) core.old.log (seat waiting.old) }
+    requires short { length text.now ≤ 65_536 }
+    ensures log { OnOk result ((e : Entry) × (core.new.log ≡ core.old.log ++ e ∷ []) × IsStart (begin_of core.old.schema) core.old.log session text.now e) }
+    ensures waits { Waits (begin_of core.old.schema) core.new.log (seat waiting.new) }
+    ensures schema { core.new.schema ≡ core.old.schema }
+    ensures sessions { core.new.sessions ≡ core.old.sessions }
+    ensures err { OnErr result (core.new.log ≡ core.old.log) }
+{
+    let bound = bound_of(alloc, core.schema(), text);
+    let started = core.start(session, bound)?;
+    waiting.set(session, Some(started));
+    Ok(())
+}
+
+/// Finishes the statement that waits in its session's seat.
+fn finish<D: Desk>(
+    alloc: Global,
+    core: &mut Core,
+    waiting: &mut Seats<Started>,
+    session: u32,
+    desk: &D,
+)
+    requires seat { session < 65 }
+    requires schema { IsSchema core.old.schema }
+    requires known { Contains core.old.sessions session }
+    requires begun { is_begun (entries_of session core.old.log) ≡ true }
+    requires waits { Waits (begin_of core.old.schema) core.old.log (seat waiting.old) }
+    ensures log { (e : Entry) × (core.new.log ≡ core.old.log ++ e ∷ []) × IsFinishOf session e }
+    ensures waits { Waits (begin_of core.old.schema) core.new.log (seat waiting.new) }
+    ensures schema { core.new.schema ≡ core.old.schema }
+    ensures sessions { core.new.sessions ≡ core.old.sessions }
+{
+    match waiting.set(session, None) {
+        Some(started) => {
+            let outcome = desk.work(alloc, core.schema(), &started);
+            core.finish(session, outcome);
+        }
+        None => unreachable!(),
+    }
+}
+
+/// Makes the events of one step.
+fn run_step<D: Desk>(
+    alloc: Global,
+    core: &mut Core,
+    waiting: &mut Seats<Started>,
+    step: &Step,
+    desk: &D,
+) -> Result<(), Memory>
+    requires seat { session_of step.now < 65 }
+    requires schema { IsSchema core.old.schema }
+    requires known { Contains core.old.sessions (session_of step.now) }
+    requires follows { is_begun (entries_of (session_of step.now) core.old.log) ≡ finishes step.now }
+    requires going { has_ended (entries_of (session_of step.now) core.old.log) ≡ false }
+    requires waits { Waits (begin_of core.old.schema) core.old.log (seat waiting.old) }
+    requires short { length (text_of step.now) ≤ 65_536 }
+    ensures piece { OnOk result ((piece : List Entry) × IsPiece (begin_of core.old.schema) core.old.log step.now piece × (core.new.log ≡ core.old.log ++ piece)) }
+    ensures waits { Waits (begin_of core.old.schema) core.new.log (seat waiting.new) }
+    ensures schema { core.new.schema ≡ core.old.schema }
+    ensures sessions { core.new.sessions ≡ core.old.sessions }
+    ensures err { OnErr result (core.new.log ≡ core.old.log) }
+{
+    match step {
+        Step::Whole { session, text } => {
+            begin(alloc, core, waiting, *session, text.as_slice())?;
+            finish(alloc, core, waiting, *session, desk);
+            Ok(())
+        }
+        Step::Begun { session, text } => begin(alloc, core, waiting, *session, text.as_slice()),
+        Step::Finished { session } => {
+            finish(alloc, core, waiting, *session, desk);
+            Ok(())
+        }
+    }
+}
+
+/// Runs the steps of sessions over a core, one by one; what a session has started and not finished waits in it. It is seen as
+/// its core: the table, the log of the events, and the sessions that it serves.
+#[derive(Drop)]
+pub struct Runner {
+    alloc: Global,
+    core: Core,
+    waiting: Seats<Started>,
+}
+
+impl Model for Runner {
+    ghost use Rattle.statement_core.specs.CoreValue.{CoreValue};
+
+    ghost Value = { CoreValue };
+
+    ghost use Rattle.cs_model.specs.contracts.expr.Expr as expr;
+    ghost use Rattle.cs_model.specs.contracts.pred.Pred as pred;
+    ghost use Rattle.std.specs.Coded.{codes};
+
+    ghost coded = { Prim.hlevel (codes, expr.the_row.coded, pred.the_row.coded) };
+
+    ghost view = { λ r. r.core };
+
+    ghost use Rattle.cs_model.specs.State.{begin_of};
+    ghost use Rattle.statement_core.specs.Seats.{seat};
+    ghost use Rattle.script_runner.specs.Running.{Waits};
+
+    ghost invariant = { λ r. Waits (begin_of r.core.schema) r.core.log (seat r.waiting) };
+}
+
+impl Runner {
+    /// A runner over a new core. `Memory` where there is no room for its seats.
+    pub fn new(alloc: Global, core: Core) -> Result<Runner, Memory>
+        requires { core.log ≡ [] }
+        ensures { IfOk result (λ runner. runner ≡ core) }
+    {
+        let waiting = Seats::new(alloc)?;
+        Ok(Runner {
+            alloc,
+            core,
+            waiting,
+        })
+    }
+
+    /// Runs one step: the Start of a statement, the Finish of the one that its session has half done, or both. `Memory`: no
+    /// event was made. Conditions: the step's session is one that the core serves, has not ended, and has a statement half
+    /// done exactly where the step is a Finish alone; its text has at most 65,536 bytes.
+    pub fn step<D: Desk>(&mut self, step: &Step, desk: &D) -> Result<(), Memory>
+        requires seat { session_of step.now < 65 }
+        requires schema { IsSchema self.old.schema }
+        requires known { Contains self.old.sessions (session_of step.now) }
+        requires follows { is_begun (entries_of (session_of step.now) self.old.log) ≡ finishes step.now }
+        requires going { has_ended (entries_of (session_of step.now) self.old.log) ≡ false }
+        requires short { length (text_of step.now) ≤ 65_536 }
+        ensures piece { OnOk result ((piece : List Entry) × IsPiece (begin_of self.old.schema) self.old.log step.now piece × (self.new.log ≡ self.old.log ++ piece)) }
+        ensures schema { self.new.schema ≡ self.old.schema }
+        ensures sessions { self.new.sessions ≡ self.old.sessions }
+        ensures err { OnErr result (self.new.log ≡ self.old.log) }
+    {
+        run_step(self.alloc, &mut self.core, &mut self.waiting, step, desk)
+    }
+
+    /// The End of a session. It takes no memory.
+    pub fn end(&mut self, session: u32)
+        requires known { Contains self.old.sessions session }
+        requires rests { is_begun (entries_of session self.old.log) ≡ false }
+        requires going { has_ended (entries_of session self.old.log) ≡ false }
+        ensures log { self.new.log ≡ self.old.log ++ End session ∷ [] }
+        ensures schema { self.new.schema ≡ self.old.schema }
+        ensures sessions { self.new.sessions ≡ self.old.sessions }
+    {
+        self.core.end(session);
+    }
+
+    /// The table.
+    pub fn schema(&self) -> &Schema
+        ensures { result.now ≡ self.now.schema }
+    {
+        self.core.schema()
+    }
+
+    /// The log of the events, which is legal and can be printed.
+    pub fn log(&self) -> &[Entry]
+        ensures log { result.now ≡ self.now.log }
+        ensures legal { (m : State) × Legal (begin_of self.now.schema) self.now.log m }
+        ensures printable { All (IsPrintableEntry self.now.schema) self.now.log }
+    {
+        self.core.log()
+    }
+}
