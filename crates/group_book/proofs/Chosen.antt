@@ -8,14 +8,13 @@ use Rattle.std.proofs.lemmas.List.Elements.{recursion_from_All, All-from_recursi
 use Rattle.std.proofs.lemmas.List.Folds.{list_any-append}
 use Rattle.cs_model.specs.declared.work.Actor.{Actor}
 use Rattle.cs_model.specs.declared.work.Actor.TheVariants.{Session, Mover}
-use Rattle.log_laws.specs.Laws.{AreDistinct}
 use Rattle.group_book.specs.Book.{Version, Ending, Content, Group, Choice, Book, frozen, frozen_in, how_many, has_ended, is_buffered, is_closed, is_compressed}
 use Rattle.group_book.specs.Book.Content.{Opened, Closed, Compressed, Invisible, Tombstone}
 use Rattle.group_book.specs.Book.Choice.{Compress, Flush, Rebuild, Merge, Settle, Clear, Idle}
 use Rattle.group_book.specs.Turns.{is_id_of, is_claimed, is_gone, raised, repacked, ends, claim_by}
 use Rattle.group_book.specs.Choices.{free, free_packed, first_of, lowest, remaining, is_thin, fit_together, or_else, first_pair, flushable, flush_sources, settling_count, tombstone_count, some_if, merge_of, choices, first_some, if_mover, allowed, choice}
 use Rattle.group_book.specs.Invariant.{AreById, IsSized, AreGroups, AreSourcesOf, may_be_source, IsThere, MayTake, MayDo}
-use Rattle.group_book.proofs.Lists.{All-in, all-both, all-filter, how_many-append, list_any-found, list_any-some, weaker}
+use Rattle.group_book.proofs.Lists.{All-in, all-both, all-filter, how_many-append, list_any-found, list_any-some, weaker, AreApart, apart_none, apart_cons}
 use Rattle.group_book.proofs.Sized.{by_id_filter}
 
 -- ---- lists
@@ -57,9 +56,9 @@ apart_from : (n : ℕ) (gs : List Group) → AllByRecursion (λ (h : Group). n <
 apart_from n [] all = tt
 apart_from n (g ∷ gs) all = ((λ same. let lt = all.0 in absurd (omega (arith, lt, same))), apart_from n gs all.1)
 
-distinct_ids : (gs : List Group) → AreById gs → AreDistinct (map (λ (g : Group). g.id) gs)
-distinct_ids [] up = tt
-distinct_ids (g ∷ gs) up = (All-from_recursion (λ y. g.id ≢ y) (map (λ (h : Group). h.id) gs) (apart_from g.id gs up.0), distinct_ids gs up.1)
+distinct_ids : (gs : List Group) → AreById gs → AreApart (map (λ (g : Group). g.id) gs)
+distinct_ids [] up = apart_none
+distinct_ids (g ∷ gs) up = apart_cons g.id (map (λ (h : Group). h.id) gs) (All-from_recursion (λ y. g.id ≢ y) (map (λ (h : Group). h.id) gs) (apart_from g.id gs up.0)) (distinct_ids gs up.1)
 
 -- ---- the first group that passes
 
@@ -144,7 +143,7 @@ module _ (group_rows floor : ℕ) (book : Book) (by : Actor) (groups : AreGroups
     source : may_be_source choice group.content ≡ true
     free : is_claimed book.claims group ≡ false
 
-  may_take : (choice : Choice) (sources : List ℕ) → AreSourcesOf choice sources → AreDistinct sources → AllByRecursion (IsOwned choice) sources → MayTake book by choice sources
+  may_take : (choice : Choice) (sources : List ℕ) → AreSourcesOf choice sources → AreApart sources → AllByRecursion (IsOwned choice) sources → MayTake book by choice sources
   may_take choice sources kind distinct owned = record {
     none = none;
     kind = kind;
@@ -204,11 +203,11 @@ module _ (group_rows floor : ℕ) (book : Book) (by : Actor) (groups : AreGroups
   owned_by : (choice : Choice) (g : Group) → IsFree g → may_be_source choice g.content ≡ true → IsOwned choice g.id
   owned_by choice g f source = record { group = g; in_groups = f.in_groups; named = refl; source = source; free = f.free }
 
-  one_distinct : (id : ℕ) → AreDistinct (id ∷ [])
-  one_distinct id = (All-from_recursion (λ y. id ≢ y) [] tt, tt)
+  one_distinct : (id : ℕ) → AreApart (id ∷ [])
+  one_distinct id = apart_cons id [] (All-from_recursion (λ y. id ≢ y) [] tt) apart_none
 
-  two_distinct : (a b : ℕ) → a < b → AreDistinct (a ∷ b ∷ [])
-  two_distinct a b lt = (All-from_recursion (λ y. a ≢ y) (b ∷ []) ((λ same. absurd (omega (arith, lt, same))), tt), one_distinct b)
+  two_distinct : (a b : ℕ) → a < b → AreApart (a ∷ b ∷ [])
+  two_distinct a b lt = apart_cons a (b ∷ []) (All-from_recursion (λ y. a ≢ y) (b ∷ []) ((λ same. absurd (omega (arith, lt, same))), tt)) (one_distinct b)
 
   -- ---- the choices
 

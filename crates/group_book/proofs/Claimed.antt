@@ -8,13 +8,12 @@ use Rattle.std.proofs.lemmas.List.Elements.{recursion_from_All, All-from_recursi
 use Rattle.cs_model.specs.declared.work.Actor.{Actor}
 use Rattle.cs_model.specs.declared.work.Actor.TheVariants.{Session, Mover}
 use Rattle.cs_model.specs.Changes.{Change}
-use Rattle.log_laws.specs.Laws.{AreDistinct}
 use Rattle.group_book.specs.Book.{Group, Choice, Claim, Book, how_many, is_opened, is_invisible}
 use Rattle.group_book.specs.Book.Choice.{Flush}
 use Rattle.group_book.specs.Book.Content.{Invisible}
 use Rattle.group_book.specs.Turns.{is_id_of, is_fresh, is_claimed, same_actor, is_by, first_claim, claim_of, after_claim, after_flush_claim}
 use Rattle.group_book.specs.Invariant.{IsSized, AreGroups, may_be_source, makes_group, IsThere, IsLent, IsClaim, fresh_in, joined, IsBookOf, MayTake, MayClaim}
-use Rattle.group_book.proofs.Lists.{All-in, all-append, weaker, how_many-append, how_many-none, list_any-found, list_any-some, none_pass}
+use Rattle.group_book.proofs.Lists.{All-in, all-append, weaker, how_many-append, how_many-none, list_any-found, list_any-some, none_pass, AreApart, apart_head, apart_tail, apart_cons}
 use Rattle.group_book.proofs.Changes.{AreAscending}
 use Rattle.group_book.proofs.Events.{claim_stock}
 use Rattle.group_book.proofs.Lent.{lent_is}
@@ -26,10 +25,10 @@ or_true : (t : Bool) → (t || true) ≡ true
 or_true true = refl
 or_true false = refl
 
-distinct_join : (xs ys : List ℕ) → AreDistinct xs → AreDistinct ys → AllByRecursion (λ x. AllByRecursion (λ y. x ≢ y) ys) xs → AreDistinct (xs ++ ys)
+distinct_join : (xs ys : List ℕ) → AreApart xs → AreApart ys → AllByRecursion (λ x. AllByRecursion (λ y. x ≢ y) ys) xs → AreApart (xs ++ ys)
 distinct_join [] ys d_x d_y apart = d_y
 distinct_join (x ∷ xs) ys d_x d_y apart =
-    (All-from_recursion (λ y. x ≢ y) (xs ++ ys) (all-append (λ y. x ≢ y) xs ys (recursion_from_All (λ y. x ≢ y) xs d_x.0) apart.0), distinct_join xs ys d_x.1 d_y apart.1)
+    apart_cons x (xs ++ ys) (All-from_recursion (λ y. x ≢ y) (xs ++ ys) (all-append (λ y. x ≢ y) xs ys (recursion_from_All (λ y. x ≢ y) xs (apart_head x xs d_x)) apart.0)) (distinct_join xs ys (apart_tail x xs d_x) d_y apart.1)
 
 apart_ids : (n : ℕ) (ids : List ℕ) → list_any (λ id. id == n) ids ≡ false → AllByRecursion (λ y. n ≢ y) ids
 apart_ids n ids none = weaker (λ id. (id == n) ≡ false) (λ y. n ≢ y) ids (λ y is same. let e : (y == n) ≡ true = grind (arith, nat_tests) in cc (e, is)) (none_pass (λ id. id == n) ids none)
@@ -84,7 +83,7 @@ module _ (book : Book) (actor : Actor) (choice : Choice) (sources : List ℕ) (t
       let named : is_id_of sources found.0 ≡ true = list_any-some (λ s. s == found.0.id) sources in_list.0 id in_list.1 (rw in_list.2 (let e : (id == found.0.id) ≡ true = grind (arith, nat_tests) in e)) in
       subst (λ n. AllByRecursion (λ y. n ≢ y) (joined (λ (c : Claim). c.sources) book.claims)) same (unclaimed_apart found.0 book.claims (found.2 named).1)) takes.there)
 
-  distinct_more : AreDistinct (joined (λ (c : Claim). c.sources) book.claims) → AreDistinct (sources ++ joined (λ (c : Claim). c.sources) book.claims)
+  distinct_more : AreApart (joined (λ (c : Claim). c.sources) book.claims) → AreApart (sources ++ joined (λ (c : Claim). c.sources) book.claims)
   distinct_more distinct = distinct_join sources (joined (λ (c : Claim). c.sources) book.claims) takes.distinct distinct sources_apart
 
 -- ---- a claim that makes a group
@@ -153,7 +152,7 @@ module _ (group_rows : ℕ) (book : Book) (cs : List Change) (floor : ℕ) (up :
     claims = record {
       actors = actors_more new_claim book.claims may.takes.none j.claims.actors;
       sources = distinct_more book actor choice sources may.takes j.claims.sources;
-      fresh = (All-from_recursion (λ y. book.next ≢ y) (joined (λ (c : Claim). fresh_in c.fresh) book.claims) (fresh_apart book.claims (recursion_from_All (IsClaim group_rows book cs floor) book.claims j.claims.each)), j.claims.fresh);
+      fresh = apart_cons book.next (joined (λ (c : Claim). fresh_in c.fresh) book.claims) (All-from_recursion (λ y. book.next ≢ y) (joined (λ (c : Claim). fresh_in c.fresh) book.claims) (fresh_apart book.claims (recursion_from_All (IsClaim group_rows book cs floor) book.claims j.claims.each))) j.claims.fresh;
       made = one_more (λ (g : Group). is_invisible g.content ≡ true → list_any (λ (c : Claim). is_fresh c.fresh g) (new_claim ∷ book.claims) ≡ true)
           (All-in (λ (g : Group). is_invisible g.content ≡ true → list_any (λ (c : Claim). is_fresh c.fresh g) book.claims ≡ true) (λ (g : Group). is_invisible g.content ≡ true → list_any (λ (c : Claim). is_fresh c.fresh g) (new_claim ∷ book.claims) ≡ true) book.groups
           (λ g _ made is. rw (made is) (or_true (g.id == book.next))) j.claims.made) (λ is. rw next_itself refl);

@@ -47,7 +47,7 @@ module _ (book : Book) (content : Content) (low : All (λ (g : Group). g.id < bo
   below_grown = All-push (λ (g : Group). g.id < book.next + 1) book.groups g0 (All-in IsLow (λ (g : Group). g.id < book.next + 1) book.groups (λ g _ lt. omega (arith, lt)) low) (omega arith)
 
   -- an id that is there is lower than the next
-  there_low : (id : ℕ) → IsThere book.groups id → id < book.next
+  pub there_low : (id : ℕ) → IsThere book.groups id → id < book.next
   there_low id is =
       let found = list_any-found (λ (g : Group). g.id == id) IsLow book.groups (recursion_from_All IsLow book.groups low) is in
       let same : found.0.id ≡ id = let e = found.1 in grind (arith, nat_tests) in

@@ -6,14 +6,13 @@ use Rattle.std.proofs.lemmas.Bool.Decides.{nat_tests}
 use Rattle.std.proofs.lemmas.List.Elements.{recursion_from_All, All-contains, All-contains_itself, All-map}
 use Rattle.cs_types.specs.declared.Key.{Key}
 use Rattle.cs_model.specs.Changes.{Change}
-use Rattle.log_laws.specs.Laws.{AreDistinct}
 use Rattle.group_book.specs.Book.{Version, Ending, Content, Group, Choice, Claim, Book, frozen, frozen_in, how_many, total, deleted, is_opened, is_closed, is_compressed, is_invisible}
 use Rattle.group_book.specs.Book.Content.{Opened, Closed, Compressed, Invisible, Tombstone}
 use Rattle.group_book.specs.Book.Choice.{Compress, Flush, Rebuild, Merge, Settle, Clear, Idle}
 use Rattle.group_book.specs.Turns.{holds, is_id_of, is_fresh, is_by, versions_of, made_of, spent_of, is_none_left, without_claim, without_fresh, without_entries, after_install}
 use Rattle.group_book.specs.Stocks.{stock_of, IsStockOf, is_end_of}
 use Rattle.group_book.specs.Invariant.{IsSized, AreGroups, IsClaim, fresh_in, joined, IsBookOf, may_be_source, makes_group}
-use Rattle.group_book.proofs.Lists.{All-in, all-left, all-right, weaker, how_many-append, list_any-none, some_pass}
+use Rattle.group_book.proofs.Lists.{All-in, all-left, all-right, weaker, how_many-append, list_any-none, some_pass, AreApart, apart_head, apart_tail}
 use Rattle.group_book.proofs.Entries.{holds-filter, held_one}
 use Rattle.group_book.proofs.Events.{source_is, install_stock}
 use Rattle.group_book.proofs.Sized.{All-filter, claim_beside}
@@ -36,17 +35,17 @@ none_sources : (g : Group) (cs : List Claim) → AllByRecursion (λ y. g.id ≢ 
 none_sources g [] all = refl
 none_sources g (c ∷ cs) all = rw (no_member g.id c.sources (all-left (λ y. g.id ≢ y) c.sources (joined (λ (d : Claim). d.sources) cs) all)) (let rest = none_sources g cs (all-right (λ y. g.id ≢ y) c.sources (joined (λ (d : Claim). d.sources) cs) all) in omega (arith, rest))
 
-member_apart : (n : ℕ) (xs ys : List ℕ) → AreDistinct (xs ++ ys) → list_any (λ id. id == n) xs ≡ true → AllByRecursion (λ y. n ≢ y) ys
+member_apart : (n : ℕ) (xs ys : List ℕ) → AreApart (xs ++ ys) → list_any (λ id. id == n) xs ≡ true → AllByRecursion (λ y. n ≢ y) ys
 member_apart n [] ys d is = absurd (cc is)
-member_apart n (x ∷ xs) ys d is = step (x == n) refl is (member_apart n xs ys d.1)
+member_apart n (x ∷ xs) ys d is = step (x == n) refl is (member_apart n xs ys (apart_tail x (xs ++ ys) d))
   where
     step : (t : Bool) → (x == n) ≡ t → (t || list_any (λ id. id == n) xs) ≡ true → (list_any (λ id. id == n) xs ≡ true → AllByRecursion (λ y. n ≢ y) ys) → AllByRecursion (λ y. n ≢ y) ys
     step true same is rest =
         let e : x ≡ n = grind (arith, nat_tests) in
-        subst (λ m. AllByRecursion (λ y. m ≢ y) ys) e (all-right (λ y. x ≢ y) xs ys (recursion_from_All (λ y. x ≢ y) (xs ++ ys) d.0))
+        subst (λ m. AllByRecursion (λ y. m ≢ y) ys) e (all-right (λ y. x ≢ y) xs ys (recursion_from_All (λ y. x ≢ y) (xs ++ ys) (apart_head x (xs ++ ys) d)))
     step false same is rest = rest is
 
-pub one_source : (g : Group) (claims : List Claim) → AreDistinct (joined (λ (c : Claim). c.sources) claims) → how_many (sourced g) claims ≤ 1
+pub one_source : (g : Group) (claims : List Claim) → AreApart (joined (λ (c : Claim). c.sources) claims) → how_many (sourced g) claims ≤ 1
 one_source g [] d = omega arith
 one_source g (c ∷ cs) d = step (is_id_of c.sources g) refl (one_source g cs (distinct_right c.sources (joined (λ (e : Claim). e.sources) cs) d))
   where

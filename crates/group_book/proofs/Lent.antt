@@ -16,7 +16,7 @@ use Rattle.group_book.specs.Turns.{is_number, holds, least_entry, unless_ended, 
 use Rattle.group_book.specs.Stocks.{stock_of, EndFits, IsStockOf, next_change, is_after, is_end_of}
 use Rattle.group_book.specs.Invariant.{IsLent}
 use Rattle.group_book.proofs.Keys.{key_is, key_itself}
-use Rattle.group_book.proofs.Lists.{both_true, weaker, all-left, all-filter}
+use Rattle.group_book.proofs.Lists.{both_true, any_same, weaker, all-left, all-filter}
 use Rattle.group_book.proofs.Changes.{AreAscending, next-above}
 use Rattle.group_book.proofs.Entries.{holds-filter}
 use Rattle.group_book.proofs.Shown.{holds-buffered, unbuffered}
@@ -32,10 +32,6 @@ buffered_filter q (x ∷ xs) k b s h = step (q x) (same_key k x.key && (ltb b x.
     step t true is h rest = cc
     step true false is h rest = rw (is, rest h) refl
     step false false is h rest = rest h
-
-pub any_same : (p q : Version → Bool) (vs : List Version) → AllByRecursion (λ v. p v ≡ q v) vs → list_any p vs ≡ list_any q vs
-any_same p q [] all = refl
-any_same p q (v ∷ vs) all = rw (all.0, any_same p q vs all.1) refl
 
 -- each entry of the buffer stands there
 held_all : (xs : List Ending) → AllByRecursion (λ (x : Ending). holds xs x.key x.end ≡ true) xs

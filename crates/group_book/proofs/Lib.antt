@@ -29,3 +29,7 @@ pub mod Moves
 pub mod Flushed
 pub mod Rise
 pub mod Worked
+pub mod Committed
+pub mod Zips
+pub mod Orders
+pub mod Reordered

@@ -1,7 +1,9 @@
 -- Lists and counts.
 use Rattle.std.proofs.Common.{◌≡◌, ℕ, zero, suc, ◌<◌, ◌≤◌, ◌+◌, Bool, true, false, ◌&&◌, ◌||◌, cond, List, [], ◌∷◌, ◌++◌, map, filter, length, get_or, refl, ap, arith}
-use Rattle.std.specs.List.{All, AllByRecursion, list_any, Contains}
+use Rattle.std.specs.Prelude.{◌≢◌}
+use Rattle.std.specs.List.{All, AllByRecursion, AllPairs, list_any, Contains}
 use Rattle.std.proofs.lemmas.List.Elements.{Contains-get_or}
+use Rattle.std.proofs.lemmas.List.Kept.{AllPairs-cons}
 use Rattle.group_book.specs.Book.{how_many}
 
 pub both_true : (a b : Bool) → (a && b) ≡ true → (a ≡ true) × (b ≡ true)
@@ -143,6 +145,15 @@ list_any-some p (x ∷ xs) (suc k) d inside h = rw (list_any-some p xs k d (omeg
     cases true = refl
     cases false = refl
 
+pub any_same : {X : Type 0} (p q : X → Bool) (xs : List X) → AllByRecursion (λ x. p x ≡ q x) xs → list_any p xs ≡ list_any q xs
+any_same p q [] all = refl
+any_same p q (x ∷ xs) all = rw (all.0, any_same p q xs all.1) refl
+
+-- what holds of each
+pub every_one : {X : Type 0} (P : X → Type 0) → ((x : X) → P x) → (xs : List X) → AllByRecursion P xs
+every_one P h [] = tt
+every_one P h (x ∷ xs) = (h x, every_one P h xs)
+
 pub weaker : {X : Type 0} (P Q : X → Type 0) (xs : List X) → ((x : X) → P x → Q x) → AllByRecursion P xs → AllByRecursion Q xs
 weaker P Q [] h ps = tt
 weaker P Q (x ∷ xs) h ps = (h x ps.0, weaker P Q xs h ps.1)
@@ -154,3 +165,19 @@ counted p xs x in_list passes = how_many-some p xs in_list.0 x in_list.1 (rw in_
 pub all-map : {X : Type 0} (P Q : X → Type 0) (f : X → X) (xs : List X) → ((x : X) → P x → Q (f x)) → AllByRecursion P xs → AllByRecursion Q (map f xs)
 all-map P Q f [] h ps = tt
 all-map P Q f (x ∷ xs) h ps = (h x ps.0, all-map P Q f xs h ps.1)
+
+-- no number stands in the list twice
+abbrev pub AreApart : List ℕ → Type 0
+AreApart ns = AllPairs (λ x y. x ≢ y) ns
+
+pub apart_none : AreApart []
+apart_none i j d lt inside = absurd (omega (arith, lt, inside))
+
+pub apart_head : (n : ℕ) (ns : List ℕ) → AreApart (n ∷ ns) → All (λ y. n ≢ y) ns
+apart_head n ns apart k d inside = apart zero (suc k) d (omega arith) (omega (arith, inside))
+
+pub apart_tail : (n : ℕ) (ns : List ℕ) → AreApart (n ∷ ns) → AreApart ns
+apart_tail n ns apart i j d lt inside = apart (suc i) (suc j) d (omega (arith, lt)) (omega (arith, inside))
+
+pub apart_cons : (n : ℕ) (ns : List ℕ) → All (λ y. n ≢ y) ns → AreApart ns → AreApart (n ∷ ns)
+apart_cons n ns head tail = AllPairs-cons (λ x y. x ≢ y) n ns head tail

@@ -13,19 +13,24 @@ use Rattle.group_book.specs.Turns.{is_id_of, is_fresh, is_claimed, made_of, is_n
 use Rattle.group_book.specs.Invariant.{AreById, IsClaim, may_be_source}
 use Rattle.group_book.specs.States.{State, state_in, state_of, mover_transitions, GroupsMoveBy}
 use Rattle.group_book.specs.States.State.{Absent, IsTombstone}
-use Rattle.group_book.proofs.Lists.{All-in, all-filter, all-map, weaker}
+use Rattle.group_book.proofs.Lists.{All-in, all-filter, all-map, every_one, weaker}
 use Rattle.group_book.proofs.Steady.{changed}
 
+-- a state stays, or makes one of these transitions
+abbrev pub MovesBy : List (State × State) → State → State → Type 0
+MovesBy transitions s t = (s ≡ t) ⊎ Contains transitions (s, t)
+
 abbrev Moves : State → State → Type 0
-Moves s t = (s ≡ t) ⊎ Contains mover_transitions (s, t)
+Moves s t = MovesBy mover_transitions s t
 
 -- ---- groups that change, come and go
 
-states_changed : (f : Group → Content) (gs : List Group) → AllByRecursion (λ (g : Group). Moves (state_in g.content) (state_in (f g))) gs → (id : ℕ) → Moves (state_of gs id) (state_of (map (changed f) gs) id)
-states_changed f [] all id = inl refl
-states_changed f (g ∷ gs) all id = step (g.id == id) (states_changed f gs all.1 id)
+pub states_changed : (transitions : List (State × State)) (f : Group → Content) (gs : List Group) → AllByRecursion (λ (g : Group). MovesBy transitions (state_in g.content) (state_in (f g))) gs
+    → (id : ℕ) → MovesBy transitions (state_of gs id) (state_of (map (changed f) gs) id)
+states_changed transitions f [] all id = inl refl
+states_changed transitions f (g ∷ gs) all id = step (g.id == id) (states_changed transitions f gs all.1 id)
   where
-    step : (t : Bool) → Moves (state_of gs id) (state_of (map (changed f) gs) id) → Moves (cond t (state_in g.content) (state_of gs id)) (cond t (state_in (f g)) (state_of (map (changed f) gs) id))
+    step : (t : Bool) → MovesBy transitions (state_of gs id) (state_of (map (changed f) gs) id) → MovesBy transitions (cond t (state_in g.content) (state_of gs id)) (cond t (state_in (f g)) (state_of (map (changed f) gs) id))
     step true rest = all.0
     step false rest = rest
 
@@ -60,26 +65,22 @@ states_both p f (g ∷ gs) up all id = step (p g) refl (g.id == id) refl (states
         (all-map (λ (h : Group). g.id < h.id) (λ (h : Group). g.id < h.id) (changed f) (filter p gs) (λ h lt. lt) (all-filter (λ (h : Group). g.id < h.id) (λ (h : Group). g.id < h.id) p gs (λ h lt _. lt) up.0)) same)) (all.0.1 is)
     step false is false same rest = rest
 
-states_grown : (g0 : Group) → Moves Absent (state_in g0.content) → (gs : List Group) (id : ℕ) → Moves (state_of gs id) (state_of (gs ++ g0 ∷ []) id)
-states_grown g0 moves [] id = step (g0.id == id)
+pub states_grown : (transitions : List (State × State)) (g0 : Group) → MovesBy transitions Absent (state_in g0.content) → (gs : List Group) (id : ℕ) → MovesBy transitions (state_of gs id) (state_of (gs ++ g0 ∷ []) id)
+states_grown transitions g0 moves [] id = step (g0.id == id)
   where
-    step : (t : Bool) → Moves Absent (cond t (state_in g0.content) Absent)
+    step : (t : Bool) → MovesBy transitions Absent (cond t (state_in g0.content) Absent)
     step true = moves
     step false = inl refl
-states_grown g0 moves (g ∷ gs) id = step (g.id == id) (states_grown g0 moves gs id)
+states_grown transitions g0 moves (g ∷ gs) id = step (g.id == id) (states_grown transitions g0 moves gs id)
   where
-    step : (t : Bool) → Moves (state_of gs id) (state_of (gs ++ g0 ∷ []) id) → Moves (cond t (state_in g.content) (state_of gs id)) (cond t (state_in g.content) (state_of (gs ++ g0 ∷ []) id))
+    step : (t : Bool) → MovesBy transitions (state_of gs id) (state_of (gs ++ g0 ∷ []) id) → MovesBy transitions (cond t (state_in g.content) (state_of gs id)) (cond t (state_in g.content) (state_of (gs ++ g0 ∷ []) id))
     step true rest = inl refl
     step false rest = rest
-
-every_group : (P : Group → Type 0) → ((g : Group) → P g) → (gs : List Group) → AllByRecursion P gs
-every_group P h [] = tt
-every_group P h (g ∷ gs) = (h g, every_group P h gs)
 
 -- ---- the events
 
 pub claim_moves : (actor : Actor) (choice : Choice) (sources : List ℕ) (floor : ℕ) (book : Book) → GroupsMoveBy mover_transitions book (after_claim actor choice sources floor book)
-claim_moves actor choice sources floor book id = states_grown (record { id = book.next; content = Invisible }) (inr (1, omega arith, refl)) book.groups id
+claim_moves actor choice sources floor book id = states_grown mover_transitions (record { id = book.next; content = Invisible }) (inr (1, omega arith, refl)) book.groups id
 
 packed_same : (f : List Version → List Version) (content : Content) → state_in content ≡ state_in (with_compressed f content)
 packed_same f (Opened versions) = refl
@@ -97,12 +98,12 @@ unless_packed true f content = refl
 unless_packed false f content = packed_same f content
 
 pub settle_moves : (at : ℕ) (book : Book) → GroupsMoveBy mover_transitions book (after_settle at book)
-settle_moves at book id = states_changed (λ g. cond (is_claimed book.claims g) g.content (with_compressed (map (settled at)) g.content)) book.groups
-    (every_group _ (λ g. inl (unless_packed (is_claimed book.claims g) (map (settled at)) g.content)) book.groups) id
+settle_moves at book id = states_changed mover_transitions (λ g. cond (is_claimed book.claims g) g.content (with_compressed (map (settled at)) g.content)) book.groups
+    (every_one _ (λ g. inl (unless_packed (is_claimed book.claims g) (map (settled at)) g.content)) book.groups) id
 
 pub flush_moves : (claim : Claim) (book : Book) → GroupsMoveBy mover_transitions book (after_flush claim book)
-flush_moves claim book id = states_changed (λ g. cond (is_id_of claim.sources g) (with_compressed (map (flushed book.buffer claim.entries)) g.content) g.content) book.groups
-    (every_group _ (λ g. inl (if_packed (is_id_of claim.sources g) (map (flushed book.buffer claim.entries)) g.content)) book.groups) id
+flush_moves claim book id = states_changed mover_transitions (λ g. cond (is_id_of claim.sources g) (with_compressed (map (flushed book.buffer claim.entries)) g.content) g.content) book.groups
+    (every_one _ (λ g. inl (if_packed (is_id_of claim.sources g) (map (flushed book.buffer claim.entries)) g.content)) book.groups) id
 
 close_step : (content : Content) → Moves (state_in content) (state_in (closed content))
 close_step (Opened versions) = inr (0, omega arith, refl)
@@ -112,7 +113,7 @@ close_step Invisible = inl refl
 close_step (Tombstone versions ends) = inl refl
 
 pub close_moves : (book : Book) → GroupsMoveBy mover_transitions book (after_close book)
-close_moves book id = states_changed (λ g. closed g.content) book.groups (every_group _ (λ g. close_step g.content) book.groups) id
+close_moves book id = states_changed mover_transitions (λ g. closed g.content) book.groups (every_one _ (λ g. close_step g.content) book.groups) id
 
 clear_step : (content : Content) → not (is_tombstone content) ≡ false → Moves (state_in content) Absent
 clear_step (Opened versions) is = cc
@@ -122,7 +123,7 @@ clear_step Invisible is = cc
 clear_step (Tombstone versions ends) is = inr (6, omega arith, refl)
 
 pub clear_moves : (book : Book) → AreById book.groups → GroupsMoveBy mover_transitions book (after_clear book)
-clear_moves book up id = states_filtered (λ (g : Group). not (is_tombstone g.content)) book.groups up (every_group _ (λ g is. clear_step g.content is) book.groups) id
+clear_moves book up id = states_filtered (λ (g : Group). not (is_tombstone g.content)) book.groups up (every_one _ (λ g is. clear_step g.content is) book.groups) id
 
 -- ---- a claim's end
 
@@ -193,7 +194,7 @@ module _ (group_rows : ℕ) (book : Book) (cs : List Change) (floor : ℕ) (clai
     (λ _. install_step g n (is_id_of claim.sources g) (is_fresh claim.fresh g) refl refl),
     (λ is. invisible_moves g.content (n.1 (not_false (is_fresh claim.fresh g) is))),
   )) named) id
-  installed_moves false id = states_changed content_installed book.groups (weaker Named (λ (g : Group). Moves (state_in g.content) (state_in (content_installed g))) book.groups (λ g n. install_step g n (is_id_of claim.sources g) (is_fresh claim.fresh g) refl refl) named) id
+  installed_moves false id = states_changed mover_transitions content_installed book.groups (weaker Named (λ (g : Group). Moves (state_in g.content) (state_in (content_installed g))) book.groups (λ g n. install_step g n (is_id_of claim.sources g) (is_fresh claim.fresh g) refl refl) named) id
 
   pub install_moves : GroupsMoveBy mover_transitions book (after_install claim book)
   install_moves id = installed_moves (is_none_left (made_of claim)) id

@@ -7,11 +7,10 @@ use Rattle.std.proofs.lemmas.List.Elements.{recursion_from_All, All-from_recursi
 use Rattle.cs_model.specs.declared.work.Actor.{Actor}
 use Rattle.cs_model.specs.declared.work.Actor.TheVariants.{Session, Mover}
 use Rattle.cs_model.specs.Changes.{Change}
-use Rattle.log_laws.specs.Laws.{AreDistinct}
 use Rattle.group_book.specs.Book.{Group, Claim, Book, how_many, is_invisible}
 use Rattle.group_book.specs.Turns.{is_id_of, is_fresh, same_actor, is_by, without_claim, without_fresh, after_release}
 use Rattle.group_book.specs.Invariant.{fresh_in, joined, may_be_source, IsClaim, IsBookOf}
-use Rattle.group_book.proofs.Lists.{All-in, all-filter, all-append, all-left, all-right, counted}
+use Rattle.group_book.proofs.Lists.{All-in, all-filter, all-append, all-left, all-right, counted, AreApart, apart_head, apart_tail, apart_cons}
 use Rattle.group_book.proofs.Events.{source_is, release_stock}
 use Rattle.group_book.proofs.Sized.{count_filter, groups_filter, IsOther, claim_filter}
 
@@ -25,22 +24,22 @@ all_joined P f q (c ∷ cs) all = step (q c) (all_joined P f q cs (all-right P (
     step true rest = all-append P (f c) (joined f (filter q cs)) (all-left P (f c) (joined f cs) all) rest
     step false rest = rest
 
-pub distinct_right : (xs ys : List ℕ) → AreDistinct (xs ++ ys) → AreDistinct ys
+pub distinct_right : (xs ys : List ℕ) → AreApart (xs ++ ys) → AreApart ys
 distinct_right [] ys d = d
-distinct_right (x ∷ xs) ys d = distinct_right xs ys d.1
+distinct_right (x ∷ xs) ys d = distinct_right xs ys (apart_tail x (xs ++ ys) d)
 
 -- the second list may lose some
-distinct_less : (xs ys zs : List ℕ) → ((P : ℕ → Type 0) → AllByRecursion P ys → AllByRecursion P zs) → AreDistinct zs → AreDistinct (xs ++ ys) → AreDistinct (xs ++ zs)
+distinct_less : (xs ys zs : List ℕ) → ((P : ℕ → Type 0) → AllByRecursion P ys → AllByRecursion P zs) → AreApart zs → AreApart (xs ++ ys) → AreApart (xs ++ zs)
 distinct_less [] ys zs less d_z d = d_z
 distinct_less (x ∷ xs) ys zs less d_z d =
-    let all = recursion_from_All (λ y. x ≢ y) (xs ++ ys) d.0 in
-    (All-from_recursion (λ y. x ≢ y) (xs ++ zs) (all-append (λ y. x ≢ y) xs zs (all-left (λ y. x ≢ y) xs ys all) (less (λ y. x ≢ y) (all-right (λ y. x ≢ y) xs ys all))), distinct_less xs ys zs less d_z d.1)
+    let all = recursion_from_All (λ y. x ≢ y) (xs ++ ys) (apart_head x (xs ++ ys) d) in
+    apart_cons x (xs ++ zs) (All-from_recursion (λ y. x ≢ y) (xs ++ zs) (all-append (λ y. x ≢ y) xs zs (all-left (λ y. x ≢ y) xs ys all) (less (λ y. x ≢ y) (all-right (λ y. x ≢ y) xs ys all)))) (distinct_less xs ys zs less d_z (apart_tail x (xs ++ ys) d))
 
-pub joined_filter : (f : Claim → List ℕ) (q : Claim → Bool) (claims : List Claim) → AreDistinct (joined f claims) → AreDistinct (joined f (filter q claims))
-joined_filter f q [] d = tt
+pub joined_filter : (f : Claim → List ℕ) (q : Claim → Bool) (claims : List Claim) → AreApart (joined f claims) → AreApart (joined f (filter q claims))
+joined_filter f q [] d = d
 joined_filter f q (c ∷ cs) d = step (q c) (joined_filter f q cs (distinct_right (f c) (joined f cs) d))
   where
-    step : (t : Bool) → AreDistinct (joined f (filter q cs)) → AreDistinct (joined f (cond t (c ∷ filter q cs) (filter q cs)))
+    step : (t : Bool) → AreApart (joined f (filter q cs)) → AreApart (joined f (cond t (c ∷ filter q cs) (filter q cs)))
     step true rest = distinct_less (f c) (joined f cs) (joined f (filter q cs)) (λ P all. all_joined P f q cs all) rest d
     step false rest = rest
 
@@ -71,7 +70,7 @@ none_makes g (c ∷ cs) all = step c.fresh (all-left (λ y. g.id ≢ y) (fresh_i
     step None here rest = omega (arith, rest)
     step (Some id) here rest = rw (other id (g.id == id) refl here.0) (omega (arith, rest))
 
-pub one_makes : (g : Group) (claims : List Claim) → AreDistinct (joined (λ (c : Claim). fresh_in c.fresh) claims) → how_many (makes_it g) claims ≤ 1
+pub one_makes : (g : Group) (claims : List Claim) → AreApart (joined (λ (c : Claim). fresh_in c.fresh) claims) → how_many (makes_it g) claims ≤ 1
 one_makes g [] d = omega arith
 one_makes g (c ∷ cs) d = step c.fresh d (one_makes g cs (distinct_right (fresh_in c.fresh) (joined (λ (e : Claim). fresh_in e.fresh) cs) d))
   where
@@ -82,9 +81,9 @@ one_makes g (c ∷ cs) d = step c.fresh d (one_makes g cs (distinct_right (fresh
         omega (arith, none)
     inner id apart false is rest = omega (arith, rest)
 
-    step : (fresh : Option ℕ) → AreDistinct (fresh_in fresh ++ joined (λ (e : Claim). fresh_in e.fresh) cs) → how_many (makes_it g) cs ≤ 1 → cond (is_fresh fresh g) 1 0 + how_many (makes_it g) cs ≤ 1
+    step : (fresh : Option ℕ) → AreApart (fresh_in fresh ++ joined (λ (e : Claim). fresh_in e.fresh) cs) → how_many (makes_it g) cs ≤ 1 → cond (is_fresh fresh g) 1 0 + how_many (makes_it g) cs ≤ 1
     step None d rest = omega (arith, rest)
-    step (Some id) d rest = inner id d.0 (g.id == id) refl rest
+    step (Some id) d rest = inner id (apart_head id (joined (λ (e : Claim). fresh_in e.fresh) cs) d) (g.id == id) refl rest
 
 pub count_parts : {X : Type 0} (p q : X → Bool) (xs : List X) → how_many (λ x. p x && q x) xs + how_many (λ x. not (p x) && q x) xs ≡ how_many q xs
 count_parts p q [] = refl

@@ -8,6 +8,7 @@ use Rattle.cs_model.specs.Changes.{Change}
 use Rattle.group_book.specs.Book.{Version, Claim, Book, empty}
 use Rattle.group_book.specs.Stocks.{Stock, stock_of, Stems, EndFits, IsSeenFrom, IsStockOf, next_change}
 use Rattle.group_book.specs.Invariant.{IsClaim, IsBookOf}
+use Rattle.group_book.proofs.Lists.{apart_none}
 
 all_none : {X : Type 0} (P : X → Type 0) → All P []
 all_none P = All-from_recursion P [] tt
@@ -25,7 +26,7 @@ empty_is group_rows floor = record {
     kept = all_none _;
   };
   groups = record { by_id = tt; below = all_none _; one = omega arith; sized = all_none _ };
-  claims = record { actors = λ actor. omega arith; sources = tt; fresh = tt; made = all_none _; each = all_none _ };
+  claims = record { actors = λ actor. omega arith; sources = apart_none; fresh = apart_none; made = all_none _; each = all_none _ };
 }
 
 module _ (b : Stock) (cs : List Change) (floor later : ℕ) (rises : floor ≤ later) (j : IsStockOf b cs floor) where

@@ -14,13 +14,12 @@ use Rattle.group_book.specs.Commits.{replaced_by, ended_by, with_opened, has_liv
 use Rattle.group_book.specs.Turns.{is_number, holds, is_id_of, is_fresh, is_gone, spent_of}
 use Rattle.group_book.specs.Stocks.{stock_of, Stems, IsStockOf, next_change, is_after, is_end_of}
 use Rattle.group_book.specs.Invariant.{IsClaim, may_be_source}
-use Rattle.group_book.proofs.Lists.{All-in, all-left, both_true, list_any-found, weaker}
+use Rattle.group_book.proofs.Lists.{All-in, all-left, both_true, any_same, list_any-found, weaker}
 use Rattle.group_book.proofs.Changes.{AreAscending, AreBelow, next-le}
 use Rattle.group_book.proofs.Shown.{at_is}
 use Rattle.group_book.proofs.Entries.{holds-filter}
 use Rattle.group_book.proofs.Made.{is_written, HasEachKeyOnce, next_after, next-commit, holds-append, all-endings, endings_of}
 use Rattle.group_book.proofs.Commit.{low, end_same, entries_low}
-use Rattle.group_book.proofs.Lent.{any_same}
 use Rattle.group_book.proofs.Groups.{frozen-split}
 use Rattle.group_book.proofs.Installed.{shut_source, shut_invisible}
 use Rattle.group_book.proofs.Steady.{IsSteady, claim_changed}

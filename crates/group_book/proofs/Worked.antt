@@ -1,16 +1,20 @@
 -- The book of worked scripts, computed: groups as (id, state, total, deleted), and the work of each turn.
-use Rattle.std.proofs.Common.{◌≡◌, ℕ, ◌+◌, pos, List, [], ◌∷◌, length, map, refl, Option, Some, None, arith}
+use Rattle.std.proofs.Common.{◌≡◌, ℕ, ◌+◌, Bool, false, ap, pos, List, [], ◌∷◌, length, map, refl, Option, Some, None, arith}
+use Rattle.std.proofs.lemmas.List.Sorted.{IsPermutation-swap}
 use Rattle.cs_types.specs.declared.Key.{Key}
+use Rattle.cs_types.specs.Keys.{same_key}
 use Rattle.cs_model.specs.declared.work.Actor.{Actor}
 use Rattle.cs_model.specs.declared.work.Actor.TheVariants as actor
 use Rattle.cs_model.specs.declared.work.Work.{Work}
 use Rattle.cs_model.specs.declared.work.Work.TheVariants as work
-use Rattle.group_book.specs.Book.{Content, Group, Claim, Book, empty, total, deleted, opened, frozen, how_many, is_visible}
+use Rattle.group_book.specs.Book.{Version, Content, Group, Claim, Book, empty, total, deleted, opened, frozen, how_many, is_visible}
 use Rattle.group_book.specs.Book.Content.{Opened, Closed, Compressed, Invisible, Tombstone}
-use Rattle.group_book.specs.Commits.{Sizes, after_commit}
-use Rattle.group_book.specs.Turns.{claim_by, installed, released}
+use Rattle.group_book.specs.Book.Choice.{Rebuild}
+use Rattle.group_book.specs.Commits.{Sizes, new_version, after_commit}
+use Rattle.group_book.specs.Turns.{claim_of, claim_by, installed, released}
 use Rattle.group_book.specs.Invariant.{AreSourcesOf}
 use Rattle.group_book.specs.Choices.{choice, after_choice, choice_work, install_work}
+use Rattle.group_book.specs.Orders.{IsReordered}
 
 abbrev state : Content → ℕ
 state (Opened versions) = 1
@@ -250,3 +254,36 @@ rebuild_kind = refl
 
 merge_kind : HasKind (claim_by (mover 1) (claims 2 pairs 1 two_pairs))
 merge_kind = refl
+
+-- two rows that load directly, packed in the order of their keys and in the other
+abbrev packed : List Version → List Claim → Book
+packed versions claims = record { groups = record { id = 1; content = Compressed versions } ∷ []; buffer = []; claims = claims; next = 2 }
+
+abbrev upward : List Version
+upward = new_version 1 (key 1) ∷ new_version 1 (key 2) ∷ []
+
+abbrev downward : List Version
+downward = new_version 1 (key 2) ∷ new_version 1 (key 1) ∷ []
+
+load_is : inserts (sizes 2 2) 1 (1 ∷ 2 ∷ []) empty ≡ packed upward []
+load_is = refl
+
+load_turned : IsReordered (packed upward []) (packed downward [])
+load_turned = record {
+  groups = ((refl, (downward, IsPermutation-swap upward downward 0 1 (omega arith) (omega arith) refl, refl)), tt);
+  buffer = refl;
+  claims = refl;
+  next = refl;
+  lent = λ k d inside. absurd (omega (arith, inside));
+}
+
+-- but not while a claim has them
+abbrev rebuild : Claim
+rebuild = claim_of (mover 1) (Rebuild 1) (1 ∷ []) (Some 2) 1 (packed upward [])
+
+abbrev begins_with : Key → List Version → Bool
+begins_with k [] = false
+begins_with k (version ∷ versions) = same_key k version.key
+
+claimed_stands : IsReordered (packed upward (rebuild ∷ [])) (packed downward (rebuild ∷ [])) → ⊥
+claimed_stands r = let same : begins_with (key 2) downward ≡ begins_with (key 2) upward = ap (begins_with (key 2)) (r.lent 0 rebuild (omega arith)) in absurd (cc same)

@@ -1,5 +1,5 @@
 -- What is kept true between the book, the committed changes and the floor.
-use Rattle.std.specs.Prelude.{◌≡◌, ℕ, ◌<◌, ◌≤◌, ◌⊎◌, ◌&&◌, ◌==◌, List, [], ◌∷◌, ◌++◌, length, Option, None, Some, Bool, true, false, is_some, not, nat_le, All, if◌then◌else◌}
+use Rattle.std.specs.Prelude.{◌≡◌, ◌≢◌, ℕ, ◌<◌, ◌≤◌, ◌⊎◌, ◌&&◌, ◌==◌, List, [], ◌∷◌, ◌++◌, length, Option, None, Some, Bool, true, false, is_some, not, nat_le, All, AllPairs, if◌then◌else◌}
 use Rattle.std.specs.List.{AllByRecursion, list_any}
 use Rattle.std.specs.List.Sorted.{IsNonDecreasingBy}
 use Rattle.cs_types.specs.declared.Key.{Key}
@@ -8,7 +8,6 @@ use Rattle.std.specs.BTreeMap.{is_at}
 use Rattle.std.specs.Map.{lookup}
 use Rattle.cs_types.specs.Keys.{key_cmp}
 use Rattle.cs_model.specs.Changes.{Table, Change, last_change}
-use Rattle.log_laws.specs.Laws.{AreDistinct}
 use Rattle.group_book.specs.Book.{Version, Ending, Content, Group, Choice, Claim, Book, how_many, is_opened, is_closed, is_compressed, is_invisible}
 use Rattle.group_book.specs.Book.Content.{Opened, Closed, Compressed, Invisible, Tombstone}
 use Rattle.group_book.specs.Book.Choice.{Compress, Flush, Rebuild, Merge, Settle, Clear, Idle}
@@ -73,9 +72,9 @@ AreSourcesOf Clear sources = ⊥
 AreSourcesOf Idle sources = ⊥
 
 -- what was lent stands as it stood: the sources' versions with their recorded ends; and each lent entry, which is still in the
--- buffer and the next change of one of them. What had ended at the claim's floor is what its next change says, so an end that
--- was not lent is an entry above that floor; and the entries of the buffer that go with those versions are exactly the ones at
--- most that floor that are the next change of a lent version
+-- buffer and the next change of one of them. What had ended at the claim's floor is what its next change says; and the entries
+-- of the buffer that go with those versions are exactly the ones at most that floor that are the next change of a lent version,
+-- so that an end that was not lent is an entry above that floor
 pub record IsLent (book : Book) (changes : List Change) (claim : Claim) : Type 0 where
   pub versions : versions_of claim.sources book.groups ≡ claim.lent
   pub gone : All (λ (version : Version). is_gone claim.floor claim.entries version ≡ not (is_after claim.floor (next_change changes version.key version.begin))) claim.lent
@@ -110,8 +109,8 @@ fresh_in (Some id) = id ∷ []
 -- an actor has at most one claim, a group is the source of at most one, and each invisible group is made by one
 pub record AreClaims (group_rows : ℕ) (book : Book) (changes : List Change) (floor : ℕ) : Type 0 where
   pub actors : (actor : Actor) → how_many (is_by actor) book.claims ≤ 1
-  pub sources : AreDistinct (joined (λ claim. claim.sources) book.claims)
-  pub fresh : AreDistinct (joined (λ claim. fresh_in claim.fresh) book.claims)
+  pub sources : AllPairs (λ x y. x ≢ y) (joined (λ claim. claim.sources) book.claims)
+  pub fresh : AllPairs (λ x y. x ≢ y) (joined (λ claim. fresh_in claim.fresh) book.claims)
   pub made : All (λ (group : Group). is_invisible group.content ≡ true → list_any (λ (claim : Claim). is_fresh claim.fresh group) book.claims ≡ true) book.groups
   pub each : All (IsClaim group_rows book changes floor) book.claims
 
@@ -128,7 +127,7 @@ pub record IsBookOf (group_rows : ℕ) (book : Book) (changes : List Change) (fl
 pub record MayTake (book : Book) (actor : Actor) (choice : Choice) (sources : List ℕ) : Type 0 where
   pub none : claim_by actor book ≡ None
   pub kind : AreSourcesOf choice sources
-  pub distinct : AreDistinct sources
+  pub distinct : AllPairs (λ x y. x ≢ y) sources
   pub there : All (IsThere book.groups) sources
   pub free : All (λ (group : Group). is_id_of sources group ≡ true → (may_be_source choice group.content ≡ true) × (is_claimed book.claims group ≡ false)) book.groups
 

@@ -5,3 +5,4 @@ pub mod Choices
 pub mod Stocks
 pub mod Invariant
 pub mod States
+pub mod Orders

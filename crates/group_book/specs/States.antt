@@ -36,6 +36,10 @@ mover_transitions =
     ∷ (IsTombstone, Absent)
     ∷ []
 
+-- what a commit makes of a group that it changes: it opens stores and fills them, one commit both, and loads rows directly
+abbrev pub commit_transitions : List (State × State)
+commit_transitions = (Absent, IsOpen) ∷ (IsOpen, IsClosed) ∷ (Absent, IsClosed) ∷ (Absent, IsCompressed) ∷ []
+
 -- from the first book to the second each group stays in its state, or makes one of these transitions
 abbrev pub GroupsMoveBy : List (State × State) → Book → Book → Type 0
 GroupsMoveBy transitions before after = (id : ℕ) → (state_of before.groups id ≡ state_of after.groups id) ⊎ Contains transitions (state_of before.groups id, state_of after.groups id)

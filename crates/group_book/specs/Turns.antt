@@ -154,14 +154,17 @@ abbrev pub is_none_left : List Version → Bool
 is_none_left [] = true
 is_none_left (version ∷ versions) = false
 
-abbrev pub after_install : Claim → Book → Book
-after_install claim book = record {
-  groups = map (replaced_group claim.sources claim.fresh (made_of claim))
-      (if is_none_left (made_of claim) then without_fresh claim.fresh book.groups else book.groups);
+-- an install whose new group gets these versions
+abbrev pub installed_with : List Version → Claim → Book → Book
+installed_with versions claim book = record {
+  groups = map (replaced_group claim.sources claim.fresh versions) (if is_none_left versions then without_fresh claim.fresh book.groups else book.groups);
   buffer = without_entries (spent_of claim) book.buffer;
   claims = without_claim claim.actor book.claims;
   next = book.next;
 }
+
+abbrev pub after_install : Claim → Book → Book
+after_install claim book = installed_with (made_of claim) claim book
 
 -- ---- the install of a flush
 

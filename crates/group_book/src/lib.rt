@@ -4,30 +4,32 @@
 //! What is proved: from the floor on each snapshot sees its table; a risen floor, a claim, an install, a release, a settle, a
 //! clear, a close and a commit keep the book in agreement with the committed changes and the floor; what the choice of a turn
 //! gives may be done, and the turn's first event keeps that agreement; the counts of the groups and of the buffer add up to the
-//! rows of the table; and movers' events and a close move the groups only by the listed transitions. Which transitions a commit
-//! makes is not proved.
+//! rows of the table; movers' events, a close and a commit move the groups only by the listed transitions; and the order of
+//! packed versions is free, as long as what claims lent stands as it stood.
 //!
 //! The book has no rows: a version is a key, its begin and its end, and its row is that of the change it stems from. Each
 //! function here does nothing: its contract is a law that is proved. All that keeps row groups stands for such a book, and
-//! the call above that rests on it is the directory of row groups. It stands on `cs_model` and `log_laws`.
+//! the call above that rests on it is the directory of row groups. It stands on `cs_model`.
 #![tactic(auto)]
 
 ghost use Rattle.std.specs.Prelude.{◌≡◌, ℕ, ◌+◌, ◌≤◌, List, [], ◌++◌, length, true, All, Contains, Option, None, if◌then◌else◌};
-ghost use Rattle.std.specs.List.Sorted.{IsStrictlySortedBy};
+ghost use Rattle.std.specs.List.{AllZip};
+ghost use Rattle.std.specs.List.Sorted.{IsPermutation, IsStrictlySortedBy};
 ghost use Rattle.cs_types.specs.declared.Key.{Key};
 ghost use Rattle.cs_types.specs.Keys.{key_cmp};
 ghost use Rattle.cs_model.specs.declared.work.Actor.{Actor};
 ghost use Rattle.cs_model.specs.Changes.{Edit, Change, table};
 ghost use Rattle.cs_model.specs.Obstacles.{keys_of};
 ghost use Rattle.cs_model.specs.Steps.{numbered};
-ghost use Rattle.group_book.specs.Book.{Version, Choice, Claim, Book, empty, opened, frozen, is_visible, shown_count, total_sum, deleted_sum};
+ghost use Rattle.group_book.specs.Book.{Version, Group, Choice, Claim, Book, empty, opened, frozen, is_visible, shown_count, total_sum, deleted_sum};
 ghost use Rattle.group_book.specs.Book.Choice.{Flush};
-ghost use Rattle.group_book.specs.Commits.{Sizes, replaced_by, inserted_by, after_commit};
-ghost use Rattle.group_book.specs.Turns.{claim_of, claim_by, after_claim, after_flush_claim, after_install, after_flush, after_release, after_clear, after_settle, after_close};
-ghost use Rattle.group_book.specs.Choices.{choice, after_choice};
-ghost use Rattle.group_book.specs.States.{mover_transitions, GroupsMoveBy};
+ghost use Rattle.group_book.specs.Commits.{Sizes, replaced_by, inserted_by, after_ends, direct_parts, after_loads, after_rest, after_commit};
+ghost use Rattle.group_book.specs.Turns.{is_claimed, claim_of, claim_by, after_claim, after_flush_claim, made_of, installed_with, after_install, after_flush, after_release, after_clear, after_settle, after_close};
+ghost use Rattle.group_book.specs.Choices.{choice, after_choice, choice_work, flush_sources};
+ghost use Rattle.group_book.specs.States.{state_of, mover_transitions, commit_transitions, GroupsMoveBy};
 ghost use Rattle.group_book.specs.Stocks.{AreChanges, stock_of, IsStockOf};
 ghost use Rattle.group_book.specs.Invariant.{makes_group, IsLent, MayTake, MayClaim, MayDo, IsBookOf, has_key, IsSeenAt};
+ghost use Rattle.group_book.specs.Orders.{IsGroupReordered, IsReordered, HasSameLine};
 
 /// A new table's book is one of no change.
 pub fn new_book()
@@ -139,6 +141,40 @@ pub fn turn_keeps_book()
 pub fn counts_add_up()
     ensures { (group_rows : ℕ) (book : Book) (changes : List Change) (clock floor : ℕ) → AreChanges changes clock → floor ≤ clock → IsBookOf group_rows book changes floor
         → total_sum book.groups ≡ deleted_sum book.groups + (length book.buffer + length (table changes clock)) }
+{}
+
+/// The order of packed versions is free, where what claims lent stands as it stood: a book that is one of the changes is so
+/// with these in any other order; the choice of a turn, its work and the groups that a flush takes are the same; and group by
+/// group so are the id, the state and both counts. A book is reordered from itself; what is reordered twice is reordered; and so is
+/// what differs in the order of groups' versions alone that no claim has.
+pub fn order_is_free()
+    ensures book { (group_rows : ℕ) (book other : Book) (changes : List Change) (floor : ℕ) → IsReordered book other → IsBookOf group_rows book changes floor → IsBookOf group_rows other changes floor }
+    ensures choice { (group_rows floor : ℕ) (actor : Actor) (book other : Book) → IsReordered book other → choice floor group_rows actor book ≡ choice floor group_rows actor other }
+    ensures work { (made : Choice) (floor : ℕ) (book other : Book) → IsReordered book other → choice_work made floor book ≡ choice_work made floor other }
+    ensures sources { (book other : Book) → IsReordered book other → flush_sources book ≡ flush_sources other }
+    ensures lines { (book other : Book) → IsReordered book other → AllZip HasSameLine book.groups other.groups }
+    ensures states { (book other : Book) → IsReordered book other → (id : ℕ) → state_of book.groups id ≡ state_of other.groups id }
+    ensures itself { (book : Book) → IsReordered book book }
+    ensures through { (first second third : Book) → IsReordered first second → IsReordered second third → IsReordered first third }
+    ensures apart { (book other : Book) → AllZip (λ (group moved : Group). IsGroupReordered group moved × (is_claimed book.claims group ≡ true → moved ≡ group)) book.groups other.groups
+        → other.buffer ≡ book.buffer → other.claims ≡ book.claims → other.next ≡ book.next → IsReordered book other }
+{}
+
+/// What an event asks of the code is its book up to order: an install whose new group has the versions that its claim makes in
+/// another order, and a commit whose direct loads have their rows in another order, give a book that is reordered from theirs.
+pub fn events_leave_order_free()
+    ensures install { (group_rows : ℕ) (book : Book) (changes : List Change) (floor : ℕ) (claim : Claim) (versions : List Version) → Contains book.claims claim → IsBookOf group_rows book changes floor
+        → IsPermutation (made_of claim) versions → IsReordered (after_install claim book) (installed_with versions claim book) }
+    ensures commit { (sizes : Sizes) (book : Book) (changes : List Change) (floor c : ℕ) (replaced inserted : List Key) (loads : List (List Key)) → IsBookOf sizes.group_rows book changes floor
+        → AllZip IsPermutation (direct_parts (length inserted) sizes inserted).0 loads
+        → IsReordered (after_commit sizes c replaced inserted book) (after_rest sizes.group_rows c (direct_parts (length inserted) sizes inserted).1 (after_loads c loads (after_ends replaced c book))) }
+{}
+
+/// A commit moves the groups only by the listed transitions, whatever the sizes and the keys: from none to the open store, to a
+/// closed one, which the commit opens and fills, or to a packed group, which it loads directly; and from the open store to a
+/// closed one. All other groups stay in their states.
+pub fn commits_move_groups()
+    ensures { (sizes : Sizes) (book : Book) (c : ℕ) (replaced inserted : List Key) → GroupsMoveBy commit_transitions book (after_commit sizes c replaced inserted book) }
 {}
 
 /// The events of movers, and a close, move the groups only by the listed transitions: from the open store to a closed one, from
