@@ -11,10 +11,10 @@ use Rattle.cs_types.specs.declared.Key.{Key}
 use Rattle.delta_store.specs.declared.version.KeyedVersion.{KeyedVersion}
 use Rattle.delta_store.specs.declared.version.LinkedVersion.{LinkedVersion}
 use Rattle.delta_store.specs.Chunks.{linked_ended}
-use Rattle.delta_store.specs.Index.{place_in, SetsOnly}
+use Rattle.delta_store.specs.Index.{place_in, SetsOnly, HaveSamePlaces}
 use Rattle.delta_store.specs.Versions.{is_of, is_live, has_live, ended_at, is_ended, IsEarlier}
 use Rattle.delta_store.specs.Places.{last_place, one_on, AreEndedButLast, keyed_in, AreLinked, IsStored, IsLiveAt}
-use Rattle.delta_store.proofs.VersionLemmas.{key_is, last_place-map, IsIndexed-push, IsIndexed-map, IsLastPlace-last_place, live_at, map_at, absent, dead_absent, last_place_below}
+use Rattle.delta_store.proofs.VersionLemmas.{key_is, last_place-map, IsIndexed-push, IsIndexed-map, IsIndexed-same, IsLastPlace-last_place, live_at, map_at, absent, dead_absent, last_place_below}
 
 -- ---- lists
 
@@ -190,6 +190,10 @@ live_is_last (w ∷ vs) q (suc i) p v ended last is live = step (last_place vs q
         let same : r + 1 ≡ p = cc in
         omega (arith, before, same)
     step None s p o_is is_p rest = absurd (not_live vs q i v (dead_absent vs q o_is) is live)
+
+-- what is stored stays so where every key keeps its place
+pub IsStored-same : (l : List LinkedVersion) (old new : List (Key × ℕ)) (n : ℕ) → HaveSamePlaces old new → IsStored l old n → IsStored l new n
+IsStored-same l old new n same ok = record { indexed = IsIndexed-same (keyed_in l) old new same ok.indexed; links = ok.links; counted = ok.counted }
 
 -- what the index finds for a key
 module _ (l : List LinkedVersion) (pairs : List (Key × ℕ)) (n : ℕ) (ok : IsStored l pairs n) (q : Key) where

@@ -1,12 +1,16 @@
 -- What a search finds among sorted pairs, and what an edit at that place does.
-use Rattle.std.proofs.Common.{◌≡◌, ℕ, ℤ, ◌+◌, ◌-◌, ◌<◌, ◌≤◌, ◌<ℤ◌, List, length, get_or, set, Some, None, Result, Ok, Err, IfOk, IfErr, sym, ap, inl, inr, subst, arith}
+use Rattle.std.proofs.Common.{◌≡◌, ℕ, ℤ, ◌+◌, ◌-◌, ◌<◌, ◌≤◌, ◌<ℤ◌, Bool, true, false, List, length, get_or, set, slice_get, Some, None, Result, Ok, Err, IfOk, IfErr, refl, sym, ap, inl, inr, subst, arith}
 use Rattle.std.specs.List.{insert}
 use Rattle.std.specs.List.Sorted.{IsSearchInRange, IsBinarySearchResult, IsNonDecreasingBy}
-use Rattle.std.specs.Ordering.{int_cmp, ordering_index}
+use Rattle.std.specs.Bool.{OnTrue}
+use Rattle.std.specs.declared.cmp.Ordering.{Ordering}
+use Rattle.std.specs.declared.cmp.Ordering.TheVariants.{Less, Equal, Greater}
+use Rattle.std.specs.Ordering.{int_cmp, is_lt, ordering_index}
 use Rattle.std.proofs.lemmas.Cmp.{int_ranked}
 use Rattle.std.proofs.lemmas.Int.{ints}
 use Rattle.std.proofs.lemmas.Bool.{cases_lt}
 use Rattle.std.proofs.lemmas.List.Sorted.{IsNonDecreasingBy-from_default}
+use Rattle.std.proofs.lemmas.Option.{get_or_from_slice_get}
 use Rattle.std.proofs.lemmas.List.Edits.{length-insert, get_or-insert_below, get_or-insert_at, get_or-insert_above}
 use Rattle.cs_types.specs.declared.Key.{Key}
 use Rattle.delta_store.specs.Index.{place_in, key_at, no_pair, AreInOrder, IsAt, IsGapFor, SetsOnly}
@@ -72,3 +76,26 @@ module _ (l : List (Key × ℕ)) (k : Key) (at : ℕ) (gap : IsGapFor l k at) wh
       let key_here : (i : ℕ) → i ≡ at → key_at new i ≡ k.0 = λ i here. rw here (ap key (get_or-insert_at l at (k, v) no_pair gap.in_range)) in
       let key_above : (i : ℕ) → at < i → key_at new i ≡ key_at l (i - 1) = λ i above. subst (λ q. key_at new q ≡ key_at l (i - 1)) {x = i - 1 + 1} (omega arith) (ap key (get_or-insert_above l at (k, v) no_pair (i - 1) (omega arith) gap.in_range)) in
       grind (arith, ints, key_below i, key_here i, key_above i, key_below j, key_here j, key_above j, sorted i j, sorted i (j - 1), sorted (i - 1) (j - 1), gap.smaller_before i, gap.greater_after (j - 1))
+
+-- a key above the last one goes behind them all
+pub past_gap : (l : List (Key × ℕ)) → AreInOrder l → (k : Key) (last : Key × ℕ) → Some last ≡ slice_get l (length l - 1) → (r : Bool) → r ≡ is_lt (int_cmp last.0.0 k.0) → OnTrue r (IsGapFor l k (length l))
+past_gap l sorted k last is false r_is = tt
+past_gap l sorted k last is true r_is = record {
+  in_range = omega arith;
+  smaller_before = λ j there. elim (cases_lt j (length l - 1)) [
+    | inl before ↦ let rise : key_at l j <ℤ last.0.0 = rw key_last at (sorted j (length l - 1) before (omega arith)) in let under = below in grind (arith, ints)
+    | inr end ↦ let at_end : j ≡ length l - 1 = omega arith in rw (at_end, key_last) below
+  ];
+  greater_after = λ j from there. absurd (omega arith);
+}
+  where
+    key_last : key_at l (length l - 1) ≡ last.0.0
+    key_last = ap (λ (x : Key × ℕ). x.0.0) (get_or_from_slice_get l (length l - 1) last no_pair (sym is))
+
+    below : last.0.0 <ℤ k.0
+    below = step (int_cmp last.0.0 k.0) refl r_is
+      where
+        step : (o : Ordering) → o ≡ int_cmp last.0.0 k.0 → true ≡ is_lt o → last.0.0 <ℤ k.0
+        step Less o_is lt = int_ranked last.0.0 k.0 Less o_is
+        step Equal o_is lt = absurd (cc)
+        step Greater o_is lt = absurd (cc)

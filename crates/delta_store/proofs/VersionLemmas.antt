@@ -1,22 +1,23 @@
 -- The last place of a key, and its live version.
-use Rattle.std.proofs.Common.{◌≡◌, ℕ, ℤ, zero, suc, ◌<◌, ◌≤◌, ◌+◌, ◌≢◌, Bool, true, false, ◌&&◌, ◌||◌, cond, List, [], ◌∷◌, ◌++◌, map, length, get_or, set, slice_get, Option, Some, None, is_none, is_some, refl, sym, ap, ◌∙◌, add-one, arith}
-use Rattle.std.specs.Ordering.{int_eq}
+use Rattle.std.proofs.Common.{◌≡◌, ℕ, zero, suc, ◌<◌, ◌≤◌, ◌+◌, ◌≢◌, Bool, true, false, ◌&&◌, ◌||◌, cond, List, [], ◌∷◌, ◌++◌, map, length, get_or, set, slice_get, Option, Some, None, is_none, is_some, refl, sym, ap, ◌∙◌, add-one, arith}
 use Rattle.std.specs.List.{AllWithin}
 use Rattle.std.specs.Option.{option_map}
 use Rattle.cs_types.specs.declared.row.Version.{Version}
-use Rattle.std.proofs.lemmas.Bool.Decides.{Decides-int_eq}
 use Rattle.cs_types.specs.declared.Key.{Key}
+use Rattle.cs_types.specs.Keys.{same_key}
+use Rattle.cs_types.proofs.KeyLemmas.{one_key}
 use Rattle.delta_store.specs.declared.version.KeyedVersion.{KeyedVersion}
-use Rattle.delta_store.specs.Index.{SetsOnly, place_in}
+use Rattle.delta_store.specs.Index.{SetsOnly, HaveSamePlaces, place_in}
+use Rattle.delta_store.proofs.Pairs.{alike}
 use Rattle.delta_store.specs.Versions.{is_of, is_live, has_live, ended_at, is_ended, IsLastPlace, AreByBegin}
 use Rattle.delta_store.specs.Places.{one_on, last_place, AreEndedButLast, IsIndexed}
 
 -- keys that test alike are one, and one key tests alike
-pub key_is : (a b : Key) → int_eq a.0 b.0 ≡ true → a ≡ b
-key_is a b is = ap (λ (z : ℤ). let k : Key = record { 0 = z } in k) ((Decides-int_eq a.0 b.0).0 is)
+pub key_is : (a b : Key) → same_key a b ≡ true → a ≡ b
+key_is = one_key
 
-pub key_itself : (a b : Key) → a ≡ b → int_eq b.0 a.0 ≡ true
-key_itself a b is = (Decides-int_eq b.0 a.0).1 (ap (λ (k : Key). k.0) (sym is))
+pub key_itself : (a b : Key) → a ≡ b → same_key b a ≡ true
+key_itself a b is = alike b a (ap (λ (k : Key). k.0) (sym is))
 
 -- the place behind the last version is that of its key, and every other key keeps its place
 last_place-push_step : (o : Option ℕ) (t s : Bool) (n : ℕ) → one_on (cond t (Some n) o) s ≡ cond t (Some (n + 1)) (one_on o s)
@@ -58,6 +59,10 @@ IsIndexed-push vs v old new sets dead ok = record {
   places = λ q. sets q ∙ ap (λ (o : Option ℕ). cond (is_of q v) (Some (length vs)) o) (ok.places q) ∙ sym (last_place-push vs v q);
   ended = ended-push vs v ok.ended dead;
 }
+
+-- so has one that has the same places
+pub IsIndexed-same : (vs : List KeyedVersion) (old new : List (Key × ℕ)) → HaveSamePlaces old new → IsIndexed vs old → IsIndexed vs new
+IsIndexed-same vs old new same ok = record { places = λ q. same q ∙ ok.places q; ended = ok.ended }
 
 -- a key without a last place has no live version, and nothing changes where it is ended
 dead_absent_step : (o : Option ℕ) (s n l : Bool) → one_on o s ≡ None → (o ≡ None → l ≡ false) → ((s && n) || l) ≡ false

@@ -1,9 +1,9 @@
--- Places by key, as a list of pairs in the order of keys.
-use Rattle.std.specs.Prelude.{◌≡◌, ℕ, ℤ, pos, ◌<◌, ◌≤◌, ◌<ℤ◌, List, [], ◌∷◌, length, if◌then◌else◌, slice_index_or, Some, None, Option}
-use Rattle.std.specs.Ordering.{int_eq}
+-- Places by key, as a list of pairs of key and place: the first pair of a key decides.
+use Rattle.std.specs.Prelude.{◌≡◌, ℕ, ℤ, pos, ◌<◌, ◌≤◌, ◌<ℤ◌, List, [], ◌∷◌, ◌++◌, length, if◌then◌else◌, slice_index_or, Some, None, Option}
 use Rattle.cs_types.specs.declared.Key.{Key}
+use Rattle.cs_types.specs.Keys.{same_key}
 
--- what contracts see of an index: its pairs, and how many more find room without memory
+-- what contracts see of an index, and of a run of it: its pairs, and how many more find room without memory
 pub record Index : Type 0 where
   pub pairs : List (Key × ℕ)
   pub spare : ℕ
@@ -11,7 +11,12 @@ pub record Index : Type 0 where
 -- the place in the first pair of the key
 abbrev pub place_in : List (Key × ℕ) → Key → Option ℕ
 place_in [] key = None
-place_in (x ∷ rest) key = if int_eq x.0.0 key.0 then Some x.1 else place_in rest key
+place_in (x ∷ rest) key = if same_key x.0 key then Some x.1 else place_in rest key
+
+-- the pairs of runs, the oldest run given first: those of newer runs stand in front, so the newest run that has a key decides
+abbrev pub newest_first : List (List (Key × ℕ)) → List (Key × ℕ)
+newest_first [] = []
+newest_first (run ∷ newer) = newest_first newer ++ run
 
 abbrev pub no_pair : Key × ℕ
 no_pair = (record { 0 = pos 0 }, 0)
@@ -37,4 +42,8 @@ pub record IsGapFor (pairs : List (Key × ℕ)) (key : Key) (i : ℕ) : Type 0 w
 
 -- the key has this place now, and every other key the one that it had
 abbrev pub SetsOnly : List (Key × ℕ) → List (Key × ℕ) → Key → ℕ → Type 0
-SetsOnly old new key place = (q : Key) → place_in new q ≡ (if int_eq key.0 q.0 then Some place else place_in old q)
+SetsOnly old new key place = (q : Key) → place_in new q ≡ (if same_key key q then Some place else place_in old q)
+
+-- every key has the place that it had
+abbrev pub HaveSamePlaces : List (Key × ℕ) → List (Key × ℕ) → Type 0
+HaveSamePlaces old new = (q : Key) → place_in new q ≡ place_in old q

@@ -4,7 +4,7 @@ use Rattle.std.specs.List.{AllWithin, HoldsAt, list_any}
 use Rattle.std.specs.List.Sorted.{IsNonDecreasingBy}
 use Rattle.cs_types.specs.declared.Key.{Key}
 use Rattle.cs_types.specs.declared.Value.{Value}
-use Rattle.std.specs.Ordering.{int_eq}
+use Rattle.cs_types.specs.Keys.{same_key}
 use Rattle.delta_store.specs.declared.version.KeyedVersion.{KeyedVersion}
 
 -- what contracts see of a delta store: its versions, which chunks of 1,024 places are its own, not shared, and how many
@@ -16,7 +16,7 @@ pub record Store : Type 0 where
 
 -- the version is of the key
 abbrev pub is_of : Key → KeyedVersion → Bool
-is_of key v = int_eq v.key.0 key.0
+is_of key v = same_key v.key key
 
 -- the version has an end
 abbrev pub is_ended : KeyedVersion → Bool

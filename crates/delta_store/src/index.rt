@@ -1,56 +1,73 @@
-ghost use Rattle.std.specs.Prelude.{◌≡◌, ◌+◌, ◌<◌, ◌≤◌, [], OnOk, IfOk, IfErr};
+ghost use Rattle.std.specs.Prelude.{◌≡◌, ◌+◌, ◌<◌, ◌≤◌, [], OnOk, IfOk};
 
+use crate::run::Run;
+use crate::runs;
 use cs_base::Memory;
 use cs_types::Key;
 use std::alloc::Global;
 use std::marker::Model;
+use std::sync::Arc;
 
-/// A place for each key, in the order of keys. Contracts see the pairs of key and place, and beside them `spare`, the
-/// number of keys that find room without memory.
+/// So long the own run may grow, if room for more keys is not asked for at once.
+const OWN: usize = 1024;
+
+/// A place for each key, in sorted runs. Contracts see the pairs of key and place of all runs, those of newer runs first,
+/// so that the newest run that has a key decides, and beside them `spare`, the number of keys that find room without
+/// memory.
+///
+/// New keys go into a run that is the index's own. Before it grows too long, and when the index is shared, it becomes the
+/// newest of the runs that shares have in common and that never change; these are merged as they double. So n keys cost
+/// O(n log n) in whatever order they come, and a search looks into O(log n) runs. The form is the logarithmic method of
+/// Bentley and Saxe (Journal of Algorithms 1, 1980).
 #[derive(Debug, Drop)]
 pub struct KeyIndex {
-    pairs: Vec<(Key, usize)>,
+    /// The oldest first.
+    runs: Vec<Arc<Run>>,
+    own: Run,
 }
 
 impl Model for KeyIndex {
-    ghost use Rattle.std.specs.Prelude.{◌-◌, vec_capacity, vec_len};
-    ghost use Rattle.delta_store.specs.Index.{Index, AreInOrder};
+    ghost use Rattle.std.specs.Prelude.{◌++◌};
+    ghost use Rattle.delta_store.specs.Index.{Index};
+    ghost use Rattle.delta_store.specs.Runs.{pairs_of};
 
     ghost Value = { Index };
 
-    ghost view = { λ index. record { pairs = index.pairs.items; spare = vec_capacity index.pairs - vec_len index.pairs } };
-
-    ghost invariant = { λ index. AreInOrder index.pairs.items };
+    ghost view = { λ index. record { pairs = index.own.pairs ++ pairs_of index.runs.items; spare = index.own.spare } };
 }
 
 impl KeyIndex {
-    ghost use Rattle.delta_store.specs.Index.{place_in, IsAt, IsGapFor, SetsOnly};
+    ghost use Rattle.delta_store.specs.Index.{place_in, SetsOnly, HaveSamePlaces};
 
     /// The index without keys. It takes no memory.
     pub fn new(alloc: Global) -> KeyIndex
         ensures { result.pairs ≡ [] }
     {
         KeyIndex {
-            pairs: Vec::new(alloc),
+            runs: Vec::new(alloc),
+            own: Run::new(alloc),
         }
     }
 
-    /// Makes room for `n` keys. After `Memory` the pairs are as before.
+    /// Makes room for `n` keys, for which the own run becomes one of the others if it would grow too long. After `Memory`
+    /// each key has the place that it had.
     pub fn reserve(&mut self, n: usize) -> Result<(), Memory>
         ensures room { OnOk result (n ≤ self.new.spare) }
-        ensures pairs { self.new.pairs ≡ self.old.pairs }
+        ensures places { HaveSamePlaces self.old.pairs self.new.pairs }
     {
-        self.pairs.reserve(n)?;
-        Ok(())
+        self.make_way(n)?;
+        let alloc = *self.runs.allocator();
+        runs::merge_newest(&mut self.runs, alloc)?;
+        self.own.reserve(n)
     }
 
     /// The place of a key, None where it has none.
     pub fn get(&self, key: Key) -> Option<usize>
         ensures { result ≡ place_in self.now.pairs key }
     {
-        match self.search(key) {
-            Ok(at) => Some(self.pairs[at].1),
-            Err(_) => None,
+        match self.own.get(key) {
+            Some(place) => Some(place),
+            None => runs::place_of(&self.runs, key),
         }
     }
 
@@ -60,31 +77,31 @@ impl KeyIndex {
         ensures pairs { SetsOnly self.old.pairs self.new.pairs key place }
         ensures room { self.old.spare ≤ self.new.spare + 1 }
     {
-        match self.search(key) {
-            Ok(at) => {
-                self.pairs[at] = (key, place);
-            }
-            Err(at) => match self.pairs.insert(at, (key, place)) {
-                Ok(()) => {}
-                Err(_) => unreachable!(),
-            },
-        }
+        self.own.set(key, place);
     }
 
-    /// An index with the same pairs.
-    pub fn copy(&self) -> Result<KeyIndex, Memory>
-        ensures { IfOk result (λ copied. copied.pairs ≡ self.now.pairs) }
+    /// An index with the same pairs, which has its runs in common with this one: no pair is copied. After `Memory` the pairs
+    /// are as before.
+    pub fn share(&mut self) -> Result<KeyIndex, Memory>
+        ensures shared { IfOk result (λ shared. shared.pairs ≡ self.old.pairs) }
+        ensures pairs { self.new.pairs ≡ self.old.pairs }
     {
+        let alloc = *self.runs.allocator();
+        runs::seal(&mut self.runs, &mut self.own, alloc)?;
         Ok(KeyIndex {
-            pairs: Vec::from_slice(*self.pairs.allocator(), &self.pairs)?,
+            runs: runs::share(&self.runs, alloc)?,
+            own: Run::new(alloc),
         })
     }
 
-    /// Where the pair of a key is, or where it would go.
-    fn search(&self, key: Key) -> Result<usize, usize>
-        ensures found { IfOk result (IsAt self.now.pairs key) }
-        ensures absent { IfErr result (IsGapFor self.now.pairs key) }
+    /// Makes the own run one of the others where it would be too long with `n` more keys. After `Memory` all is as before.
+    fn make_way(&mut self, n: usize) -> Result<(), Memory>
+        ensures { self.new.pairs ≡ self.old.pairs }
     {
-        self.pairs.binary_search_by_key(&key, |&(k, _)| k)
+        if self.own.len().saturating_add(n) <= OWN {
+            return Ok(());
+        }
+        let alloc = *self.runs.allocator();
+        runs::seal(&mut self.runs, &mut self.own, alloc)
     }
 }

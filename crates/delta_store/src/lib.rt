@@ -12,6 +12,9 @@ mod chunk;
 mod chunks;
 mod frozen;
 mod index;
+mod merge;
+mod run;
+mod runs;
 mod store;
 mod version;
 

@@ -166,8 +166,8 @@ impl Delta {
         self.ended
     }
 
-    /// A frozen store with the same versions, which has its chunks in common with this one: no version is copied, only the
-    /// index. There is no room then and no chunk is own, so that no live version may be ended before its key is made ready.
+    /// A frozen store with the same versions, which has its chunks and its index in common with this one: nothing of them is
+    /// copied. There is no room then and no chunk is own, so that no live version may be ended before its key is made ready.
     /// After `Memory` the versions are as before.
     pub fn share(&mut self) -> Result<Frozen, Memory>
         ensures frozen { IfOk result (λ frozen. frozen ≡ self.old.versions) }
@@ -175,7 +175,7 @@ impl Delta {
         ensures room { OnOk result (self.new.spare ≡ 0) }
         ensures none_own { OnOk result (All (λ own. own ≡ false) self.new.own) }
     {
-        let index = self.index.copy()?;
+        let index = self.index.share()?;
         let chunks = self.chunks.share()?;
         Ok(Frozen::new(chunks, index, self.ended))
     }

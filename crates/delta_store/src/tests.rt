@@ -120,10 +120,18 @@ fn expect_earlier(rt: &impl Abort, frozen: &Frozen, i: usize, place: Option<usiz
 #[test]
 fn five_versions_of_a_key(rt: HostRuntime) -> Result<(), Fail> {
     let mut delta = Delta::new(rt.alloc());
-    for (round, commit) in [(0, 1), (1, 11), (2, 21), (3, 31), (4, 41)] {
+    for (first, commit) in [(0u8, 1), (3, 11), (6, 21), (9, 31), (12, 41)] {
         for key in [5, -2, 8] {
-            put(&mut delta, rt.alloc(), key, round, commit)?;
+            put(&mut delta, rt.alloc(), key, 0, commit)?;
         }
+        let first = usize::from(first);
+        let places = [
+            (5, Some(first)),
+            (-2, Some(first + 1)),
+            (8, Some(first + 2)),
+            (6, None),
+        ];
+        expect_places(&rt, &delta.share()?, &places);
     }
     let frozen = delta.share()?;
     let earlier = [
@@ -191,24 +199,41 @@ fn scattered(i: u16) -> i64 {
     i64::from(i) * 1789 % 4999
 }
 
-#[test]
-fn keys_in_no_order(rt: HostRuntime) -> Result<(), Fail> {
-    let mut delta = Delta::new(rt.alloc());
+/// That keys in no order have their places, at each share after so many of them and at the end, and that the share which is
+/// held from one key on stays as it was.
+fn expect_scattered(rt: &impl Abort, alloc: Global, every: u16, from: u16) -> Result<(), Memory> {
+    assert!(rt; every != 0);
+    let mut delta = Delta::new(alloc);
+    let mut held = Delta::new(alloc).freeze();
     for i in 0..5000u16 {
-        put(
-            &mut delta,
-            rt.alloc(),
-            scattered(i),
-            i64::from(i),
-            u64::from(i),
-        )?;
-        let shared = delta.share()?;
-        expect_places(&rt, &shared, &[(scattered(i), Some(usize::from(i)))]);
+        put(&mut delta, alloc, scattered(i), i64::from(i), u64::from(i))?;
+        if i % every == 0 {
+            let shared = delta.share()?;
+            expect_places(rt, &shared, &[(scattered(i), Some(usize::from(i)))]);
+        }
+        if i == from {
+            held = delta.share()?;
+        }
     }
     let frozen = delta.freeze();
-    for i in 1..5000u16 {
-        expect_places(&rt, &frozen, &[(scattered(i), Some(usize::from(i)))]);
+    expect_places(rt, &frozen, &[(0, Some(4999)), (-1, None), (4999, None)]);
+    for i in 1..4999u16 {
+        let place = Some(usize::from(i));
+        expect_places(rt, &frozen, &[(scattered(i), place)]);
+        let then = if usize::from(i) < held.len() {
+            place
+        } else {
+            None
+        };
+        expect_places(rt, &held, &[(scattered(i), then)]);
     }
-    expect_places(&rt, &frozen, &[(-1, None), (4999, None)]);
+    Ok(())
+}
+
+#[test]
+fn keys_in_no_order(rt: HostRuntime) -> Result<(), Fail> {
+    for (every, from) in [(1, 2500), (7, 4), (1024, 1023), (5000, 4000)] {
+        expect_scattered(&rt, rt.alloc(), every, from)?;
+    }
     Ok(())
 }

@@ -1,17 +1,14 @@
-use Rattle.std.proofs.Common.{sym, arith}
-use Rattle.std.proofs.lemmas.List.{get_or_default}
-use Rattle.delta_store.specs.Index.{no_pair}
-use Rattle.delta_store.proofs.Search.{place_at, no_place}
+use Rattle.std.proofs.Common.{ap, sym, ◌∙◌}
+use Rattle.std.specs.Option.{option_or}
+use Rattle.delta_store.specs.Index.{place_in}
+use Rattle.delta_store.specs.Runs.{pairs_of}
+use Rattle.delta_store.proofs.Pairs.{place_in-append}
 use Rattle.delta_store.proofs.index.KeyIndex.get.Goals as goal
 
--- the key is at its place, and the pair there is the one that was read
-pub returns-in-Ok : goal.returns-in-Ok
-returns-in-Ok c =
-    let found = rw (← c.self.view_is) at c.in-Ok.ensures.found in
-    let value = place_at c.self.inside.pairs.items c.self.invariant c.args.key c.in-Ok.at found in
-    let read = get_or_default c.self.inside.pairs.items c.in-Ok.at c.index.result.now no_pair found.in_range in
-    rw (← c.self.view_is) (grind (arith, value, read))
+-- a key that the own run has has its place there
+pub returns-in-Some : goal.returns-in-Some
+returns-in-Some c = rw (← c.self.view_is) (sym (place_in-append c.self.inside.own.pairs (pairs_of c.self.inside.runs.items) c.args.key ∙ ap (λ o. option_or o (place_in (pairs_of c.self.inside.runs.items) c.args.key)) (sym c.in-Some.ensures)))
 
--- the key is not there
-pub returns-in-Err : goal.returns-in-Err
-returns-in-Err c = sym (no_place _ _ _ c.in-Err.ensures.absent)
+-- and any other that in the newest of the other runs
+pub returns-in-None : goal.returns-in-None
+returns-in-None c = rw (← c.self.view_is) (sym (place_in-append c.self.inside.own.pairs (pairs_of c.self.inside.runs.items) c.args.key ∙ ap (λ o. option_or o (place_in (pairs_of c.self.inside.runs.items) c.args.key)) (sym c.in-None.ensures) ∙ sym (rw c.deref.ensures.value at c.place_of.ensures)))

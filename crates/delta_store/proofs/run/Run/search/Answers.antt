@@ -1,7 +1,7 @@
 use Rattle.std.proofs.Common.{rules}
 use Rattle.std.proofs.lemmas.List.Sorted.{answers_always}
 use Rattle.delta_store.proofs.Search.{searched}
-use Rattle.delta_store.proofs.index.KeyIndex.search.Goals as goal
+use Rattle.delta_store.proofs.run.Run.search.Goals as goal
 
 -- the closure gives a pair's key, and the slice is the index's pairs
 pub returns : goal.returns
