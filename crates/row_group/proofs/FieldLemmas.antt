@@ -22,8 +22,9 @@ use Rattle.row_group.specs.Orders.{IsOrderOf}
 use Rattle.row_group.specs.Rows.{PackedRow}
 use Rattle.cs_types.specs.Keys.{key_cmp}
 use Rattle.row_group.specs.Groups.{keys_of, key_of_cell}
-use Rattle.row_group.specs.Fields.{cells_in, shown_row, shown_rows, AreFields}
-use Rattle.row_group.specs.Arranged.{IsColumnSegment, AreSegmentsOf, AreStamps, ArePicked, AreKeyCodes, AreNumbers, source_row}
+use Rattle.row_group.specs.Fields.{cells_in, shown_row, shown_rows, AreFields, AreStamps}
+use Rattle.row_group.specs.Packings.{source_row}
+use Rattle.row_group.specs.Arranged.{IsColumnSegment, AreSegmentsOf, ArePicked, AreKeyCodes, AreNumbers}
 use Rattle.row_group.proofs.ArrangeLemmas.{slice_get-push}
 use Rattle.row_group.proofs.RankLemmas.{within-order}
 use Rattle.row_group.proofs.ShownLemmas.{cell_at-get_or, cell_at-map}

@@ -1,10 +1,10 @@
 -- The positions of a group by key.
-use Rattle.std.proofs.Common.{◌≡◌, ◌≢◌, ℕ, ◌+◌, ◌<◌, ◌≤◌, inl, inr, [], length, get_or, refl, sym, ◌∙◌, ap, arith, Bool, true, false, true≢false}
+use Rattle.std.proofs.Common.{◌≡◌, ◌≢◌, ℕ, ◌<◌, ◌≤◌, inl, inr, [], length, get_or, refl, sym, ◌∙◌, ap, arith, Bool, true, false, true≢false}
 use Rattle.std.specs.declared.cmp.Ordering.{Ordering}
 use Rattle.std.specs.declared.cmp.Ordering.TheVariants.{Less, Equal, Greater}
-use Rattle.std.specs.Cmp.{IsTotalOrder}
+use Rattle.std.specs.Ordering.{nat_cmp, ordering_then}
 use Rattle.std.proofs.lemmas.Bool.{cases_lt}
-use Rattle.std.proofs.lemmas.Cmp.{int_cmp_total, on_total, int_ranked, alike_right, tied_itself}
+use Rattle.std.proofs.lemmas.Cmp.{alike_right, tied_itself}
 use Rattle.std.proofs.lemmas.List.{get_or-map, length-map}
 use Rattle.cs_types.specs.declared.Key.{Key}
 use Rattle.cs_types.specs.Rows.{key_in}
@@ -12,8 +12,9 @@ use Rattle.row_group.specs.Orders.{IsOrderOf}
 use Rattle.row_group.specs.Rows.{PackedRow}
 use Rattle.cs_types.specs.Keys.{key_cmp}
 use Rattle.cs_types.proofs.KeyLemmas.{key_total, exact_key}
-use Rattle.row_group.specs.Groups.{Group, row_at, keys_of, key_at_place, precedes, ArePlacesOf, IsFirstPlace, HasEachPosition}
-use Rattle.row_group.proofs.RankLemmas.{length-order, within-order, in-order, not_greater-order}
+use Rattle.row_group.specs.Groups.{Group, row_at, keys_of, key_at_place, precedes, AreByKey, ArePlacesOf, IsFirstPlace, IsSide, HasEachPosition}
+use Rattle.row_group.proofs.OrderLemmas.{range-apart}
+use Rattle.row_group.proofs.RankLemmas.{length-order, within-order, in-order}
 
 -- what precedes still does, before what comes no later
 precedes-before : (tied : Bool) (a b key : Key) → key_cmp b a ≢ Greater → precedes tied (key_cmp a key) ≡ true → precedes tied (key_cmp b key) ≡ true
@@ -42,24 +43,47 @@ module _ (group : Group) (is : IsOrderOf key_cmp (keys_of group.key group.rows) 
   key-at : (d : Key) (p : ℕ) → p < length group.places → get_or (keys_of group.key group.rows) (get_or group.places p 0) d ≡ key_at_place group p
   key-at d p l = get_or-map (λ (row : PackedRow). key_in group.key row.cells) group.rows (get_or group.places p 0) (record { cells = []; begin = 0 }) d (place-within p l)
 
+  pub by_key : AreByKey group
+  by_key = record {
+    counted = length-places;
+    within = place-within;
+    each = each_position;
+    once = λ i j l m same. elim (cases_lt i j) [
+      | inl less ↦ absurd (range-apart (length (keys_of group.key group.rows)) group.places is.all i j 0 less m same)
+      | inr back ↦ elim (cases_lt j i) [
+        | inl less ↦ absurd (range-apart (length (keys_of group.key group.rows)) group.places is.all j i 0 less l (sym same))
+        | inr le ↦ omega arith
+      ]
+    ];
+    sorted = λ i j less l.
+        let p = get_or group.places i 0 in
+        let q = get_or group.places j 0 in
+        let d = key_at_place group i in
+        ap (λ k. ordering_then (key_cmp k (key_at_place group j)) (nat_cmp p q)) (sym (key-at d i (omega arith)))
+        ∙ ap (λ k. ordering_then (key_cmp (get_or (keys_of group.key group.rows) p d) k) (nat_cmp p q)) (sym (key-at d j l))
+        ∙ is.ascending d i j 0 less l;
+  }
+
+module _ (group : Group) (are : AreByKey group) where
   -- keys do not fall along the places
   pub no_later : (p q : ℕ) → p ≤ q → q < length group.places → key_cmp (key_at_place group p) (key_at_place group q) ≢ Greater
   no_later p q le l greater = elim (cases_lt p q) [
     | inl less ↦
-        let d = key_at_place group p in
-        not_greater-order key_cmp (keys_of group.key group.rows) group.places is d p q less l
-        (ap (λ k. key_cmp k (get_or (keys_of group.key group.rows) (get_or group.places q 0) d)) (key-at d p (omega arith)) ∙ ap (λ k. key_cmp d k) (key-at d q l) ∙ greater)
+        later (sym (ap (λ r. ordering_then r (nat_cmp (get_or group.places p 0) (get_or group.places q 0))) greater) ∙ are.sorted p q less l)
     | inr n ↦
         let e : p ≡ q = omega arith in
         differ (sym (tied_itself key_total (key_at_place group q)) ∙ ap (λ i. key_cmp (key_at_place group i) (key_at_place group q)) (sym e) ∙ greater)
   ]
     where
+      later : Greater ≡ Less → ⊥
+      later e = cc
+
       differ : Equal ≡ Greater → ⊥
       differ e = cc
 
   -- all places up to one that precedes do, and none from one on that does not
-  pub all_before : (tied : Bool) (key : Key) (middle : ℕ) → middle < length group.places → precedes tied (key_cmp (key_at_place group middle) key) ≡ true → (i : ℕ) → i < middle + 1 → precedes tied (key_cmp (key_at_place group i) key) ≡ true
-  all_before tied key middle l before i m = precedes-before tied (key_at_place group middle) (key_at_place group i) key (no_later i middle (omega arith) l) before
+  pub all_before : (tied : Bool) (key : Key) (middle : ℕ) → middle < length group.places → precedes tied (key_cmp (key_at_place group middle) key) ≡ true → (i : ℕ) → i ≤ middle → precedes tied (key_cmp (key_at_place group i) key) ≡ true
+  all_before tied key middle l before i m = precedes-before tied (key_at_place group middle) (key_at_place group i) key (no_later i middle m l) before
 
   pub none_after : (tied : Bool) (key : Key) (middle : ℕ) → precedes tied (key_cmp (key_at_place group middle) key) ≡ false → (i : ℕ) → middle ≤ i → i < length group.places → precedes tied (key_cmp (key_at_place group i) key) ≡ false
   none_after tied key middle after i le l = go (precedes tied (key_cmp (key_at_place group i) key)) refl
@@ -108,3 +132,32 @@ places_found group key from to each first last = record {
       | inl less ↦ less
       | inr more ↦ absurd (true≢false (sym (ap (precedes true) (tied i same)) ∙ last.after i more m))
     ]
+
+-- what comes before comes before or ties
+pub also_tied : (r : Ordering) → precedes false r ≡ true → precedes true r ≡ true
+also_tied Less e = refl
+also_tied Equal e = cc
+also_tied Greater e = cc
+
+-- a key below all has no place at the first, and one above all none at the last
+pub places_below : (group : Group) (key : Key) → HasEachPosition group → IsSide group key Less → ArePlacesOf group key 0 0
+places_below group key each side = places_found group key 0 0 each (beside false) (beside true)
+  where
+    beside : (tied : Bool) → IsFirstPlace group key tied 0
+    beside tied = record {
+      ordered = omega arith;
+      within = omega arith;
+      before = λ i l. absurd (omega arith);
+      after = λ i l m. ap (precedes tied) (side i m);
+    }
+
+pub places_above : (group : Group) (key : Key) → HasEachPosition group → IsSide group key Greater → ArePlacesOf group key (length group.places) (length group.places)
+places_above group key each side = places_found group key (length group.places) (length group.places) each (beside false) (beside true)
+  where
+    beside : (tied : Bool) → IsFirstPlace group key tied (length group.places)
+    beside tied = record {
+      ordered = omega arith;
+      within = omega arith;
+      before = λ i l. ap (precedes tied) (side i l);
+      after = λ i l m. absurd (omega arith);
+    }

@@ -6,8 +6,10 @@ pub mod DistanceLemmas
 pub mod DistinctLemmas
 pub mod ShownLemmas
 pub mod GroupLemmas
-pub mod KeptLemmas
+pub mod SideLemmas
 pub mod ArrangeLemmas
 pub mod StampLemmas
 pub mod FieldLemmas
 pub mod PackLemmas
+pub mod ColumnLemmas
+pub mod PackerLemmas

@@ -1,100 +1,77 @@
 -- The group of kept versions.
-use Rattle.std.proofs.Common.{◌≡◌, ◌≢◌, ℕ, zero, suc, ◌<◌, List, [], ◌∷◌, length, map, get_or, refl, sym, ◌∙◌, ap, subst, arith, IsTrue, not}
-use Rattle.std.specs.List.{All, AllPairs, range_with_len, filter}
+use Rattle.std.proofs.Common.{◌≡◌, ◌≢◌, ℕ, ◌<◌, List, [], length, map, get_or, refl, sym, ◌∙◌, ap, subst, arith, IsTrue}
+use Rattle.std.specs.List.{All, AllPairs, range_with_len}
 use Rattle.std.specs.List.Sorted.{IsPermutation}
 use Rattle.std.specs.Ordering.{nat_cmp, ordering_then}
-use Rattle.std.proofs.lemmas.List.{length-map, get_or-map}
-use Rattle.std.proofs.lemmas.List.Elements.{All-map, All-filter}
-use Rattle.std.proofs.lemmas.List.FromFn.{fill_by_all, length-range_with_len, get_or-range_with_len}
-use Rattle.std.proofs.lemmas.List.Sorted.{IsPermutation-map, All-permutation, length_permutation}
+use Rattle.std.proofs.lemmas.List.{length-map, get_or-map, get_or_default}
+use Rattle.std.proofs.lemmas.List.Elements.{All-map}
+use Rattle.std.proofs.lemmas.List.FromFn.{fill_by_all, length-range_with_len, get_or-range_with_len, length-map-range_with_len}
+use Rattle.std.proofs.lemmas.List.Sorted.{IsPermutation-map, All-permutation}
 use Rattle.std.proofs.lemmas.Option.{slice_get_within}
 use Rattle.cs_types.specs.declared.Column.{Column}
 use Rattle.cs_types.specs.declared.Schema.{Schema}
 use Rattle.cs_types.specs.declared.Value.{Value}
 use Rattle.cs_types.specs.declared.Value.TheVariants.{Null, Number, Text}
-use Rattle.cs_types.specs.declared.row.Version.{Version}
 use Rattle.cs_types.specs.Kinds.{keeps}
 use Rattle.cs_types.specs.Rows.{cell_at, IsNumber}
 use Rattle.cs_types.specs.Schemas.{may_hold, IsSchema, IsRowOf}
 use Rattle.cs_types.specs.Values.{value_cmp}
-use Rattle.row_group.specs.Rows.{PackedRow, ended_by, raised, repacked, row_of, column_of, distinct_cells, row_cmp, AreInOrder}
-use Rattle.row_group.specs.Groups.{Group, IsGroupOf}
-use Rattle.row_group.specs.Kept.{IsKept}
-use Rattle.row_group.specs.Arranged.{KeepColumns, AreNumbers, IsRowOrder, IsArranged, source_row, source_cmp}
+use Rattle.row_group.specs.Rows.{PackedRow, begin_above, begun_above, column_of, distinct_cells, row_cmp, AreInOrder}
+use Rattle.row_group.specs.Groups.{Group, HoldsRows}
+use Rattle.row_group.specs.Packings.{AreEven, IsOrderedBy, source_row, source_rows}
+use Rattle.row_group.specs.Arranged.{KeepColumns, AreNumbers, IsRowOrder, IsArranged, source_cmp}
 use Rattle.cs_types.proofs.RowLemmas.{row_has_key}
 use Rattle.row_group.proofs.ArrangeLemmas.{by_rank-same}
 use Rattle.row_group.proofs.FieldLemmas.{cell_of-source}
+use Rattle.row_group.proofs.ColumnLemmas.{row_of-source, map-within, rows-raised}
 use Rattle.row_group.proofs.ShownLemmas.{cell_at-get_or, map-map}
-use Rattle.row_group.proofs.OrderLemmas.{range-apart}
+use Rattle.row_group.proofs.OrderLemmas.{range-apart, range-within, length-range}
 
 held-kept : (column : Column) (v : Value) → IsTrue (may_hold column v) → IsTrue (keeps column.kind v)
 held-kept column Null held = refl
 held-kept column (Number z) held = held
 held-kept column (Text t) held = held
 
--- the versions that are kept fit as all do
-pub repacked-fits : (schema : Schema) (versions : List Version) (floor : ℕ) → All (λ version. IsRowOf schema version.row) versions → All (λ version. IsRowOf schema version.row) (repacked versions floor)
-repacked-fits schema versions floor fit =
-    All-map (λ (version : Version). IsRowOf schema version.row) (raised floor) (filter (λ v. not (ended_by floor v.end)) versions)
-    (All-filter (λ v. not (ended_by floor v.end)) (λ (version : Version). IsRowOf schema version.row) versions fit)
+-- raised begins change no cell
+pub raised-even : (floor : ℕ) (columns : List (List Value)) (begins raised : List ℕ) → raised ≡ map (begin_above floor) begins → AreEven columns (length begins) → AreEven columns (length raised)
+raised-even floor columns begins raised e even = subst (AreEven columns) (sym (ap length e ∙ length-map begins (begin_above floor))) even
 
-module _ (schema : Schema) (versions : List Version) (columns : List (List Value)) (begins : List ℕ) (kept : IsKept (length schema.columns) versions columns begins) where
-  pub length-begins : length begins ≡ length versions
-  length-begins = ap length kept.of_begins ∙ length-map versions (λ (v : Version). v.begin)
+pub raised-fits : (schema : Schema) (floor : ℕ) (columns : List (List Value)) (begins raised : List ℕ) → raised ≡ map (begin_above floor) begins → All (λ row. IsRowOf schema row.cells) (source_rows columns begins) → All (λ row. IsRowOf schema row.cells) (source_rows columns raised)
+raised-fits schema floor columns begins raised e fit =
+    subst (λ (rows : List PackedRow). All (λ (row : PackedRow). IsRowOf schema row.cells) rows) (rows-raised floor columns begins ∙ ap (source_rows columns) (sym e))
+    (All-map (λ (row : PackedRow). IsRowOf schema row.cells) (begun_above floor) (source_rows columns begins) fit)
 
-  rows : List (List Value)
-  rows = map (λ (v : Version). v.row) versions
-
-  pub columns-keep : All (λ version. IsRowOf schema version.row) versions → KeepColumns schema columns
-  columns-keep fit c column found =
-      subst (λ (cells : List Value). All (λ cell. IsTrue (keeps column.kind cell)) cells) (sym (kept.of_rows.cells c (slice_get_within schema.columns c column found)))
-      (All-map (λ cell. IsTrue (keeps column.kind cell)) (λ row. cell_at row c) (map (λ (v : Version). v.row) versions)
-      (All-map (λ row. IsTrue (keeps column.kind (cell_at row c))) (λ (v : Version). v.row) versions
-      (λ k d l. held-kept column (cell_at (get_or versions k d).row c) ((fit k d l).held c column found))))
-
-  -- what stands at a place
-  at-kept : (vs : List Version) (k : ℕ) (e : PackedRow) → k < length vs → (v : Version) × (get_or (map (row_of (length schema.columns)) vs) k e ≡ row_of (length schema.columns) v) × (get_or (map (λ (w : Version). w.begin) vs) k 0 ≡ v.begin) × ((c : ℕ) → cell_at (map (λ row. cell_at row c) (map (λ (w : Version). w.row) vs)) k ≡ cell_at v.row c)
-  at-kept [] k e l = absurd (omega (arith, l))
-  at-kept (v ∷ vs) zero e l = (v, refl, refl, λ c. refl)
-  at-kept (v ∷ vs) (suc k) e l = at-kept vs k e (omega arith)
-
-  row-kept : (k : ℕ) (e : PackedRow) → k < length versions → get_or (map (row_of (length schema.columns)) versions) k e ≡ source_row columns begins k
-  row-kept k e l =
-      let (v, row, begin, cell) = at-kept versions k e l in
-      let cells = fill_by_all (λ c. cell_at v.row c) (map (λ column. cell_at column k) columns) (length schema.columns) Null (length-map columns (λ column. cell_at column k) ∙ kept.of_rows.counted)
-      (λ c m. get_or-map (λ column. cell_at column k) columns c [] Null (omega (arith, kept.of_rows.counted)) ∙ ap (λ cells. cell_at cells k) (kept.of_rows.cells c m) ∙ cell c) in
-      let at = ap (λ bs. get_or bs k 0) kept.of_begins ∙ begin in
-      row ∙ (λ i. record { cells = sym cells i; begin = sym at i })
-
-  -- the rows of the versions are those at the places of the columns
-  rows-kept : map (row_of (length schema.columns)) versions ≡ map (source_row columns begins) (range_with_len 0 (length begins))
-  rows-kept =
-      fill_by_all (source_row columns begins) (map (row_of (length schema.columns)) versions) (length begins) (record { cells = []; begin = 0 })
-      (length-map versions (row_of (length schema.columns)) ∙ sym length-begins) (λ k l. row-kept k (record { cells = []; begin = 0 }) (omega (arith, length-begins)))
-
+module _ (schema : Schema) (columns : List (List Value)) (begins : List ℕ) (even : AreEven columns (length begins)) (wide : length columns ≡ length schema.columns) where
   length-column : (c : ℕ) → c < length columns → length (get_or columns c []) ≡ length begins
-  length-column c l =
-      ap length (kept.of_rows.cells c (omega (arith, kept.of_rows.counted)))
-      ∙ length-map (map (λ (v : Version). v.row) versions) (λ row. cell_at row c) ∙ length-map versions (λ (v : Version). v.row) ∙ sym length-begins
+  length-column c l = even c [] l
+
+  -- the row at a place fits
+  fitted : All (λ row. IsRowOf schema row.cells) (source_rows columns begins) → (k : ℕ) → k < length begins → IsRowOf schema (source_row columns begins k).cells
+  fitted fit k l =
+      let d : PackedRow = record { cells = []; begin = 0 } in
+      subst (λ (row : PackedRow). IsRowOf schema row.cells) (row_of-source columns begins k d l)
+      (fit k d (omega (arith, l, length-map-range_with_len (source_row columns begins) 0 (length begins))))
+
+  pub columns-keep : All (λ row. IsRowOf schema row.cells) (source_rows columns begins) → KeepColumns schema columns
+  columns-keep fit c column found k d l =
+      let there : c < length columns = omega (arith, slice_get_within schema.columns c column found, wide) in
+      let cells = get_or columns c [] in
+      let m : k < length begins = omega (arith, l, length-column c there) in
+      subst (λ (cell : Value). IsTrue (keeps column.kind cell))
+      (cell_of-source columns begins k c ∙ cell_at-get_or cells k ∙ get_or_default cells k Null d l)
+      (held-kept column (cell_at (source_row columns begins k).cells c) ((fitted fit k m).held c column found))
 
   -- the cells of the key's column are numbers
-  pub keys-numbers : IsSchema schema → All (λ version. IsRowOf schema version.row) versions → AreNumbers (get_or columns schema.key []) (length begins)
+  pub keys-numbers : IsSchema schema → All (λ row. IsRowOf schema row.cells) (source_rows columns begins) → AreNumbers (get_or columns schema.key []) (length begins)
   keys-numbers is fit i l =
-      let cells = get_or columns schema.key [] in
-      let there : schema.key < length columns = omega (arith, kept.of_rows.counted, is.key_there) in
-      let numbers = subst (λ (column : List Value). All IsNumber column) (sym (kept.of_rows.cells schema.key is.key_there))
-      (All-map IsNumber (λ row. cell_at row schema.key) (map (λ (v : Version). v.row) versions)
-      (All-map (λ row. IsNumber (cell_at row schema.key)) (λ (v : Version). v.row) versions
-      (λ k d m. row_has_key schema (get_or versions k d).row is (fit k d m)))) in
-      subst IsNumber (sym (cell_at-get_or cells i)) (numbers i Null (omega (arith, l, length-column schema.key there)))
+      subst IsNumber (cell_of-source columns begins i schema.key) (row_has_key schema (source_row columns begins i).cells is (fitted fit i l))
 
   module _ (order : List ℕ) (ordered : IsRowOrder columns begins order) where
     pub places-within : All (λ place. place < length begins) order
-    places-within = All-permutation (λ place. place < length begins) (range_with_len 0 (length begins)) order ordered.all
-        (λ k d l. let m : k < length begins = omega (arith, length-range_with_len 0 (length begins)) in omega (arith, get_or-range_with_len 0 (length begins) k d m))
+    places-within = range-within (length begins) order ordered.all
 
     pub length-places : length order ≡ length begins
-    length-places = length_permutation (range_with_len 0 (length begins)) order ordered.all ∙ length-range_with_len 0 (length begins)
+    length-places = length-range (length begins) order ordered.all
 
     pub places-apart : AllPairs (λ a b. a ≢ b) order
     places-apart i j d l m = range-apart (length begins) order ordered.all i j d l m
@@ -128,7 +105,7 @@ module _ (schema : Schema) (versions : List Version) (columns : List (List Value
     in-order : AreInOrder (length schema.columns) (map (source_row columns begins) order)
     in-order = record {
       rank = ordered.rank;
-      of_columns = subst (λ n. IsPermutation (range_with_len 0 n) ordered.rank) kept.of_rows.counted ordered.of_columns;
+      of_columns = subst (λ n. IsPermutation (range_with_len 0 n) ordered.rank) wide ordered.of_columns;
       ranked = λ i j d l m.
           let a = get_or ordered.rank i d in
           let b = get_or ordered.rank j d in
@@ -146,20 +123,27 @@ module _ (schema : Schema) (versions : List Version) (columns : List (List Value
     }
 
     -- the rows of the group
-    pub rows-moved : IsPermutation (map (row_of (length schema.columns)) versions) (map (source_row columns begins) order)
-    rows-moved = subst (λ (all : List PackedRow). IsPermutation all (map (source_row columns begins) order)) (sym rows-kept)
-        (IsPermutation-map (source_row columns begins) (range_with_len 0 (length begins)) order ordered.all)
+    pub rows-moved : IsPermutation (source_rows columns begins) (map (source_row columns begins) order)
+    rows-moved = IsPermutation-map (source_row columns begins) (range_with_len 0 (length begins)) order ordered.all
 
-    pub rows-ordered : AreInOrder (length schema.columns) (map (source_row columns begins) order)
-    rows-ordered = in-order
+    -- the group is that of the rows
+    pub group-made : (floor : ℕ) (group : Group) → IsArranged columns begins order schema.key floor group → HoldsRows schema (source_rows columns begins) floor group
+    group-made floor group arranged = record {
+      rows = subst (IsPermutation (source_rows columns begins)) (sym arranged.rows) rows-moved;
+      order = subst (AreInOrder (length schema.columns)) (sym arranged.rows) in-order;
+      places = arranged.places;
+      width = arranged.width ∙ wide;
+      key = arranged.key;
+      base = arranged.base;
+    }
 
--- the group is that of the versions
-pub group-made : (schema : Schema) (versions : List Version) (floor : ℕ) (columns : List (List Value)) (begins order : List ℕ) (group : Group) → IsKept (length schema.columns) (repacked versions floor) columns begins → IsRowOrder columns begins order → IsArranged columns begins order schema.key floor group → IsGroupOf schema versions floor group
-group-made schema versions floor columns begins order group kept ordered arranged = record {
-  rows = subst (IsPermutation (map (row_of (length schema.columns)) (repacked versions floor))) (sym arranged.rows) (rows-moved schema (repacked versions floor) columns begins kept order ordered);
-  order = subst (AreInOrder (length schema.columns)) (sym arranged.rows) (rows-ordered schema (repacked versions floor) columns begins kept order ordered);
-  places = arranged.places;
-  width = arranged.width ∙ kept.of_rows.counted;
-  key = arranged.key;
-  base = arranged.base;
-}
+    -- and its rows are those at the places of the order
+    pub order-made : (floor : ℕ) (group : Group) → IsArranged columns begins order schema.key floor group → IsOrderedBy (source_rows columns begins) order group
+    order-made floor group arranged =
+        let d : PackedRow = record { cells = []; begin = 0 } in
+        record {
+          all = subst (λ n. IsPermutation (range_with_len 0 n) order) (sym (length-map-range_with_len (source_row columns begins) 0 (length begins))) ordered.all;
+          by_place = arranged.rows
+              ∙ map-within (source_row columns begins) (λ i. get_or (source_rows columns begins) i d) order
+              (λ k e l. sym (row_of-source columns begins (get_or order k e) d (places-within k e l)));
+        }

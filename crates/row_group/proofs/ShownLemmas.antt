@@ -2,10 +2,10 @@
 use Rattle.std.proofs.Common.{◌≡◌, ◌≢◌, ℕ, ◌<◌, ◌≤◌, zero, suc, List, [], ◌∷◌, length, map, get_or, refl, sym, ◌∙◌, ap, subst, arith, Bool, true, false, cond, eqb, eq-eqb, Option, Some, None}
 use Rattle.std.specs.List.{All, AllPairs, range_with_len, slice_get}
 use Rattle.std.specs.Option.{unwrap_or}
-use Rattle.std.proofs.lemmas.List.{get_or-map}
+use Rattle.std.proofs.lemmas.List.{get_or-map, length-map}
 use Rattle.std.proofs.lemmas.List.FromFn.{length-map-range_with_len, get_or-map-range_with_len}
 use Rattle.std.proofs.lemmas.Option.{unwrap_or-slice_get}
-use Rattle.std.proofs.lemmas.Bool.{ne_eqb}
+use Rattle.std.proofs.lemmas.Bool.{ne_eqb, eqb-true}
 use Rattle.cs_types.specs.declared.Value.{Value}
 use Rattle.cs_types.specs.declared.Value.TheVariants.{Null}
 use Rattle.cs_types.specs.declared.Key.{Key}
@@ -16,7 +16,7 @@ use Rattle.row_group.specs.Rows.{PackedRow, column_of}
 use Rattle.row_group.specs.Orders.{IsOrderOf}
 use Rattle.cs_types.specs.Keys.{key_cmp}
 use Rattle.row_group.specs.Groups.{Group, begin_beside, begun_at, keys_of, key_of_cell, row_at}
-use Rattle.row_group.specs.Fields.{cells_in, shown_row, shown_rows, stamp_in, stamp_of, begin_in, AreFields}
+use Rattle.row_group.specs.Fields.{cells_in, shown_row, shown_rows, stamp_in, stamp_of, begin_in, AreFields, AreStamps}
 
 -- a cell is the one at its place, or NULL past the end
 pub cell_at-get_or : (cells : List Value) (c : ℕ) → cell_at cells c ≡ get_or cells c Null
@@ -89,6 +89,14 @@ late-shown late count base position own = go (stamp_in late position) refl
     go None e = ap (λ b. cond b None (Some base)) (sym (eq-eqb base base refl))
     go (Some begin) e = ap (λ b. cond b None (Some begin)) (sym (ne_eqb begin base (own-stamp late count base position begin own e)))
 
+-- the begin that stands beside the base, or the base, is the begin
+pub beside-or : (base begin : ℕ) → unwrap_or (begin_beside base begin) base ≡ begin
+beside-or base begin = go (eqb begin base) refl
+  where
+    go : (b : Bool) → eqb begin base ≡ b → unwrap_or (cond (eqb begin base) None (Some begin)) base ≡ begin
+    go true e = ap (λ t. unwrap_or (cond t None (Some begin)) base) e ∙ sym (eqb-true begin base e)
+    go false e = ap (λ t. unwrap_or (cond t None (Some begin)) base) e
+
 -- where each begin is the base, none stands beside it
 pub late-none : (late : List (ℕ × ℕ)) (count base : ℕ) → All (λ entry. (entry.0 < count) × (entry.1 ≢ base)) late → ((position : ℕ) → position < count → begin_in late base position ≡ base) → late ≡ []
 late-none [] count base own same = refl
@@ -123,6 +131,20 @@ pub base-rows : (segments : List Segment) (late : List (ℕ × ℕ)) (base count
 base-rows segments late base count all position l =
     let d : PackedRow = record { cells = []; begin = 0 } in
     sym (ap (λ (row : PackedRow). row.begin) (row-shown segments late base count position d l)) ∙ all position d (omega (arith, length-shown segments late base count))
+
+pub stamps-shown : (segments : List Segment) (late : List (ℕ × ℕ)) (base count : ℕ) → AllPairs (λ x y. x.0 < y.0) late → All (λ entry. (entry.0 < count) × (entry.1 ≢ base)) late → AreStamps (map (λ (row : PackedRow). row.begin) (shown_rows segments late base count)) base late
+stamps-shown segments late base count rising own =
+    let rows = shown_rows segments late base count in
+    let as_many = length-map rows (λ (row : PackedRow). row.begin) ∙ length-shown segments late base count in
+    record {
+      rising = rising;
+      own = λ k d l. let (m, other) = own k d l in (omega (arith, m, as_many), other);
+      shown = λ position l.
+          let d : PackedRow = record { cells = []; begin = 0 } in
+          let m : position < count = omega (arith, l, as_many) in
+          sym (get_or-map (λ (row : PackedRow). row.begin) rows position d 0 (omega (arith, m, length-shown segments late base count))
+          ∙ ap (λ (row : PackedRow). row.begin) (row-shown segments late base count position d m));
+    }
 
 -- what the fields show as a group
 abbrev pub group_of : List Segment → ℕ → ℕ → ℕ → List (ℕ × ℕ) → List ℕ → Group

@@ -6,8 +6,8 @@ use Rattle.std.proofs.lemmas.Bool.{cases_lt, ne_eqb}
 use Rattle.std.proofs.lemmas.List.{length_push, get_or_append_left, get_or_push, get_or_default, get_or-map, length-map}
 use Rattle.std.proofs.lemmas.List.Elements.{All-push}
 use Rattle.std.proofs.lemmas.List.Quantifiers.{all_pairs_push}
-use Rattle.row_group.specs.Fields.{stamp_in, begin_in}
-use Rattle.row_group.specs.Arranged.{AreStamps, ArePicked}
+use Rattle.row_group.specs.Fields.{stamp_in, begin_in, AreStamps}
+use Rattle.row_group.specs.Arranged.{ArePicked}
 use Rattle.row_group.proofs.ShownLemmas.{stamp-none}
 
 stamp-other : (late : List (ℕ × ℕ)) (entry : ℕ × ℕ) (position : ℕ) → entry.0 ≢ position → stamp_in (late ++ entry ∷ []) position ≡ stamp_in late position

@@ -1,5 +1,5 @@
 -- How the fields of a packed group show its rows.
-use Rattle.std.specs.Prelude.{◌≡◌, ◌≢◌, ◌<◌, ℕ, ◌==◌, List, [], ◌∷◌, length, map, All, AllPairs, Option, None, Some, unwrap_or, if◌then◌else◌}
+use Rattle.std.specs.Prelude.{◌≡◌, ◌≢◌, ◌<◌, ℕ, ◌==◌, List, [], ◌∷◌, length, map, slice_index, All, AllPairs, Option, None, Some, unwrap_or, if◌then◌else◌}
 use Rattle.std.specs.List.{range_with_len}
 use Rattle.cs_types.specs.declared.Value.{Value}
 use Rattle.column_segment.specs.declared.segment.Segment.{Segment}
@@ -18,6 +18,12 @@ stamp_in (entry ∷ late) position = if entry.0 == position then Some entry.1 el
 -- the begin of a position: its own, or the base
 abbrev pub begin_in : List (ℕ × ℕ) → ℕ → ℕ → ℕ
 begin_in late base position = unwrap_or (stamp_in late position) base
+
+-- the begins that are not the floor, by position
+pub record AreStamps (begins : List ℕ) (floor : ℕ) (late : List (ℕ × ℕ)) : Type 0 where
+  pub rising : AllPairs (λ x y. x.0 < y.0) late
+  pub own : All (λ entry. (entry.0 < length begins) × (entry.1 ≢ floor)) late
+  pub shown : (position : ℕ) → position < length begins → begin_in late floor position ≡ slice_index begins position
 
 -- the cells of a segment
 abbrev pub cells_in : Segment → List Value

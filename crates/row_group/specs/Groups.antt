@@ -2,6 +2,7 @@
 use Rattle.std.specs.Prelude.{◌≡◌, ◌<◌, ◌≤◌, ℕ, ◌==◌, List, [], length, map, slice_index, slice_index_or, Option, None, Some, Bool, true, false, if◌then◌else◌, IsPermutation}
 use Rattle.std.specs.declared.cmp.Ordering.{Ordering}
 use Rattle.std.specs.declared.cmp.Ordering.TheVariants.{Less, Equal, Greater}
+use Rattle.std.specs.Ordering.{nat_cmp, ordering_then}
 use Rattle.cs_types.specs.declared.Key.{Key}
 use Rattle.cs_types.specs.declared.Schema.{Schema}
 use Rattle.cs_types.specs.declared.row.Version.{Version}
@@ -40,15 +41,20 @@ key_of_cell cell = record { 0 = number_in cell }
 abbrev pub keys_of : ℕ → List PackedRow → List Key
 keys_of key rows = map (λ row. key_in key row.cells) rows
 
--- the group of versions that are kept above a floor: exactly their rows, in order, and its positions by key, those of one
--- key in their own order
-pub record IsGroupOf (schema : Schema) (versions : List Version) (floor : ℕ) (group : Group) : Type 0 where
-  pub rows : IsPermutation (map (row_of (length schema.columns)) (repacked versions floor)) group.rows
+-- the group of rows with a base: exactly these rows, in order, and its positions by key, those of one key in their own
+-- order
+pub record HoldsRows (schema : Schema) (given : List PackedRow) (floor : ℕ) (group : Group) : Type 0 where
+  pub rows : IsPermutation given group.rows
   pub order : AreInOrder (length schema.columns) group.rows
   pub places : IsOrderOf key_cmp (keys_of schema.key group.rows) group.places
   pub width : group.width ≡ length schema.columns
   pub key : group.key ≡ schema.key
   pub base : group.base ≡ floor
+
+-- the group of the versions that are kept above a floor
+abbrev pub IsGroupOf : Schema → List Version → ℕ → Group → Type 0
+IsGroupOf schema versions floor group =
+    HoldsRows schema (map (row_of (length schema.columns)) (repacked versions floor)) floor group
 
 -- what stands first comes before; what ties may
 abbrev pub precedes : Bool → Ordering → Bool
@@ -67,13 +73,33 @@ pub record ArePlacesOf (group : Group) (key : Key) (from to : ℕ) : Type 0 wher
   pub of_key : (i : ℕ) → from ≤ i → i < to → key_at_place group i ≡ key
   pub every : (position : ℕ) → position < length group.rows → key_in group.key (row_at group position).cells ≡ key → (i : ℕ) × (from ≤ i) × (i < to) × (slice_index group.places i ≡ position)
 
--- the first place whose key does not come before this one, or, where those of this key are passed over, comes after it
-pub record IsFirstPlace (group : Group) (key : Key) (tied : Bool) (place : ℕ) : Type 0 where
-  pub within : place ≤ length group.places
-  pub before : (i : ℕ) → i < place → precedes tied (key_cmp (key_at_place group i) key) ≡ true
-  pub after : (i : ℕ) → place ≤ i → i < length group.places → precedes tied (key_cmp (key_at_place group i) key) ≡ false
-
 -- each position stands at a place
 abbrev pub HasEachPosition : Group → Type 0
 HasEachPosition group =
     (position : ℕ) → position < length group.rows → (i : ℕ) × (i < length group.places) × (slice_index group.places i ≡ position)
+
+-- the places hold each position once, by the keys of the rows there, those of one key in their own order
+pub record AreByKey (group : Group) : Type 0 where
+  pub counted : length group.places ≡ length group.rows
+  pub within : (i : ℕ) → i < length group.places → slice_index group.places i < length group.rows
+  pub each : HasEachPosition group
+  pub once : (i j : ℕ) → i < length group.places → j < length group.places → slice_index group.places i ≡ slice_index group.places j → i ≡ j
+  pub sorted : (i j : ℕ) → i < j → j < length group.places → ordering_then (key_cmp (key_at_place group i) (key_at_place group j)) (nat_cmp (slice_index group.places i) (slice_index group.places j)) ≡ Less
+
+-- the first place whose key does not come before this one, or, where those of this key are passed over, comes after it,
+-- lies from one place up to another
+pub record IsFirstBetween (group : Group) (key : Key) (tied : Bool) (low high : ℕ) : Type 0 where
+  pub ordered : low ≤ high
+  pub within : high ≤ length group.places
+  pub before : (i : ℕ) → i < low → precedes tied (key_cmp (key_at_place group i) key) ≡ true
+  pub after : (i : ℕ) → high ≤ i → i < length group.places → precedes tied (key_cmp (key_at_place group i) key) ≡ false
+
+-- it is this place
+abbrev pub IsFirstPlace : Group → Key → Bool → ℕ → Type 0
+IsFirstPlace group key tied place = IsFirstBetween group key tied place place
+
+-- where a key lies to those of a group: below all of them, above all of them, or anywhere
+abbrev pub IsSide : Group → Key → Ordering → Type 0
+IsSide group key Less = (i : ℕ) → i < length group.places → key_cmp (key_at_place group i) key ≡ Greater
+IsSide group key Equal = Unit {0}
+IsSide group key Greater = (i : ℕ) → i < length group.places → key_cmp (key_at_place group i) key ≡ Less

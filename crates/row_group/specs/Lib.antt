@@ -1,7 +1,7 @@
 pub mod Orders
 pub mod Rows
 pub mod Groups
-pub mod Kept
+pub mod Packings
 pub mod Marks
 pub mod Distances
 pub mod Fields

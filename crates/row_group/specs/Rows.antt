@@ -33,9 +33,17 @@ raised floor v = record v { begin = begin_above floor v.begin }
 abbrev pub repacked : List Version → ℕ → List Version
 repacked versions floor = map (raised floor) (filter (λ v. not (ended_by floor v.end)) versions)
 
--- a version's cells in so many columns, NULL past its row's end, with its begin
+-- cells in so many columns, NULL past their end, with a begin
+abbrev pub padded : ℕ → List Value → ℕ → PackedRow
+padded width cells begin = record { cells = map (cell_at cells) (range_with_len 0 width); begin = begin }
+
+-- a version's cells in so many columns, with its begin
 abbrev pub row_of : ℕ → Version → PackedRow
-row_of width v = record { cells = map (λ column. cell_at v.row column) (range_with_len 0 width); begin = v.begin }
+row_of width v = padded width v.row v.begin
+
+-- the row whose begin is the floor where it is at most that
+abbrev pub begun_above : ℕ → PackedRow → PackedRow
+begun_above floor row = record row { begin = begin_above floor row.begin }
 
 -- the cells of a column
 abbrev pub column_of : List PackedRow → ℕ → List Value

@@ -8,16 +8,17 @@
 #![tactic(auto)]
 
 mod arrange;
+mod columns;
 mod distance;
-mod kept;
 mod marks;
 mod order;
 mod pack;
 mod packed;
+mod packer;
 mod ranks;
 
-pub use pack::pack_rows;
 pub use packed::{Packed, Places};
+pub use packer::{Packer, pack_rows};
 
 #[cfg(test)]
 mod tests;

@@ -1,68 +1,40 @@
-ghost use Rattle.std.specs.Prelude.{◌≡◌, ◌≢◌, ◌<◌, ◌↔◌, ℕ, [], All, AllPairs, length, map, slice_get, slice_index, slice_index_or, IfOk, IfSome, IsNone, IsTrue, Some};
+ghost use Rattle.std.specs.Prelude.{◌≡◌, ◌≢◌, ◌<◌, [], All, AllPairs, length, map, slice_index, slice_index_or, IfOk};
 ghost use Rattle.std.specs.Bool.{OnTrue};
 ghost use Rattle.cs_types.specs.declared.Column.{Column};
 ghost use Rattle.cs_types.specs.Kinds.{keeps};
-ghost use Rattle.cs_types.specs.Schemas.{IsSchema, IsRowOf};
-ghost use Rattle.row_group.specs.Rows.{repacked};
-ghost use Rattle.row_group.specs.Groups.{IsGroupOf};
-ghost use Rattle.row_group.specs.Kept.{IsKept};
-ghost use Rattle.row_group.specs.Arranged.{IsRowOrder, AreSegmentsOf, AreStamps, KeepColumns, AreKeyCodes, AreNumbers, IsArranged};
+ghost use Rattle.row_group.specs.Fields.{AreStamps};
+ghost use Rattle.row_group.specs.Arranged.{AreSegmentsOf, KeepColumns, AreKeyCodes, AreNumbers, IsArranged};
 
-use crate::arrange::{arranged, row_order};
-use crate::kept::{KeptColumns, kept_of};
+use crate::arrange::arranged;
 use crate::order::number_order;
 use crate::packed::Packed;
 use column_segment::{Segment, encode};
 use cs_base::{Items, Memory};
-use cs_types::{Schema, Value, Version};
+use cs_types::{Schema, Value};
 use std::alloc::Global;
 
-/// Packs versions into a group. A version whose end is at most the floor is left out, and a begin at most the floor
-/// becomes the floor. None exactly where no version is kept. The versions fit the schema; they may come in any order,
-/// several of one key among them. `Memory` comes only where there is no room for the group or on the way to it. It takes
-/// the time of a few sorts of so many numbers a column.
-pub fn pack_rows(
+/// The group of rows, at the places of an order in which these are codes of their keys.
+pub fn packed_by(
     alloc: Global,
     schema: &Schema,
-    versions: Items<Version>,
-    floor: u64,
-) -> Result<Option<Packed>, Memory>
-    requires schema { IsSchema schema.now }
-    requires fit { All (λ version. IsRowOf schema.now version.row) versions }
-    ensures none { IfOk result (λ packed. IsNone packed ↔ (repacked versions floor ≡ [])) }
-    ensures group { IfOk result (λ packed. IfSome packed (λ group. IsGroupOf schema.now versions floor group)) }
-{
-    let kept = kept_of(alloc, schema.columns.len(), versions, floor)?;
-    if kept.begins.is_empty() {
-        return Ok(None);
-    }
-    let (order, keys) = row_order(alloc, &kept.columns, &kept.begins, schema.key)?;
-    let packed = packed_by(alloc, schema, kept, &order, &keys, floor)?;
-    Ok(Some(packed))
-}
-
-/// The group of kept versions, at the places of an order in which these are codes of their keys.
-fn packed_by(
-    alloc: Global,
-    schema: &Schema,
-    kept: KeptColumns,
+    columns: Vec<Items<Value>>,
+    begins: &[u64],
     order: &[usize],
     key_codes: &[u64],
     floor: u64,
 ) -> Result<Packed, Memory>
-    requires columns { length kept.columns.items ≡ length schema.now.columns }
-    requires cells { KeepColumns schema.now kept.columns.items }
-    requires key { schema.now.key < length kept.columns.items }
-    requires numbers { AreNumbers (slice_index_or kept.columns.items schema.now.key []) (length kept.begins.items) }
-    requires codes { AreKeyCodes (slice_index_or kept.columns.items schema.now.key []) order.now key_codes.now }
-    requires places { All (λ place. place < length kept.begins.items) order.now }
+    requires columns { length columns.items ≡ length schema.now.columns }
+    requires cells { KeepColumns schema.now columns.items }
+    requires key { schema.now.key < length columns.items }
+    requires numbers { AreNumbers (slice_index_or columns.items schema.now.key []) (length begins.now) }
+    requires codes { AreKeyCodes (slice_index_or columns.items schema.now.key []) order.now key_codes.now }
+    requires places { All (λ place. place < length begins.now) order.now }
     requires some { 0 < length order.now }
     requires apart { AllPairs (λ a b. a ≢ b) order.now }
-    ensures { IfOk result (λ group. IsArranged kept.columns.items kept.begins.items order.now schema.now.key floor group) }
+    ensures { IfOk result (λ group. IsArranged columns.items begins.now order.now schema.now.key floor group) }
 {
-    let KeptColumns { columns, begins } = kept;
     let places = number_order(alloc, key_codes)?;
-    let late = late_of(alloc, &begins, order, floor)?;
+    let late = late_of(alloc, begins, order, floor)?;
     let segments = segments_of(alloc, schema, columns, order)?;
     Ok(Packed {
         segments,

@@ -44,18 +44,29 @@ impl Model for Packed {
 }
 
 impl Packed {
-    ghost use Rattle.std.specs.Prelude.{◌≡◌, ◌<◌, ◌↔◌, length, IsTrue, IfOk, All, [], map, slice_index};
+    ghost use Rattle.std.specs.Prelude.{◌≡◌, ◌<◌, ◌≤◌, ℕ, length, IfOk, All, map, slice_index, true, false};
+    ghost use Rattle.std.specs.Bool.{OnTrue, OnFalse};
+    ghost use Rattle.column_segment.specs.Bodies.{cell_in};
     ghost use Rattle.column_segment.specs.Segments.{IsSegmentOf};
     ghost use Rattle.row_group.specs.Rows.{column_of};
+    ghost use Rattle.row_group.specs.Fields.{AreStamps};
     ghost use Rattle.cs_types.specs.Keys.{key_cmp};
-    ghost use Rattle.row_group.specs.Groups.{row_at, begin_beside, begun_at, precedes, key_at_place, ArePlacesOf, IsFirstPlace, HasEachPosition};
-    ghost use Rattle.cs_types.specs.Rows.{key_in};
+    ghost use Rattle.row_group.specs.Groups.{row_at, begin_beside, begun_at, precedes, key_at_place, AreByKey, ArePlacesOf, IsFirstBetween, IsFirstPlace, IsSide};
+    ghost use Rattle.cs_types.specs.Rows.{cell_at, key_in};
 
     /// The number of rows.
     pub fn len(&self) -> usize
         ensures { result ≡ length self.now.rows }
     {
         self.length
+    }
+
+    /// The number of columns. Each row has a cell in each of them.
+    pub fn width(&self) -> usize
+        ensures value { result ≡ self.now.width }
+        ensures rows { All (λ row. length row.cells ≡ self.now.width) self.now.rows }
+    {
+        self.segments.len()
     }
 
     /// The begin of every row without a stamped one. After `pack_rows` it is the floor.
@@ -65,20 +76,30 @@ impl Packed {
         self.base
     }
 
-    /// The segment of a column: the one that `encode` gives for its cells.
+    /// The segment of a column: the one that `encode` gives for its cells. Its cell `i` is that of row `i`.
     pub fn segment(&self, column: usize) -> &Segment
         requires { column < self.now.width }
         ensures rows { result.now.length ≡ length self.now.rows }
         ensures cells { IsSegmentOf (column_of self.now.rows column) result.now.length result.now.body result.now.least result.now.greatest result.now.nulls }
+        ensures each { (i : ℕ) → i < length self.now.rows → cell_in result.now.body i ≡ cell_at (row_at self.now i).cells column }
     {
         self.segments.at(column)
     }
 
-    /// The position that stands at place `i` of the positions by key.
+    /// The positions by key: each of them once, those of one key in their own order.
+    pub fn places(&self) -> &[usize]
+        ensures value { result.now ≡ self.now.places }
+        ensures by_key { AreByKey self.now }
+    {
+        self.places.as_slice()
+    }
+
+    /// The position that stands at place `i` of the positions by key, as in `places`.
     pub fn place(&self, i: usize) -> usize
         requires { i < length self.now.places }
         ensures value { result ≡ slice_index self.now.places i }
         ensures within { result < length self.now.rows }
+        ensures by_key { AreByKey self.now }
     {
         *self.places.at(i)
     }
@@ -89,6 +110,21 @@ impl Packed {
         ensures { result ≡ begin_beside self.now.base (row_at self.now position).begin }
     {
         stamp_at(self.late.as_slice(), position)
+    }
+
+    /// The begin of the row at a position: its stamped one, or the base.
+    pub fn begin(&self, position: usize) -> u64
+        requires { position < length self.now.rows }
+        ensures { result ≡ (row_at self.now position).begin }
+    {
+        self.late(position).unwrap_or(self.base)
+    }
+
+    /// The stamped begins with their positions, which rise: exactly those begins that are not the base.
+    pub fn stamped(&self) -> &[(usize, u64)]
+        ensures { AreStamps (map (λ row. row.begin) self.now.rows) self.now.base result.now }
+    {
+        self.late.as_slice()
     }
 
     /// The row at a position, all its cells. `Memory` comes only where they find no room.
@@ -104,23 +140,54 @@ impl Packed {
         Ok(row)
     }
 
-    /// The places of a key among the positions by key, which hold the positions of all its rows.
+    /// The key of the row at a position.
+    pub fn key_at(&self, position: usize) -> Key
+        requires { position < length self.now.rows }
+        ensures { result ≡ key_in self.now.key (row_at self.now position).cells }
+    {
+        key_shown(self.segments.at(self.key).cell(position))
+    }
+
+    /// The places of a key among the positions by key, which hold the positions of all its rows. At once for a key below
+    /// the least or above the greatest; else by one binary search, and from there by steps that double.
     pub fn find(&self, key: Key) -> Places
         ensures { ArePlacesOf self.now key result.from result.to }
     {
-        Places {
-            from: self.first_place(key, false),
-            to: self.first_place(key, true),
+        let end = self.places.len();
+        match self.side_of(key) {
+            Ordering::Less => Places { from: 0, to: 0 },
+            Ordering::Equal => self.searched(key),
+            Ordering::Greater => Places { from: end, to: end },
         }
     }
 
-    /// The first place of a key that does not come before this one; where it may tie, of one that comes after it.
-    fn first_place(&self, key: Key, tied: bool) -> usize
-        ensures first { IsFirstPlace self.now key tied result }
-        ensures each { HasEachPosition self.now }
+    /// Where a key lies to those of the group, as the key's segment tells.
+    fn side_of(&self, key: Key) -> Ordering
+        ensures { IsSide self.now key result }
     {
-        let mut low = 0;
-        let mut high = self.places.len();
+        match bounds_of(self.segment(self.key)) {
+            Some(bounds) => side_to(key, bounds),
+            None => Ordering::Equal,
+        }
+    }
+
+    /// The places of a key.
+    fn searched(&self, key: Key) -> Places
+        ensures { ArePlacesOf self.now key result.from result.to }
+    {
+        let from = self.first_place(0, self.places.len(), key, false);
+        let to = self.place_past(from, key);
+        Places { from, to }
+    }
+
+    /// The first place, from one up to another, of a key that does not come before this one; where it may tie, of one
+    /// that comes after it.
+    fn first_place(&self, from: usize, to: usize, key: Key, tied: bool) -> usize
+        requires { IsFirstBetween self.now key tied from to }
+        ensures { IsFirstPlace self.now key tied result }
+    {
+        let mut low = from;
+        let mut high = to;
         while low < high {
             let middle = low + (high - low) / 2;
             if self.is_before(middle, key, tied) {
@@ -132,24 +199,36 @@ impl Packed {
         low
     }
 
-    /// Whether the key at a place comes before this one, or ties with it.
-    fn is_before(&self, place: usize, key: Key, tied: bool) -> bool
-        requires { place < length self.now.places }
-        ensures { result ≡ precedes tied (key_cmp (key_at_place self.now place) key) }
+    /// The first place of a key that comes after this one, whose first place is `from`.
+    fn place_past(&self, from: usize, key: Key) -> usize
+        requires { IsFirstPlace self.now key false from }
+        ensures { IsFirstPlace self.now key true result }
     {
-        match self.key_at(self.place(place)).cmp(&key) {
-            Ordering::Less => true,
-            Ordering::Equal => tied,
-            Ordering::Greater => false,
+        let end = self.places().len();
+        let mut low = from;
+        while !self.is_past(low + (low - from), key) {
+            low += low - from + 1;
         }
+        let high = end.min(low + (low - from));
+        self.first_place(low, high, key, true)
     }
 
-    /// The key of the row at a position.
-    fn key_at(&self, position: usize) -> Key
-        requires { position < length self.now.rows }
-        ensures { result ≡ key_in self.now.key (row_at self.now position).cells }
+    /// Whether a place is past the last, or its key comes after this one.
+    fn is_past(&self, place: usize, key: Key) -> bool
+        ensures after { OnTrue result ((i : ℕ) → place ≤ i → i < length self.now.places → precedes true (key_cmp (key_at_place self.now i) key) ≡ false) }
+        ensures before { OnFalse result ((i : ℕ) → i ≤ place → (i < length self.now.places) × (precedes true (key_cmp (key_at_place self.now i) key) ≡ true)) }
     {
-        key_shown(self.segments.at(self.key).cell(position))
+        place >= self.places.len() || !self.is_before(place, key, true)
+    }
+
+    /// Whether the key at a place comes before this one, or ties with it. Then so do those at all places up to it, and
+    /// else none from it on.
+    fn is_before(&self, place: usize, key: Key, tied: bool) -> bool
+        requires { place < length self.now.places }
+        ensures before { OnTrue result ((i : ℕ) → i ≤ place → precedes tied (key_cmp (key_at_place self.now i) key) ≡ true) }
+        ensures after { OnFalse result ((i : ℕ) → place ≤ i → i < length self.now.places → precedes tied (key_cmp (key_at_place self.now i) key) ≡ false) }
+    {
+        is_first(self.key_at(self.place(place)).cmp(&key), tied)
     }
 
     /// Makes `begin` the base, and so the begin of every row. No row has a stamped begin.
@@ -161,10 +240,49 @@ impl Packed {
     }
 }
 
-ghost use Rattle.std.specs.Prelude.{◌≡◌, ◌<◌, AllPairs, slice_get};
+ghost use Rattle.std.specs.Prelude.{◌≡◌, ◌<◌, ◌<ℤ◌, AllPairs, slice_get, false, IfSome};
+ghost use Rattle.std.specs.Ordering.{MatchOrdering};
+ghost use Rattle.cs_types.specs.declared.Value.TheVariants.{Number};
 ghost use Rattle.column_segment.specs.Cells.{seen};
-ghost use Rattle.row_group.specs.Groups.{key_of_cell};
+ghost use Rattle.row_group.specs.Groups.{key_of_cell, precedes};
 ghost use Rattle.row_group.specs.Fields.{stamp_in, stamp_of};
+
+/// The least and the greatest cell of a segment, where all are numbers.
+fn bounds_of(segment: &Segment) -> Option<(i64, i64)>
+    ensures { IfSome result (λ bounds. (segment.now.least ≡ Number bounds.0) × (segment.now.greatest ≡ Number bounds.1) × (segment.now.nulls ≡ false)) }
+{
+    if segment.has_null() {
+        return None;
+    }
+    match (segment.least(), segment.greatest()) {
+        (CellRef::Number(least), CellRef::Number(greatest)) => Some((least, greatest)),
+        _ => None,
+    }
+}
+
+/// Whether what stands so to another comes before it, or may tie and does.
+fn is_first(order: Ordering, tied: bool) -> bool
+    ensures { result ≡ precedes tied order }
+{
+    match order {
+        Ordering::Less => true,
+        Ordering::Equal => tied,
+        Ordering::Greater => false,
+    }
+}
+
+/// Where a key lies to two others: below the first, above the second, or anywhere.
+fn side_to(key: Key, bounds: (i64, i64)) -> Ordering
+    ensures { MatchOrdering result (key.0 <ℤ bounds.0) (Unit {0}) (bounds.1 <ℤ key.0) }
+{
+    if key.0 < bounds.0 {
+        Ordering::Less
+    } else if bounds.1 < key.0 {
+        Ordering::Greater
+    } else {
+        Ordering::Equal
+    }
+}
 
 /// The begin that stands at a position, if one does.
 fn stamp_at(late: &[(usize, u64)], position: usize) -> Option<u64>

@@ -137,8 +137,8 @@ fn check_row(
     assert_eq!(rt; row.cell(1), &cells.1.to_value(alloc)?, "at {position}");
     assert_eq!(rt; row.cell(2), &cells.2.to_value(alloc)?, "at {position}");
     assert_eq!(rt;
-        group.late(position).unwrap_or(group.base()),
-        begin,
+        (group.key_at(position), group.begin(position)),
+        (Key(cells.0), begin),
         "at {position}"
     );
     Ok(())
@@ -161,7 +161,7 @@ fn check(
         for (position, (cells, begin)) in wanted.iter().enumerate() {
             check_row(rt, alloc, group, position, *cells, *begin)?;
         }
-        assert_eq!(rt; group.places.as_slice(), by_key);
+        assert_eq!(rt; group.places(), by_key);
     } else {
         assert_eq!(rt; wanted.len(), 0);
     }
@@ -280,6 +280,8 @@ fn a_group_has_these_fields(rt: HostRuntime) -> Result<(), Fail> {
     check_segment(&rt, &group, 2, Encoding::DictPacked, 4);
     assert_eq!(rt; group.find(Key(3)), Places { from: 2, to: 3 });
     assert_eq!(rt; group.find(Key(5)), Places { from: 4, to: 4 });
+    assert_eq!(rt; group.find(Key(0)), Places { from: 0, to: 0 });
+    assert_eq!(rt; group.stamped().len(), 0);
     let Packed {
         segments,
         key,

@@ -1,6 +1,6 @@
 use Rattle.std.proofs.Common.{◌<◌, ◌++◌, ◌∷◌, [], ℕ, List, length, map, take, get_or, slice_index, sym, ◌∙◌, subst, arith}
 use Rattle.std.proofs.lemmas.List.{map_more, length-map, length-take-le}
-use Rattle.row_group.specs.Arranged.{AreStamps}
+use Rattle.row_group.specs.Fields.{AreStamps}
 use Rattle.row_group.proofs.StampLemmas.{stamps-push, stamps-skip}
 use Rattle.row_group.proofs.pack.stamps_of.Goals as goal
 use Rattle.row_group.proofs.pack.stamps_of.Goals.{then-begin-floor+in_ok-push, else-begin-floor}

@@ -1,5 +1,5 @@
 use Rattle.std.proofs.Common.{map, take, slice_index}
-use Rattle.row_group.specs.Arranged.{AreStamps}
+use Rattle.row_group.specs.Fields.{AreStamps}
 use Rattle.row_group.proofs.pack.stamps_of.Given as goal
 
 abbrev pub invariant-loop-position : goal.invariant-loop-position

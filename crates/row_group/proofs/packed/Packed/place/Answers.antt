@@ -1,7 +1,9 @@
 use Rattle.std.proofs.Common.{◌<◌, length, arith, subst}
 use Rattle.std.proofs.lemmas.List.{get_or_read}
-use Rattle.row_group.specs.Groups.{Group}
-use Rattle.row_group.proofs.GroupLemmas.{place-within}
+use Rattle.cs_types.specs.Keys.{key_cmp}
+use Rattle.row_group.specs.Orders.{IsOrderOf}
+use Rattle.row_group.specs.Groups.{Group, keys_of}
+use Rattle.row_group.proofs.GroupLemmas.{place-within, by_key}
 use Rattle.row_group.proofs.ShownLemmas.{group_of}
 use Rattle.row_group.proofs.packed.Packed.place.Goals as goal
 
@@ -13,3 +15,7 @@ returns-clause-within c =
     let within = place-within (group_of f.segments f.key f.length f.base f.late f.places) c.self.invariant.by_key c.args.i l in
     omega (arith, within, get_or_read f.places c.args.i c.at.result.now l c.at.ensures.item 0))
     c.requires
+
+pub returns-clause-by_key : goal.returns-clause-by_key
+returns-clause-by_key c =
+    by_key c.args.self.now (subst (λ (group : Group). IsOrderOf key_cmp (keys_of group.key group.rows) group.places) c.self.view_is c.self.invariant.by_key)

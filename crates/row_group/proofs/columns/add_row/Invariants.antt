@@ -1,6 +1,6 @@
 use Rattle.std.proofs.Common.{◌≡◌, ◌<◌, ◌≤◌, ◌++◌, ◌∷◌, ℕ, [], length, get_or}
 use Rattle.cs_types.specs.Rows.{cell_at}
-use Rattle.row_group.proofs.kept.add_cells.Given as goal
+use Rattle.row_group.proofs.columns.add_row.Given as goal
 
 abbrev pub invariant-loop-place : goal.invariant-loop-place
 invariant-loop-place l = record {
