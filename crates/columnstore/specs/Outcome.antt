@@ -1,12 +1,12 @@
 -- What the program does: for which words and input it ends with which status, and what it has written then.
-use Rattle.std.specs.Prelude.{◌≡◌, ◌⊎◌, ℕ, ◌<◌, ◌≤◌, List, [], ◌∷◌, ◌++◌, length, codes, decimal, Bool, true, false, bytes_eq, Option, ◌==◌, if◌then◌else◌}
+use Rattle.std.specs.Prelude.{◌≡◌, ℕ, ◌<◌, ◌≤◌, List, [], ◌∷◌, ◌++◌, length, codes, decimal, Bool, true, false, bytes_eq, Option, ◌==◌, if◌then◌else◌}
 use Rattle.cs_outside.specs.Outside.{IsAtEnd}
 use Rattle.cs_model.specs.declared.entry.Entry.{Entry}
-use Rattle.cs_model.specs.State.{Begin, begin_of}
+use Rattle.cs_model.specs.State.{begin_of}
 use Rattle.cs_model.specs.Text.{text}
 use Rattle.script_reader.specs.declared.script.Script.{Script}
 use Rattle.script_reader.specs.Scripts.{IsScript, IsBadLine}
-use Rattle.script_runner.specs.Logs.{IsLogOf, IsMadeOf}
+use Rattle.script_runner.specs.Logs.{IsLogOf}
 use Rattle.columnstore.specs.declared.status.Status.{Status}
 use Rattle.columnstore.specs.declared.status.Status.TheVariants as status
 
@@ -68,39 +68,15 @@ pub data Asks (words : Words) (came : List ℕ) (left : Option (List ℕ)) : Sta
 abbrev pub IsFront : List ℕ → List ℕ → Type 0
 IsFront added whole = (rest : List ℕ) × (whole ≡ added ++ rest)
 
--- of an input that was read to its end a script's steps were made, or the first of them
-pub record AreMade (bytes : List ℕ) (begin : Begin) (log : List Entry) : Type 0 where
-  pub script : Script
-  pub reads : IsScript bytes script
-  pub begins : begin ≡ begin_of script.schema
-  pub made : IsMadeOf script log
-
--- such steps were made, or none
-pub record HasMade (bytes : List ℕ) : Type 0 where
-  pub begin : Begin
-  pub log : List Entry
-  pub steps : (log ≡ []) ⊎ AreMade bytes begin log
-
--- no step was made, or, where the input was read to its end, the script's steps or the first of them
-abbrev pub AreSteps : List ℕ → Option (List ℕ) → Begin → List Entry → Type 0
-AreSteps came left begin log = (log ≡ []) ⊎ ((length came ≤ limit) × IsAtEnd left × AreMade came begin log)
-
--- memory gave out: what was added is a front of the text of the steps that were made
-pub record IsStopped (came : List ℕ) (left : Option (List ℕ)) (added : List ℕ) : Type 0 where
-  pub begin : Begin
-  pub log : List Entry
-  pub steps : AreSteps came left begin log
-  pub front : IsFront added (text begin log)
-
 -- what a status says of the bytes that were read and of those that were added to the output; that a fault has its cause
--- is said by the counts of the source and the sink
+-- is said by the counts of the source and the sink. Where memory gives out nothing was added, no part of a text
 abbrev pub Ends : Words → List ℕ → Option (List ℕ) → List ℕ → Status → Type 0
 Ends words came left added status.Done = Asks words came left status.Done added
 Ends words came left added status.Usage = Asks words came left status.Usage added
 Ends words came left added status.Script = Asks words came left status.Script added
 Ends words came left added status.ReadFault = (are_words words ≡ true) × (added ≡ [])
 Ends words came left added status.WriteFault = (s : Status) × (whole : List ℕ) × Asks words came left s whole × IsFront added whole
-Ends words came left added status.Memory = (are_words words ≡ true) × IsStopped came left added
+Ends words came left added status.Memory = (are_words words ≡ true) × (added ≡ [])
 
 -- the run was done, or memory or a stream gave out
 abbrev pub IsDoneOrStopped : Status → Type 0

@@ -1,12 +1,12 @@
 // What is to be written for an input.
-ghost use Rattle.std.specs.Prelude.{◌≡◌, ◌⊎◌, ◌++◌, List, [], IfOk, OnOk, OnErr};
+ghost use Rattle.std.specs.Prelude.{◌≡◌, ◌++◌, List, [], IfOk, OnOk};
 ghost use Rattle.cs_model.specs.declared.entry.Entry.{Entry};
 ghost use Rattle.cs_model.specs.State.{begin_of};
 ghost use Rattle.cs_model.specs.Text.{text};
 ghost use Rattle.script_reader.specs.declared.script.Script.{Script};
 ghost use Rattle.script_reader.specs.Scripts.{IsScript, IsRunnable};
 ghost use Rattle.script_runner.specs.Logs.{IsLogOf, IsMadeOf};
-ghost use Rattle.columnstore.specs.Outcome.{IsAnswered, HasMade, setup_error_text, bad_line_text};
+ghost use Rattle.columnstore.specs.Outcome.{IsAnswered, setup_error_text, bad_line_text};
 
 use crate::status::Status;
 use cs_base::Memory;
@@ -74,7 +74,6 @@ fn run(alloc: Global, runner: &mut Runner, script: &Script) -> Result<Line, Memo
 fn replay(alloc: Global, script: &Script) -> Result<Line, Memory>
     requires { IsRunnable script.now }
     ensures text { IfOk result (λ line. (log : List Entry) × IsLogOf script.now log × (line ≡ text (begin_of script.now.schema) log)) }
-    ensures made { OnErr result ((log : List Entry) × ((log ≡ []) ⊎ IsMadeOf script.now log)) }
 {
     let mut runner = runner_for(alloc, script)?;
     run(alloc, &mut runner, script)
@@ -86,8 +85,6 @@ pub fn answer(alloc: Global, bytes: &[u8]) -> Result<(Status, Line), Memory>
     ensures answered { IfOk result (λ a. IsAnswered bytes.now a.0 a.1) }
     // A script is run.
     ensures runs { (script : Script) → IsScript bytes.now script → IfOk result (λ a. a.0 ≡ Status.Done) }
-    // Where memory gave out, the steps of a script were made, or the first of them.
-    ensures made { OnErr result (HasMade bytes.now) }
 {
     match read_script(alloc, bytes) {
         Ok(script) => {

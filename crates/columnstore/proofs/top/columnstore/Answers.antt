@@ -4,7 +4,7 @@ use Rattle.columnstore.specs.declared.status.Status.TheVariants as status
 use Rattle.columnstore.specs.Outcome.{usage, too_long, answered}
 use Rattle.script_reader.specs.Scripts.{IsScript}
 use Rattle.columnstore.proofs.Complete.{came_short, all_came, finished}
-use Rattle.columnstore.proofs.Ending.{ending, none_taken, none_added, none_stopped, stopped}
+use Rattle.columnstore.proofs.Ending.{ending, none_taken, none_added}
 use Rattle.columnstore.proofs.top.columnstore.Goals as goal
 
 pub returns-then-not-is_replay-clause-ends : goal.returns-then-not-is_replay-clause-ends
@@ -48,8 +48,8 @@ returns-in-Ok-answer-clause-complete g c = λ bytes script told good small reads
 pub returns-in-Err-Memory-clause-ends : goal.returns-in-Err-Memory-clause-ends
 returns-in-Err-Memory-clause-ends g c =
     let came = c.in-Err-Memory.ensures.came in
-    (came.0, [], came.1, none_added (g.O.Sink.held c.args.output.now), (search (rules), none_stopped came.0 (g.I.Source.left c.read_all.new.source)))
+    (came.0, [], came.1, none_added (g.O.Sink.held c.args.output.now), (search (rules), refl))
 
 pub returns-clause-ends : goal.returns-clause-ends
 returns-clause-ends g c =
-    (c.in-Ok.bytes.items, [], c.in-Ok.ensures.ok, none_added (g.O.Sink.held c.args.output.now), (search (rules), stopped c.in-Ok.bytes.items (g.I.Source.left c.read_all.new.source) c.in-Ok.ensures.within c.in-Ok.ensures.end (rw c.as_slice.ensures.value at c.in-Err.ensures.made)))
+    (c.in-Ok.bytes.items, [], c.in-Ok.ensures.ok, none_added (g.O.Sink.held c.args.output.now), (search (rules), refl))
