@@ -1,0 +1,75 @@
+-- The book that a list of groups stands for.
+use Rattle.std.specs.Prelude.{◌≡◌, ℕ, List, [], map, All, Option, None, Some}
+use Rattle.cs_model.specs.declared.work.Actor.{Actor}
+use Rattle.group_book.specs.Book as book
+use Rattle.group_book.specs.Book.{Version, Content, Book}
+use Rattle.group_book.specs.Book.Content.{Opened, Closed, Compressed, Invisible, Tombstone}
+use Rattle.group_book.specs.Book.Choice.{Compress, Flush, Rebuild, Merge, Settle, Clear, Idle}
+use Rattle.group_book.specs.Turns.{entries_for}
+use Rattle.group_view.specs.declared.claim.Choice.{Choice}
+use Rattle.group_view.specs.declared.claim.Choice.TheVariants as made
+use Rattle.group_view.specs.declared.claim.Claim.{Claim}
+use Rattle.group_view.specs.declared.groups.ClosedStore.{ClosedStore}
+use Rattle.group_view.specs.declared.groups.ClosedStore.TheVariants.{Own, Shared}
+use Rattle.group_view.specs.declared.groups.GroupContent.{GroupContent}
+use Rattle.group_view.specs.declared.groups.GroupContent.TheVariants as kept
+use Rattle.group_view.specs.declared.groups.Group.{Group}
+use Rattle.group_view.specs.declared.groups.GroupList.{GroupList}
+use Rattle.group_view.specs.Parts.{Rowed, packed_versions, stored_versions}
+use Rattle.group_view.specs.Views.{endings_of, buffer_of, rowed_of}
+
+-- versions without their rows
+abbrev pub versions_of : List Rowed → List Version
+versions_of rowed = map (λ (version : Rowed). version.version) rowed
+
+abbrev pub rowed_in_closed : ClosedStore → List Rowed
+rowed_in_closed (Own store) = stored_versions store
+rowed_in_closed (Shared store) = stored_versions store.value
+
+-- the versions of a group, none of one that is being made or has gone
+abbrev pub rowed_in_content : GroupContent → List Rowed
+rowed_in_content (kept.Opened store) = stored_versions store.versions
+rowed_in_content (kept.Closed store) = rowed_in_closed store
+rowed_in_content (kept.Compressed packed marks) = let group = packed.value in packed_versions group.key group.rows marks.value
+rowed_in_content kept.Invisible = []
+rowed_in_content (kept.Tombstone total deleted) = []
+
+abbrev pub content_of : GroupContent → Content
+content_of (kept.Opened store) = Opened (versions_of (rowed_in_content (kept.Opened store)))
+content_of (kept.Closed store) = Closed (versions_of (rowed_in_content (kept.Closed store)))
+content_of (kept.Compressed packed marks) = Compressed (versions_of (rowed_in_content (kept.Compressed packed marks)))
+content_of kept.Invisible = Invisible
+content_of (kept.Tombstone total deleted) = Tombstone total deleted
+
+abbrev pub group_of : Group → book.Group
+group_of group = record { id = group.id; content = content_of group.content }
+
+abbrev pub choice_of : Choice → book.Choice
+choice_of (made.Compress source) = Compress source
+choice_of made.Flush = Flush
+choice_of (made.Rebuild source) = Rebuild source
+choice_of (made.Merge first second) = Merge first second
+choice_of made.Settle = Settle
+choice_of made.Clear = Clear
+choice_of made.Idle = Idle
+
+-- a claim as the book has it: its sources, their versions as they were lent, and the entries that end these
+abbrev pub claim_of : Actor × Claim → book.Claim
+claim_of held = record {
+  actor = held.0;
+  choice = choice_of held.1.choice;
+  sources = map (λ (group : ℕ × _). group.0) held.1.view.groups;
+  fresh = held.1.fresh;
+  floor = held.1.floor;
+  lent = versions_of (rowed_of held.1.view);
+  entries = entries_for (buffer_of held.1.view) (versions_of (rowed_of held.1.view));
+}
+
+-- the book: groups without rows
+abbrev pub book_of : GroupList → Book
+book_of list = record {
+  groups = map group_of list.groups.items;
+  buffer = endings_of list.buffer.entries;
+  claims = map claim_of list.claims.items;
+  next = list.next;
+}

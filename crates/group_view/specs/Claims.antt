@@ -1,0 +1,70 @@
+-- What the work of a claim gives.
+use Rattle.std.specs.Prelude.{◌≡◌, ℕ, ◌<◌, List, [], map, filter, length, not, nat_le, true, IsPermutation, Option, None, Some}
+use Rattle.std.specs.List.{AllZip}
+use Rattle.std.specs.declared.alloc.Global.{Global}
+use Rattle.std.specs.declared.sync.Arc.{Arc}
+use Rattle.cs_types.specs.declared.Schema.{Schema}
+use Rattle.delete_bitmap.specs.declared.Marks.{Marks}
+use Rattle.row_group.specs.declared.packed.Packed.{Packed}
+use Rattle.row_group.specs.Rows.{AreInOrder}
+use Rattle.group_book.specs.Book.{Version, Ending}
+use Rattle.group_book.specs.Book.Choice.{Flush}
+use Rattle.group_book.specs.Invariant.{makes_group}
+use Rattle.group_book.specs.Turns.{entries_for, is_gone, raised, flushed}
+use Rattle.group_view.specs.declared.claim.Claim.{Claim}
+use Rattle.group_view.specs.declared.claim.Product.{Product}
+use Rattle.group_view.specs.declared.claim.Product.TheVariants.{Group, Marked}
+use Rattle.group_view.specs.declared.parts.GroupPart.{GroupPart}
+use Rattle.group_view.specs.declared.parts.GroupPart.TheVariants as part
+use Rattle.group_view.specs.Parts.{Rowed, padded, packed_versions, rowed_in}
+use Rattle.group_view.specs.Views.{endings_of, buffer_of, rowed_of}
+use Rattle.group_view.specs.Books.{versions_of, choice_of}
+
+-- the version with its row in so many cells
+abbrev pub padded_rowed : ℕ → Rowed → Rowed
+padded_rowed width rowed = record rowed { row = padded width rowed.row }
+
+-- ---- the work of a claim
+
+-- the entries of the claim's buffer that end the versions that it lends
+abbrev pub lent_entries : Claim → List Ending
+lent_entries claim = entries_for (buffer_of claim.view) (versions_of (rowed_of claim.view))
+
+-- what the new group keeps of the lent versions: those that had not ended at the claim's floor, with begins of at least that
+abbrev pub kept_rowed : Claim → List Rowed
+kept_rowed claim = map (λ (rowed : Rowed). record rowed { version = raised claim.floor rowed.version })
+    (filter (λ (rowed : Rowed). not (is_gone claim.floor (lent_entries claim) rowed.version)) (rowed_of claim.view))
+
+-- the rows of a packed group with its bitmap
+abbrev pub rowed_of_packed : Packed → Marks → List Rowed
+rowed_of_packed group marks = packed_versions group.key group.rows marks
+
+-- a packed group of a table: its rows in the order that makes them small, its key the table's, and a bitmap of its length
+pub record IsPackedFor (schema : Schema) (group : Packed) (marks : Marks) : Type 0 where
+  pub order : AreInOrder (length schema.columns) group.rows
+  pub width : group.width ≡ length schema.columns
+  pub key : group.key ≡ schema.key
+  pub fitting : length marks ≡ length group.rows
+
+-- the new group has the kept versions, in the order of a packed group, with their rows; there is none where nothing is kept
+abbrev pub IsMadeOf : Claim → Option (Arc Packed Global × Arc Marks Global) → Type 0
+IsMadeOf claim None = kept_rowed claim ≡ []
+IsMadeOf claim (Some group) =
+    IsPermutation (map (padded_rowed (length claim.schema.value.columns)) (kept_rowed claim)) (rowed_of_packed group.0.value group.1.value)
+    × (0 < length (kept_rowed claim))
+    × IsPackedFor claim.schema.value group.0.value group.1.value
+
+-- the bitmap of a source with the ends of the entries that a flush writes
+abbrev pub IsMarkedOf : Claim → ℕ × GroupPart → ℕ × Arc Marks Global → Type 0
+IsMarkedOf claim (id, part.Packed group marks) marked =
+    (marked.0 ≡ id)
+    × (length marked.1.value ≡ length marks.value)
+    × (versions_of (rowed_of_packed group.value marked.1.value) ≡ map (flushed (buffer_of claim.view) (lent_entries claim)) (versions_of (rowed_of_packed group.value marks.value)))
+IsMarkedOf claim (id, part.Store store) marked = ⊥
+
+-- the product is what the work of the claim gives: the new group and the entries that go with left-out versions; or of a flush
+-- the bitmap of each source
+abbrev pub IsProductOf : Claim → Product → Type 0
+IsProductOf claim (Group group spent) =
+    (makes_group (choice_of claim.choice) ≡ true) × IsMadeOf claim group × (endings_of spent ≡ filter (λ (entry : Ending). nat_le entry.end claim.floor) (lent_entries claim))
+IsProductOf claim (Marked marks) = (choice_of claim.choice ≡ Flush) × AllZip (IsMarkedOf claim) claim.view.groups marks

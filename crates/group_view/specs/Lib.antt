@@ -1,0 +1,6 @@
+pub mod Parts
+pub mod Views
+pub mod Books
+pub mod Lists
+pub mod Claims
+pub mod Laws

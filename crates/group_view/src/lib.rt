@@ -1,0 +1,26 @@
+//! The row groups as one moment has them: what a snapshot sees in them, and which work a mover's turn would choose.
+//!
+//! Its one contract: a `GroupView` shows at a snapshot exactly the versions that the book of row groups makes visible, and
+//! `next_work` is the choice of the book that a `GroupList` stands for. A view shares packed groups, bitmaps and frozen stores,
+//! and never changes. It stands on the stores, on `row_group` and on the definitions of `group_book`. The forms follow Larson
+//! et al., PVLDB 2015, section 4.
+#![tactic(auto)]
+
+mod claim;
+mod groups;
+mod laws;
+mod lived;
+mod lookups;
+mod parts;
+mod rows;
+mod view;
+
+pub use claim::{Choice, Claim, Parcel, Product};
+pub use groups::{ClosedStore, Group, GroupContent, GroupList};
+pub use laws::{lookups_find_rows, shown_rows, shows_tables, stays_shown, taken_views};
+pub use lived::Lived;
+pub use parts::{GroupPart, GroupRef};
+pub use view::{GroupView, Pinned, Place};
+
+#[cfg(test)]
+mod tests;
