@@ -1,0 +1,242 @@
+-- The open transactions, as each event changes one of them.
+use Rattle.std.proofs.Common.{◌≡◌, ◌≢◌, ℕ, ◌<◌, ◌≤◌, ◌+◌, Bool, true, false, ◌||◌, cond, ltb, leb, List, [], ◌∷◌, ◌++◌, get_or, Any, Option, Some, None, is_some, refl, sym, ap, subst, ◌∙◌, arith}
+use Rattle.std.specs.Prelude.{◌==◌}
+use Rattle.std.specs.List.{All, AllByRecursion, Contains}
+use Rattle.std.specs.Option.{unwrap_or}
+use Rattle.std.proofs.lemmas.Bool.Decides.{nat_tests}
+use Rattle.std.proofs.lemmas.List.Elements.{All-nil, All-contains, All-contains_itself, recursion_from_All}
+use Rattle.cs_types.specs.declared.Key.{Key}
+use Rattle.cs_types.specs.Keys.{same_key}
+use Rattle.cs_model.specs.Changes.{Edit, Change, table, until, newest, made}
+use Rattle.cs_model.specs.Obstacles.{is_above, has_row}
+use Rattle.cs_model.specs.Steps.{numbered}
+use Rattle.cs_model.proofs.Tables.{row_is}
+use Rattle.change_list.specs.Edits.{edits_of}
+use Rattle.write_set.specs.declared.write.Write.{Write}
+use Rattle.write_set.specs.Writes.{put, staged}
+use Rattle.write_set.proofs.Puts.{All-put, all_tail}
+use Rattle.txn_table.specs.declared.txn.Txn.{Txn}
+use Rattle.txn_table.specs.Txns.{with, opened, deepened, fixed, widened, snapshot_of, own_of, Owns}
+use Rattle.group_book.specs.Commits.{is_in_table}
+use Rattle.group_book.specs.Stocks.{AreChanges, next_change}
+use Rattle.group_book.proofs.Keys.{key_is}
+use Rattle.group_book.proofs.Lists.{All-in}
+use Rattle.group_book.proofs.Changes.{last_at, later, last-append, last-later, last-some, last-ge, next-le, next-above, AreBelow}
+use Rattle.group_book.proofs.Visible.{ascending_of, below_of}
+use Rattle.group_book.proofs.Made.{is_written}
+use Rattle.group_directory.specs.Stands.{SayReplaced, AreTxns}
+use Rattle.group_directory.specs.Laws.{MayStage}
+use Rattle.group_directory.proofs.RowLaws.{none_made}
+use Rattle.group_directory.proofs.FloorLaws.{snapshot-deepened, snapshot-widened}
+
+-- ---- own writes
+
+own-deepened : (depth : ℕ) (o : Option Txn) → own_of (deepened depth o) ≡ own_of o
+own-deepened depth None = refl
+own-deepened depth (Some txn) = refl
+
+own-fixed : (clock : ℕ) (o : Option Txn) → own_of (fixed clock o) ≡ own_of o
+own-fixed clock None = refl
+own-fixed clock (Some txn) = refl
+
+snapshot-fixed_low : (clock : ℕ) (o : Option Txn) → ((s : ℕ) → snapshot_of o ≡ Some s → s ≤ clock) → (s : ℕ) → snapshot_of (fixed clock o) ≡ Some s → s ≤ clock
+snapshot-fixed_low clock None low s is = low s is
+snapshot-fixed_low clock (Some txn) low s is = at txn.snapshot low is
+  where
+    at : (o : Option ℕ) → ((n : ℕ) → o ≡ Some n → n ≤ clock) → Some (unwrap_or o clock) ≡ Some s → s ≤ clock
+    at None h e = let same : clock ≡ s = cc in omega (arith, same)
+    at (Some n) h e = h s e
+
+pub All-staged : (P : Write → Type 0) (own writes : List Write) → All P own → All P writes → All P (staged own writes)
+All-staged P own [] h more = h
+All-staged P own (w ∷ writes) h more = All-staged P (put own w) writes (All-put P own w (more 0 w (omega arith)) h) (all_tail P w writes more)
+
+-- where each write is of another key, the key is not among them
+not_any : (key : Key) (own : List Write) → All (λ (w : Write). w.key ≡ key → ⊥) own → Any (λ (w : Write). w.key ≡ key) own → ⊥
+not_any key own none (k, w, within, at, is) = All-contains (λ (v : Write). v.key ≡ key → ⊥) own w none (k, within, at) is
+
+not_owned : (o : Option Txn) (key : Key) → (Owns o key → ⊥) → All (λ (w : Write). w.key ≡ key → ⊥) (own_of o)
+not_owned o key not = All-in (Contains (own_of o)) (λ (w : Write). w.key ≡ key → ⊥) (own_of o) (λ w there _ is. not (there.0, w, there.1, there.2, is)) (All-contains_itself (own_of o))
+
+-- ---- one transaction is another
+
+module _ (txns : ℕ → Option Txn) (changes : List Change) (clock session : ℕ) (j : AreTxns txns changes clock) where
+  same_session : (s : ℕ) → (s == session) ≡ true → s ≡ session
+  same_session s is = grind (arith, nat_tests)
+
+  other_session : (s : ℕ) → (s == session) ≡ false → s ≢ session
+  other_session s is e = grind (arith, nat_tests)
+
+  pub one_changed : (o : Option Txn) → ((s : ℕ) → snapshot_of o ≡ Some s → s ≤ clock) → ((other : ℕ) (key : Key) → other ≢ session → Owns (txns other) key → Owns o key → ⊥) → SayReplaced changes clock o → AreTxns (with txns session o) changes clock
+  one_changed o low apart says = record {
+    snapshots = λ s n. snap_at s n (s == session);
+    owners = λ a b key ne. owner_at a b key ne (a == session) refl (b == session) refl;
+    replaced = λ s. says_at s (s == session);
+  }
+    where
+      snap_at : (s n : ℕ) (t : Bool) → snapshot_of (cond t o (txns s)) ≡ Some n → n ≤ clock
+      snap_at s n true is = low n is
+      snap_at s n false is = j.snapshots s n is
+
+      owner_at : (a b : ℕ) (key : Key) → a ≢ b → (t : Bool) → (a == session) ≡ t → (u : Bool) → (b == session) ≡ u → Owns (cond t o (txns a)) key → Owns (cond u o (txns b)) key → ⊥
+      owner_at a b key ne true is_a true is_b p q = ne (same_session a is_a ∙ sym (same_session b is_b))
+      owner_at a b key ne true is_a false is_b p q = apart b key (other_session b is_b) q p
+      owner_at a b key ne false is_a true is_b p q = apart a key (other_session a is_a) p q
+      owner_at a b key ne false is_a false is_b p q = j.owners a b key ne p q
+
+      says_at : (s : ℕ) (t : Bool) → SayReplaced changes clock (cond t o (txns s))
+      says_at s true = says
+      says_at s false = j.replaced s
+
+  -- with the same own writes
+  pub own_kept : (o : Option Txn) → own_of o ≡ own_of (txns session) → ((s : ℕ) → snapshot_of o ≡ Some s → s ≤ clock) → AreTxns (with txns session o) changes clock
+  own_kept o same low =
+      one_changed o low
+      (λ other key ne p q. j.owners other session key ne p (subst (Any (λ (w : Write). w.key ≡ key)) same q))
+      (subst (All (λ (w : Write). w.replaces ≡ is_in_table changes clock w.key)) (sym same) (j.replaced session))
+
+  pub none_own : (o : Option Txn) → own_of o ≡ [] → ((s : ℕ) → snapshot_of o ≡ Some s → s ≤ clock) → AreTxns (with txns session o) changes clock
+  none_own o empty low =
+      one_changed o low
+      (λ other key ne p q. nothing key (subst (Any (λ (w : Write). w.key ≡ key)) empty q))
+      (subst (All (λ (w : Write). w.replaces ≡ is_in_table changes clock w.key)) (sym empty) (All-nil (λ (w : Write). w.replaces ≡ is_in_table changes clock w.key)))
+    where
+      nothing : (key : Key) → Any (λ (w : Write). w.key ≡ key) [] → ⊥
+      nothing key (k, w, within, at, is) = absurd (omega (arith, within))
+
+  pub txns_opened : (number depth : ℕ) → AreTxns (with txns session (Some (opened number depth))) changes clock
+  txns_opened number depth = none_own (Some (opened number depth)) refl (λ s is. cc)
+
+  pub txns_deepened : (depth : ℕ) → AreTxns (with txns session (deepened depth (txns session))) changes clock
+  txns_deepened depth = own_kept (deepened depth (txns session)) (own-deepened depth (txns session)) (λ s is. j.snapshots session s (sym (snapshot-deepened depth (txns session)) ∙ is))
+
+  pub txns_fixed : AreTxns (with txns session (fixed clock (txns session))) changes clock
+  txns_fixed = own_kept (fixed clock (txns session)) (own-fixed clock (txns session)) (snapshot-fixed_low clock (txns session) (j.snapshots session))
+
+  pub txns_removed : AreTxns (with txns session None) changes clock
+  txns_removed = none_own None refl (λ s is. cc)
+
+-- ---- rows in the tables of snapshots
+
+-- where the newest change is not above the snapshot, none is next
+quiet_next : (cs : List Change) (clock : ℕ) → AreChanges cs clock → (key : Key) (s : ℕ) → s ≤ clock → is_above (newest key cs) (Some s) ≡ false → next_change cs key s ≡ None
+quiet_next cs clock a key s le quiet = step (next_change cs key s) refl (last_at cs key clock) refl
+  where
+    whole : (xs : List Change) → AreBelow clock xs → until clock xs ≡ xs
+    whole [] low = refl
+    whole (x ∷ xs) low =
+        let passes : leb x.commit clock ≡ true = let le = low.0 in grind (arith, nat_tests) in
+        ap (λ (t : Bool). cond t (x ∷ until clock xs) (until clock xs)) passes ∙ ap (λ (l : List Change). x ∷ l) (whole xs low.1)
+
+    last_is : last_at cs key clock ≡ newest key cs
+    last_is = ap (newest key) (whole cs (below_of cs clock a))
+
+    step : (n : Option ℕ) → next_change cs key s ≡ n → (o : Option Change) → last_at cs key clock ≡ o → n ≡ None
+    step None next o last = refl
+    step (Some e) next None last = absurd (last-some cs key s clock e next (next-le cs clock (below_of cs clock a) key s e next) last)
+    step (Some e) next (Some x) last =
+        let e_low = next-le cs clock (below_of cs clock a) key s e next in
+        let above = next-above cs key s e next in
+        let late = last-ge cs key s clock e x (ascending_of cs a.ascend) next e_low last in
+        let quiet_x : ltb s x.commit ≡ false = ap (λ (o : Option Change). is_above o (Some s)) (sym last ∙ last_is) ∙ quiet in
+        absurd (contrary x.commit e above late quiet_x)
+      where
+        contrary : (n e : ℕ) → s < e → e ≤ n → ltb s n ≡ false → ⊥
+        contrary n e lt le is = grind (arith, nat_tests)
+
+row_there : (cs : List Change) (s : ℕ) (key : Key) → has_row (table cs s) key ≡ is_in_table cs s key
+row_there cs s key = ap is_some (row_is cs s key)
+
+-- a key without a change above a snapshot has a row in its table exactly where it has one at the clock
+pub quiet_row : (cs : List Change) (clock : ℕ) → AreChanges cs clock → (key : Key) (s : ℕ) → s ≤ clock → is_above (newest key cs) (Some s) ≡ false → has_row (table cs s) key ≡ is_in_table cs clock key
+quiet_row cs clock a key s le quiet = row_there cs s key ∙ ap (λ (o : Option Change). is_some (made o)) (sym (last-later cs key s clock (quiet_next cs clock a key s le quiet) le))
+
+-- ---- writes are laid over the own ones
+
+abbrev SaysIt : List Change → ℕ → Write → Type 0
+SaysIt changes clock w = w.replaces ≡ is_in_table changes clock w.key
+
+own-widened : (writes : List Write) (o : Option Txn) (s : ℕ) → snapshot_of o ≡ Some s → own_of (widened writes o) ≡ staged (own_of o) writes
+own-widened writes None s is = cc
+own-widened writes (Some txn) s is = refl
+
+pub txns_staged : (txns : ℕ → Option Txn) (changes : List Change) (clock session s : ℕ) (writes : List Write) → AreChanges changes clock → AreTxns txns changes clock → MayStage txns changes session s writes
+    → AreTxns (with txns session (widened writes (txns session))) changes clock
+txns_staged txns changes clock session s writes a j may =
+    one_changed txns changes clock session j (widened writes (txns session))
+    (λ n is. j.snapshots session n (sym (snapshot-widened writes (txns session)) ∙ is))
+    apart
+    (subst (All (SaysIt changes clock)) (sym own) (All-staged (SaysIt changes clock) (own_of (txns session)) writes (j.replaced session) says))
+  where
+    own : own_of (widened writes (txns session)) ≡ staged (own_of (txns session)) writes
+    own = own-widened writes (txns session) s may.snapshot
+
+    low : s ≤ clock
+    low = j.snapshots session s may.snapshot
+
+    says : All (SaysIt changes clock) writes
+    says k d inside = may.replaces k d inside ∙ quiet_row changes clock a (get_or writes k d).key s low (may.quiet k d inside)
+
+    apart : (other : ℕ) (key : Key) → other ≢ session → Owns (txns other) key → Owns (widened writes (txns session)) key → ⊥
+    apart other key ne p q =
+        not_any key (staged (own_of (txns session)) writes)
+        (All-staged (λ (w : Write). w.key ≡ key → ⊥) (own_of (txns session)) writes
+        (not_owned (txns session) key (λ mine. j.owners other session key ne p mine))
+        (λ k d inside is. may.free k d inside other ne (subst (λ (q : Key). Owns (txns other) q) (sym is) p)))
+        (subst (Any (λ (w : Write). w.key ≡ key)) own q)
+
+-- ---- a commit
+
+unwritten : (own : List Write) (key : Key) → AllByRecursion (λ (w : Write). w.key ≡ key → ⊥) own → is_written (edits_of own) key ≡ false
+unwritten [] key none = refl
+unwritten (w ∷ own) key none = at (same_key key w.key) refl (unwritten own key none.1)
+  where
+    at : (t : Bool) → same_key key w.key ≡ t → is_written (edits_of own) key ≡ false → (t || is_written (edits_of own) key) ≡ false
+    at true is rest = absurd (none.0 (key_is key w.key is))
+    at false is rest = rest
+
+-- at the clock nothing is next
+none_next : (cs : List Change) (clock : ℕ) → AreBelow clock cs → (key : Key) → next_change cs key clock ≡ None
+none_next cs clock low key = step (next_change cs key clock) refl
+  where
+    step : (n : Option ℕ) → next_change cs key clock ≡ n → n ≡ None
+    step None is = refl
+    step (Some e) is = absurd (omega (arith, next-le cs clock low key clock e is, next-above cs key clock e is))
+
+-- a key that a commit does not write has a row after it exactly where it had one
+pub row_stays : (cs : List Change) (clock txn : ℕ) (own : List Edit) → AreBelow clock cs → (key : Key) → is_written own key ≡ false → is_in_table cs clock key ≡ is_in_table (cs ++ numbered (clock + 1) txn own) (clock + 1) key
+row_stays cs clock txn own low key none =
+    ap (λ (o : Option Change). is_some (made o))
+    (sym (last-append cs (numbered (clock + 1) txn own) key (clock + 1)
+    ∙ ap (λ (o : Option Change). later o (last_at cs key (clock + 1))) (none_made own clock txn key none)
+    ∙ last-later cs key clock (clock + 1) (none_next cs clock low key) (omega arith)))
+
+pub txns_committed : (txns : ℕ → Option Txn) (changes : List Change) (clock session number : ℕ) → AreChanges changes clock → AreTxns txns changes clock
+    → AreTxns (with txns session None) (changes ++ numbered (clock + 1) number (edits_of (own_of (txns session)))) (clock + 1)
+txns_committed txns changes clock session number a j = record {
+  snapshots = λ s n is. let le = left.snapshots s n is in omega (arith, le);
+  owners = left.owners;
+  replaced = λ s. at s (s == session) refl;
+}
+  where
+    left : AreTxns (with txns session None) changes clock
+    left = txns_removed txns changes clock session j
+
+    at : (s : ℕ) (t : Bool) → (s == session) ≡ t → SayReplaced (changes ++ numbered (clock + 1) number (edits_of (own_of (txns session)))) (clock + 1) (cond t None (txns s))
+    at s true e = All-nil (SaysIt (changes ++ numbered (clock + 1) number (edits_of (own_of (txns session)))) (clock + 1))
+    at s false e = All-in (SaysIt changes clock) (SaysIt (changes ++ numbered (clock + 1) number (edits_of (own_of (txns session)))) (clock + 1)) (own_of (txns s)) (λ w there is.
+        is ∙ row_stays changes clock number (edits_of (own_of (txns session))) (below_of changes clock a) w.key
+        (unwritten (own_of (txns session)) w.key (recursion_from_All (λ (v : Write). v.key ≡ w.key → ⊥) (own_of (txns session))
+        (not_owned (txns session) w.key (λ mine. j.owners s session w.key (other_session txns changes clock session j s e) (there.0, w, there.1, there.2, refl) mine)))))
+        (j.replaced s)
+
+-- ---- no transaction
+pub txns_none : (txns : ℕ → Option Txn) (changes : List Change) (clock : ℕ) → ((session : ℕ) → txns session ≡ None) → AreTxns txns changes clock
+txns_none txns changes clock none = record {
+  snapshots = λ s n is. absurd (cc (ap snapshot_of (none s)));
+  owners = λ a b key ne p q. nothing key (subst (λ (o : Option Txn). Owns o key) (none a) p);
+  replaced = λ s. subst (SayReplaced changes clock) (sym (none s)) (All-nil (λ (w : Write). w.replaces ≡ is_in_table changes clock w.key));
+}
+  where
+    nothing : (key : Key) → Owns None key → ⊥
+    nothing key (k, w, within, at, is) = absurd (omega (arith, within))

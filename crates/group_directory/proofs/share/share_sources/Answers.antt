@@ -1,0 +1,57 @@
+use Rattle.std.proofs.Common.{◌≡◌, ℕ, ◌<◌, ◌++◌, List, map, length, get_or, true, false, sym, ap, subst, ◌∙◌, arith}
+use Rattle.std.specs.List.{All}
+use Rattle.std.proofs.lemmas.List.{append-nil, get_or_default, set-get_or}
+use Rattle.std.proofs.lemmas.List.Elements.{All-set}
+use Rattle.group_view.specs.declared.parts.GroupPart.{GroupPart}
+use Rattle.group_view.specs.Parts.{IsFitting}
+use Rattle.group_directory.specs.Rows.{Seen, entry_of, part_entry, seen}
+use Rattle.group_directory.specs.Sharing.{picks}
+use Rattle.group_directory.proofs.Held.{Fits}
+use Rattle.group_directory.proofs.Mapped.{map-set_alike}
+use Rattle.group_directory.proofs.Shared.{next_picks, not_picked, picked_more, picked_shown}
+use Rattle.group_directory.proofs.share.share_sources.Goals.{then-is_next+in_ok-add_share, else-is_next}
+use Rattle.group_directory.proofs.share.share_sources.Goals as goal
+
+abbrev FitsPart : ℕ × GroupPart → Type 0
+FitsPart part = IsFitting part.1
+
+pub returns-in_err-add_share-clause-seen : goal.returns-in_err-add_share-clause-seen
+returns-in_err-add_share-clause-seen c =
+    map-set_alike seen c.loop-group.groups c.loop-group.group-index c.group-item.result c.add_share.new.group c.add_share.ensures.seen ∙ c.loop-group.invariant.alike
+
+pub loop-group-preserved : goal.loop-group-preserved
+loop-group-preserved c =
+    let sources = c.args.sources.now in
+    let all = map seen c.args.groups.now in
+    let gs = c.loop-group.groups in
+    let i = c.loop-group.group-index in
+    let g = get_or c.loop-group.groups c.loop-group.group-index c.group-item.result in
+    let parts = c.loop-group.parts in
+    let held = c.loop-group.invariant in
+    let inside : i < length gs = omega arith in
+    let here = get_or_default gs i c.group-item.result g inside in
+    let next = next_picks sources all gs i c.len.result g parts c.requires.named held.alike inside here held.parts c.len.ensures in
+    elim c.if-is_next.branch [
+      | then-is_next+in_ok-add_share w ↦
+          let picked : picks sources (seen g) ≡ true = sym next.0 ∙ sym c.is_next.ensures ∙ w.if-is_next.true in
+          record {
+            alike = ap (map seen) w.groups-is ∙ map-set_alike seen gs i c.group-item.result w.add_share.new.group w.in_ok-add_share.ensures.seen ∙ held.alike;
+            kept = subst (All Fits) (sym w.groups-is) (All-set Fits gs i w.add_share.new.group w.in_ok-add_share.ensures.kept held.kept);
+            parts =
+                ap (map part_entry) w.parts-is ∙ w.in_ok-add_share.ensures.parts
+                ∙ ap (λ (l : List Seen). map part_entry parts ++ map entry_of l) (picked_shown sources all i (seen g) c.requires.named next.1 next.2 picked)
+                ∙ picked_more (picks sources) all gs i g (map part_entry parts) held.alike inside here held.parts;
+            fitting = subst (All FitsPart) (sym w.parts-is) (w.in_ok-add_share.ensures.fitting held.fitting);
+          }
+      | else-is_next w ↦
+          let picked : picks sources (seen g) ≡ false = sym next.0 ∙ sym c.is_next.ensures ∙ w.if-is_next.false in
+          record {
+            alike = ap (map seen) (w.groups-is ∙ set-get_or gs i c.group-item.result) ∙ held.alike;
+            kept = subst (All Fits) (sym (w.groups-is ∙ set-get_or gs i c.group-item.result)) held.kept;
+            parts =
+                ap (map part_entry) w.parts-is ∙ sym (append-nil (map part_entry parts))
+                ∙ ap (λ (l : List Seen). map part_entry parts ++ map entry_of l) (sym (not_picked sources (seen g) picked))
+                ∙ picked_more (picks sources) all gs i g (map part_entry parts) held.alike inside here held.parts;
+            fitting = subst (All FitsPart) (sym w.parts-is) held.fitting;
+          }
+    ]

@@ -1,0 +1,160 @@
+-- What a commit makes of a list of groups, and the room that it takes first.
+use Rattle.std.specs.Prelude.{◌≡◌, ◌≤◌, ◌<◌, ◌+◌, ◌-◌, ◌^◌, ℕ, zero, suc, min, max, not, List, [], ◌∷◌, ◌++◌, map, filter, length, replicate, Option, None, Some, All, IsPermutation, vec_len, vec_capacity}
+use Rattle.std.specs.List.{AllZip}
+use Rattle.std.specs.declared.alloc.Global.{Global}
+use Rattle.std.specs.declared.sync.Arc.{Arc}
+use Rattle.cs_types.specs.declared.Key.{Key}
+use Rattle.cs_types.specs.declared.Value.{Value}
+use Rattle.cs_types.specs.Rows.{key_in}
+use Rattle.row_group.specs.declared.packed.Packed.{Packed}
+use Rattle.row_group.specs.Rows.{PackedRow}
+use Rattle.row_group.specs.Groups.{begun_at}
+use Rattle.delete_bitmap.specs.declared.Marks.{Marks}
+use Rattle.delta_store.specs.Versions.{Store, IsReady}
+use Rattle.group_book.specs.Book as book
+use Rattle.group_book.specs.Book.{Content, Book, opened}
+use Rattle.group_book.specs.Book.{Content as content}
+use Rattle.group_book.specs.Commits.{Sizes, has_live, direct_parts, with_version, after_ends, after_loads, after_rest}
+use Rattle.group_book.specs.Book.{Version}
+use Rattle.group_view.specs.declared.groups.GroupContent.{GroupContent}
+use Rattle.group_view.specs.declared.groups.GroupContent.TheVariants.{Opened, Closed, Compressed, Invisible, Tombstone}
+use Rattle.group_view.specs.declared.groups.Group.{Group}
+use Rattle.group_view.specs.declared.groups.GroupList.{GroupList}
+use Rattle.group_view.specs.declared.claim.Parcel.{Parcel}
+use Rattle.group_view.specs.Parts.{Rowed}
+use Rattle.group_view.specs.Books.{rowed_in_content, group_of}
+
+-- ---- rows
+
+-- what no end changes of a version: its key, its begin and its row
+pub record Origin : Type 0 where
+  pub key : Key
+  pub begin : ℕ
+  pub row : List Value
+
+abbrev pub origin_of : Rowed → Origin
+origin_of rowed = record { key = rowed.version.key; begin = rowed.version.begin; row = rowed.row }
+
+-- those of the versions of all groups
+abbrev pub origins : List Group → List Origin
+origins [] = []
+origins (group ∷ groups) = map origin_of (rowed_in_content group.content) ++ origins groups
+
+-- those that a commit of the number c makes of rows with their keys
+abbrev pub new_origin : ℕ → Key × List Value → Origin
+new_origin c entry = record { key = entry.0; begin = c; row = entry.1 }
+
+abbrev pub keys_in : List (Key × List Value) → List Key
+keys_in rows = map (λ (entry : Key × List Value). entry.0) rows
+
+-- ---- room
+
+-- the book with the version in the open store
+abbrev pub put_in : ℕ → Version → Book → Book
+put_in group_rows version whole = record whole { groups = map (λ (group : book.Group). record group { content = with_version group_rows version group.content }) whole.groups }
+
+-- how many more rows the content takes before it is closed: an open store at least one
+abbrev pub places_in : ℕ → Content → ℕ
+places_in group_rows (content.Opened versions) = max 1 (group_rows - length versions)
+places_in group_rows (content.Closed versions) = 0
+places_in group_rows (content.Compressed versions) = 0
+places_in group_rows content.Invisible = 0
+places_in group_rows (content.Tombstone versions ends) = 0
+
+abbrev pub places : ℕ → List book.Group → ℕ
+places group_rows [] = 0
+places group_rows (group ∷ groups) = places_in group_rows group.content + places group_rows groups
+
+-- how many stores are opened for so many rows, where an open store still takes `free` of them
+abbrev pub stores_opened : ℕ → ℕ → ℕ → ℕ
+stores_opened group_rows free zero = 0
+stores_opened group_rows zero (suc rows) = 1 + stores_opened group_rows (group_rows - 1) rows
+stores_opened group_rows (suc free) (suc rows) = stores_opened group_rows free rows
+
+-- the content is an open store that finds room for so many versions without memory
+abbrev pub HasRoomFor : ℕ → GroupContent → Type 0
+HasRoomFor rows (Opened store) = rows ≤ store.spare
+HasRoomFor rows (Closed store) = ⊥
+HasRoomFor rows (Compressed packed marks) = ⊥
+HasRoomFor rows Invisible = ⊥
+HasRoomFor rows (Tombstone total deleted) = ⊥
+
+-- an open store finds room for so many versions, or for as many as it takes
+abbrev pub IsRoomy : ℕ → ℕ → GroupContent → Type 0
+IsRoomy group_rows rows (Opened store) = min rows (max 1 (group_rows - length store.versions)) ≤ store.spare
+IsRoomy group_rows rows (Closed store) = Unit {0}
+IsRoomy group_rows rows (Compressed packed marks) = Unit {0}
+IsRoomy group_rows rows Invisible = Unit {0}
+IsRoomy group_rows rows (Tombstone total deleted) = Unit {0}
+
+-- so many rows go into the open store, and into stores of the pool, which become open one after the other, without memory, once
+-- so many direct groups stand there
+pub record HasRoom (group_rows rows loads : ℕ) (list : GroupList) (pool : List Store) : Type 0 where
+  pub opened : All (λ (group : Group). IsRoomy group_rows rows group.content) list.groups.items
+  pub stores : All (λ (store : Store). (store.versions ≡ []) × (min rows group_rows ≤ store.spare)) pool
+  pub enough : stores_opened group_rows (places group_rows (map group_of list.groups.items)) rows ≤ length pool
+  pub groups : vec_len list.groups + loads + stores_opened group_rows (places group_rows (map group_of list.groups.items)) rows ≤ vec_capacity list.groups
+  pub ids : list.next + loads + stores_opened group_rows (places group_rows (map group_of list.groups.items)) rows < 2 ^ 64
+
+-- where no store is open, one may be opened without memory
+abbrev pub IsReadyToOpen : GroupList → List Store → Option ℕ → Type 0
+IsReadyToOpen list pool None = (0 < length pool) × (vec_len list.groups < vec_capacity list.groups) × (list.next + 1 < 2 ^ 64)
+IsReadyToOpen list pool (Some at) = Unit {0}
+
+-- an open store may end its live versions of these keys
+abbrev pub IsReadyFor : List Key → GroupContent → Type 0
+IsReadyFor keys (Opened store) = All (IsReady store) keys
+IsReadyFor keys (Closed store) = Unit {0}
+IsReadyFor keys (Compressed packed marks) = Unit {0}
+IsReadyFor keys Invisible = Unit {0}
+IsReadyFor keys (Tombstone total deleted) = Unit {0}
+
+-- the keys without a live version
+abbrev pub not_live : List Version → List Key → List Key
+not_live versions keys = filter (λ key. not (has_live key versions)) keys
+
+-- ---- direct groups
+
+-- a direct group with its bitmap
+abbrev pub Load : Type 0
+Load = Arc Packed Global × Arc Marks Global
+
+-- the groups that the loads become, with ids from this one on
+abbrev pub loaded : ℕ → List Load → List Group
+loaded id [] = []
+loaded id (load ∷ loads) = record { id = id; content = Compressed load.0 load.1 } ∷ loaded (id + 1) loads
+
+-- no row has ended
+abbrev pub IsUnmarked : Load → Type 0
+IsUnmarked load = let packed = load.0.value in load.1.value ≡ replicate (length packed.rows) None
+
+-- the load is the group with this begin
+abbrev pub IsLoadOf : ℕ → Packed → Load → Type 0
+IsLoadOf c group load = (load.0.value ≡ record group { rows = map (begun_at c) group.rows; base = c }) × IsUnmarked load
+
+-- no row of the group has a begin beside its base
+abbrev pub HasOneBegin : Packed → Type 0
+HasOneBegin group = All (λ row. row.begin ≡ group.base) group.rows
+
+-- ---- the parcel of a commit
+
+abbrev pub packed_keys : Packed → List Key
+packed_keys group = map (λ (row : PackedRow). key_in group.key row.cells) group.rows
+
+abbrev pub packed_rows : List Packed → List (Key × List Value)
+packed_rows [] = []
+packed_rows (group ∷ groups) = map (λ (row : PackedRow). (key_in group.key row.cells, row.cells)) group.rows ++ packed_rows groups
+
+-- the parcel is of these keys: each part that loads directly is a group, with its keys in some order, and the rest follows by key
+pub record IsParcelOf (sizes : Sizes) (inserted : List Key) (parcel : Parcel) : Type 0 where
+  pub groups : AllZip (λ (part : List Key) (group : Packed). IsPermutation part (packed_keys group)) (direct_parts (length inserted) sizes inserted).0 parcel.groups
+  pub rest : keys_in parcel.rest ≡ (direct_parts (length inserted) sizes inserted).1
+
+-- the rows of a parcel with their keys
+abbrev pub parcel_rows : Parcel → List (Key × List Value)
+parcel_rows parcel = packed_rows parcel.groups ++ parcel.rest
+
+-- a commit of the number c with the rows of a parcel: its groups load directly, each with its rows in its own order
+abbrev pub after_parcel : ℕ → ℕ → List Key → Parcel → Book → Book
+after_parcel group_rows c replaced parcel whole =
+    after_rest group_rows c (keys_in parcel.rest) (after_loads c (map packed_keys parcel.groups) (after_ends replaced c whole))
