@@ -18,6 +18,7 @@ pub mod BufferLemmas
 pub mod LoadLemmas
 pub mod IdLemmas
 pub mod CommitLemmas
+pub mod CommitLaws
 pub mod CountLemmas
 pub mod ChangeLemmas
 pub mod WholeLemmas

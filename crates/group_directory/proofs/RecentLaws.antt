@@ -1,6 +1,7 @@
 -- The newest changes, as changes are committed and pruned.
-use Rattle.std.proofs.Common.{◌≡◌, ℕ, ◌<◌, ◌≤◌, ◌+◌, Bool, true, false, ◌||◌, cond, ltb, List, [], ◌∷◌, ◌++◌, fold, Option, Some, None, is_some, IfSome, refl, sym, ap, subst, ◌∙◌, arith}
-use Rattle.std.specs.List.{AllByRecursion}
+use Rattle.std.proofs.Common.{◌≡◌, ℕ, ◌<◌, ◌≤◌, ◌+◌, Bool, true, false, ◌||◌, cond, ltb, List, [], ◌∷◌, ◌++◌, fold, length, get_or, take, Option, Some, None, is_some, IfSome, refl, sym, ap, subst, ◌∙◌, arith}
+use Rattle.std.specs.List.{AllByRecursion, AllPairs}
+use Rattle.std.specs.declared.cmp.Ordering.TheVariants.{Less}
 use Rattle.std.specs.Option.{option_map, ForSome}
 use Rattle.std.specs.FinMap as finite
 use Rattle.std.proofs.lemmas.Bool.Decides.{nat_tests}
@@ -19,6 +20,7 @@ use Rattle.group_book.proofs.Visible.{below_of}
 use Rattle.group_book.proofs.Made.{is_written}
 use Rattle.group_directory.specs.Stands.{note_of, IsRecent}
 use Rattle.group_directory.specs.Laws.{noted_by}
+use Rattle.group_directory.proofs.EndLemmas.{apart_before}
 
 -- ---- what is noted
 
@@ -33,6 +35,14 @@ get-noted note noted (k ∷ keys) key =
     get-noted note (finite.insert noted k note) keys key
     ∙ ap (cond (is_one_of keys key) (Some note)) (finite.get-insert key_total noted k note key)
     ∙ noted_step (same_key key k) (is_one_of keys key) note (finite.get noted key)
+
+-- a key that is not noted yet has an older change
+pub still_older : (note : NewestChange) (noted now : Changes) (keys : List Key) (i : ℕ) (d : Key) → AllPairs (λ a b. key_cmp a b ≡ Less) keys → i < length keys → now ≡ noted_by note noted (take i keys)
+    → ((key : Key) → ForSome (finite.get noted key) (λ other. other.commit < note.commit)) → ForSome (finite.get now (get_or keys i d)) (λ other. other.commit < note.commit)
+still_older note noted now keys i d up there is older other found =
+    let key : Key = get_or keys i d in
+    older key other (
+    sym (ap (λ (m : Changes). finite.get m key) is ∙ get-noted note noted (take i keys) key ∙ ap (λ (t : Bool). cond t (Some note) (finite.get noted key)) (apart_before keys i d up there)) ∙ found)
 
 keys_written : (own : List Edit) (key : Key) → is_one_of (keys_of own) key ≡ is_written own key
 keys_written [] key = refl

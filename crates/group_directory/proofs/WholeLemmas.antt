@@ -1,5 +1,5 @@
 -- The steps of a commit in a row.
-use Rattle.std.proofs.Common.{◌≡◌, ℕ, ◌<◌, ◌≤◌, ◌+◌, ◌^◌, ◌↔◌, Bool, true, false, ◌&&◌, nat_lt, cond, List, [], ◌∷◌, ◌++◌, map, length, refl, sym, ap, subst, ◌∙◌, arith}
+use Rattle.std.proofs.Common.{◌≡◌, ℕ, ◌<◌, ◌≤◌, ◌+◌, ◌^◌, ◌↔◌, Bool, true, false, ◌&&◌, nat_lt, cond, List, [], ◌∷◌, ◌++◌, map, length, Result, Ok, Err, refl, sym, ap, subst, ◌∙◌, arith, IsErrAnd}
 use Rattle.std.specs.List.{All, AllByRecursion, AllZip, flat_map}
 use Rattle.std.specs.List.Sorted.{IsPermutation}
 use Rattle.std.proofs.lemmas.Bool.Decides.{nat_tests}
@@ -24,6 +24,8 @@ use Rattle.group_view.specs.Parts.{Rowed}
 use Rattle.group_view.specs.Views.{endings_of}
 use Rattle.group_view.specs.Books.{rowed_in_content, group_of, book_of}
 use Rattle.group_view.specs.Lists.{is_listed, listed, IsHeld}
+use Rattle.group_directory.specs.declared.committing.CommitRefusal.{CommitRefusal}
+use Rattle.group_directory.specs.declared.committing.CommitRefusal.TheVariants as refusal
 use Rattle.group_directory.specs.Committing.{Origin, origin_of, origins, new_origin, keys_in, Load, loaded, IsLoadOf, places, stores_opened, packed_keys, packed_rows, after_parcel, IsParcelOf}
 use Rattle.group_directory.proofs.PutLemmas.{origins-append}
 use Rattle.group_directory.proofs.LoadLemmas.{origins_loaded, book_with_loads, grown}
@@ -114,7 +116,7 @@ draws_is group_rows c replaced parcel list some held =
 
 -- ---- the parcel
 
-zip_keys : (parts : List (List Key)) (groups : List Packed) → AllZip (λ (part : List Key) (group : Packed). IsPermutation part (packed_keys group)) parts groups → AllZip IsPermutation parts (map packed_keys groups)
+pub zip_keys : (parts : List (List Key)) (groups : List Packed) → AllZip (λ (part : List Key) (group : Packed). IsPermutation part (packed_keys group)) parts groups → AllZip IsPermutation parts (map packed_keys groups)
 zip_keys [] [] all = tt
 zip_keys [] (group ∷ groups) all = absurd all
 zip_keys (part ∷ parts) [] all = absurd all
@@ -136,6 +138,15 @@ past_is group_rows c replaced parcel list some held loads stores rows past is lo
   where
     count : stores ≡ stores_opened group_rows (places group_rows (map group_of list.groups.items)) (length parcel.rest) → loads + stores ≡ length parcel.groups + stores_opened group_rows (places group_rows (map group_of list.groups.items)) (length parcel.rest)
     count h = omega (arith, h, loads_are)
+
+-- ---- refusals
+
+pub memory_not_full : {X : Type 0} (r : Result X CommitRefusal) → IsErrAnd r (λ e. e ≡ refusal.Memory) → r ≡ Err refusal.Full → ⊥
+memory_not_full (Ok x) is h = cc
+memory_not_full (Err e) is h = cc
+
+pub ok_not_full : {X : Type 0} (x : X) → (let r : Result X CommitRefusal = Ok x in r) ≡ Err refusal.Full → ⊥
+ok_not_full x h = cc
 
 -- what is not so where no id is past the last one
 pub neither : (A : Type 0) (draws : Bool) → (A → ⊥) → draws ≡ false → A ↔ (draws ≡ true)

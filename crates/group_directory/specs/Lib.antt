@@ -6,3 +6,4 @@ pub mod Committing
 pub mod Sharing
 pub mod Ledgers
 pub mod Events
+pub mod Calls

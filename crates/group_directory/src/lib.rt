@@ -10,6 +10,7 @@ mod commit_ends;
 mod commit_loads;
 mod commit_rest;
 mod commit_room;
+mod commits;
 mod committing;
 mod counts;
 mod directory;

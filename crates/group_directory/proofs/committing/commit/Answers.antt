@@ -1,4 +1,4 @@
-use Rattle.std.proofs.Common.{◌≡◌, ℕ, List, Vec, map, Result, Ok, Err, refl, sym, ap, subst, ◌∙◌, arith, vec_len, IsErrAnd, slice_index_or}
+use Rattle.std.proofs.Common.{ℕ, List, Vec, map, refl, sym, ap, subst, ◌∙◌, arith, vec_len, slice_index_or}
 use Rattle.std.specs.declared.alloc.Global.{Global}
 use Rattle.std.proofs.lemmas.List.Elements.{All-from_recursion}
 use Rattle.cs_model.specs.declared.work.Actor.{Actor}
@@ -8,20 +8,11 @@ use Rattle.group_book.specs.Commits.{has_live, after_ends, after_loads, after_re
 use Rattle.group_view.specs.declared.claim.Claim.{Claim}
 use Rattle.group_view.specs.declared.groups.Group.{Group}
 use Rattle.group_view.specs.Books.{group_of}
-use Rattle.group_directory.specs.declared.committing.CommitRefusal.{CommitRefusal}
-use Rattle.group_directory.specs.declared.committing.CommitRefusal.TheVariants as refusal
 use Rattle.group_directory.specs.Committing.{keys_in, packed_keys, IsUnmarked, HasRoom}
 use Rattle.group_directory.proofs.LoadLemmas.{unmarked_loaded}
 use Rattle.group_directory.proofs.CommitLemmas.{dead_commit, room_loaded}
-use Rattle.group_directory.proofs.WholeLemmas.{later_kept, origins_commit, book_loads, past_is, neither}
+use Rattle.group_directory.proofs.WholeLemmas.{later_kept, origins_commit, book_loads, past_is, neither, memory_not_full, ok_not_full}
 use Rattle.group_directory.proofs.committing.commit.Goals as goal
-
-memory_not_full : (r : Result (Unit {0}) CommitRefusal) → IsErrAnd r (λ e. e ≡ refusal.Memory) → r ≡ Err refusal.Full → ⊥
-memory_not_full (Ok x) is h = cc
-memory_not_full (Err e) is h = cc
-
-ok_not_full : (u : Unit {0}) → (let r : Result (Unit {0}) CommitRefusal = Ok u in r) ≡ Err refusal.Full → ⊥
-ok_not_full u h = cc
 
 pub returns-then-is_past-clause-full : goal.returns-then-is_past-clause-full
 returns-then-is_past-clause-full c =

@@ -1,0 +1,228 @@
+-- The commit of own writes: what it rests on, and what the directory stands for after it.
+use Rattle.std.proofs.Common.{◌≡◌, ℕ, zero, suc, ◌<◌, ◌≤◌, ◌+◌, Bool, true, false, cond, nat_le, List, Vec, [], ◌∷◌, ◌++◌, map, filter, length, get_or, take, drop, Option, Some, None, is_some, refl, sym, ap, subst, ◌∙◌, arith}
+use Rattle.std.specs.Prelude.{Result, Ok, Err, OnErr}
+use Rattle.std.specs.List.{All, AllByRecursion}
+use Rattle.std.specs.List.Sorted.{IsPermutation, IsStrictlySortedBy}
+use Rattle.std.specs.Option.{ForSome}
+use Rattle.std.specs.FinMap as finite
+use Rattle.std.specs.declared.alloc.Global.{Global}
+use Rattle.std.specs.declared.cmp.Ordering.TheVariants.{Less}
+use Rattle.std.proofs.lemmas.List.{append-nil, map-append}
+use Rattle.std.proofs.lemmas.List.Elements.{All-weaker, All-from_recursion, recursion_from_All, filter_more}
+use Rattle.std.proofs.lemmas.List.Kept.{AllPairs-cons, AllPairs-filter}
+use Rattle.std.proofs.lemmas.List.Sorted.{IsPermutation-map}
+use Rattle.cs_types.specs.declared.Key.{Key}
+use Rattle.cs_types.specs.declared.Value.{Value}
+use Rattle.cs_types.specs.Keys.{key_cmp}
+use Rattle.cs_model.specs.declared.work.Actor.{Actor}
+use Rattle.cs_model.specs.Changes.{Change}
+use Rattle.cs_model.specs.Obstacles.{keys_of}
+use Rattle.cs_model.specs.Steps.{numbered}
+use Rattle.change_list.specs.Edits.{edits_of}
+use Rattle.delete_buffer.specs.Entries.{Ascend}
+use Rattle.write_set.specs.declared.write.Write.{Write}
+use Rattle.write_set.specs.Writes as writes
+use Rattle.txn_table.specs.declared.txn.Txn.{Txn}
+use Rattle.txn_table.specs.Txns.{Table, txn_of, with, own_of}
+use Rattle.version_store.specs.Newest.{Newest, Changes}
+use Rattle.group_book.specs.Book.{Book, opened}
+use Rattle.group_book.specs.Commits.{Sizes, is_in_table, is_one_of, has_live, replaced_by, inserted_by, direct_parts, after_ends, after_loads, after_rest}
+use Rattle.group_book.specs.Invariant.{IsBookOf}
+use Rattle.group_view.specs.declared.claim.Claim.{Claim}
+use Rattle.group_view.specs.declared.claim.Parcel.{Parcel}
+use Rattle.group_view.specs.declared.groups.Group.{Group}
+use Rattle.group_view.specs.declared.groups.GroupList.{GroupList}
+use Rattle.group_view.specs.Books.{book_of}
+use Rattle.group_view.specs.Lists.{listed, IsHeld}
+use Rattle.group_view.specs.Laws.{IsRowOf}
+use Rattle.group_view.specs.Parts.{Rowed}
+use Rattle.group_directory.specs.declared.directory.Directory.{Directory}
+use Rattle.group_directory.specs.Rows.{rooted}
+use Rattle.group_directory.specs.Stands.{width_in, rows_in, listed_rows, IsLoanOf, IsRecent, Stands}
+use Rattle.group_directory.specs.Laws.{rooted_at, noted_by, sizes_of, MayBeList}
+use Rattle.group_directory.specs.Committing.{Origin, origin_of, origins, new_origin, keys_in, packed_keys, parcel_rows, after_parcel}
+use Rattle.group_directory.specs.Calls.{written_in, replaced_in, IsParcelFor}
+use Rattle.group_directory.proofs.KeyLaws.{keys_are, sorted_keys, replaced_are, inserted_are}
+use Rattle.group_directory.proofs.PutLemmas.{keys_up}
+use Rattle.group_directory.proofs.BookLaws.{buffer_low, live_replaced}
+use Rattle.group_directory.proofs.EventLaws.{book_committed}
+use Rattle.group_directory.proofs.GroupLaws.{committed_rows, committed_loans}
+use Rattle.group_directory.proofs.RecentLaws.{noted_low}
+use Rattle.group_directory.proofs.StandLaws.{stands_committed}
+use Rattle.group_directory.proofs.WholeLemmas.{origins_of_listed, zip_keys}
+
+-- ---- keys in order
+
+keys_rise : (keys : List Key) → IsStrictlySortedBy key_cmp keys → Ascend keys
+unfolding IsStrictlySortedBy
+keys_rise [] up = λ i j d less below. absurd (omega (arith, below))
+keys_rise (key ∷ keys) up = AllPairs-cons (λ (a b : Key). key_cmp a b ≡ Less) key keys (All-from_recursion (λ (other : Key). key_cmp key other ≡ Less) keys up.0) (keys_rise keys up.1)
+
+pub written_up : (own : List Write) → writes.Ascend own → Ascend (written_in own)
+written_up own up = subst (λ (keys : List Key). Ascend keys) (keys_are own) (keys_rise (keys_of (edits_of own)) (sorted_keys own up))
+
+some_up : (test : Write → Bool) (own : List Write) → writes.Ascend own → Ascend (written_in (filter test own))
+some_up test own up = written_up (filter test own) (AllPairs-filter (λ (a b : Write). key_cmp a.key b.key ≡ Less) test own up)
+
+pub replaced_up : (own : List Write) → writes.Ascend own → Ascend (replaced_in own)
+replaced_up own up = some_up (λ (write : Write). write.replaces) own up
+
+pub replaced_more : (own : List Write) (i : ℕ) (d : Write) → i < length own → replaced_in (take (i + 1) own) ≡ replaced_in (take i own) ++ replaced_in (get_or own i d ∷ [])
+replaced_more own i d there =
+    ap written_in (filter_more (λ (write : Write). write.replaces) own i d there)
+    ∙ map-append (λ (write : Write). write.key) (filter (λ (write : Write). write.replaces) (take i own)) (filter (λ (write : Write). write.replaces) (get_or own i d ∷ []))
+
+-- what holds of a list and of what is left of it holds of the rest of a parcel
+module _ (P : List Key → Type 0) (shorter : (key : Key) (keys : List Key) → P (key ∷ keys) → P keys) where
+  dropped : (n : ℕ) (keys : List Key) → P keys → P (drop n keys)
+  dropped zero keys all = all
+  dropped (suc n) [] all = all
+  dropped (suc n) (key ∷ keys) all = dropped n keys (shorter key keys all)
+
+  rest_step : (t : Bool) (more : List (List Key)) (rest keys : List Key) → P rest → P keys → P (let both : List (List Key) × List Key = cond t (more, rest) ([], keys) in both.1)
+  rest_step true more rest keys all whole = all
+  rest_step false more rest keys all whole = whole
+
+  rest_of : (n : ℕ) (sizes : Sizes) (keys : List Key) → P keys → P (direct_parts n sizes keys).1
+  rest_of zero sizes keys all = all
+  rest_of (suc n) sizes keys all =
+      rest_step (nat_le sizes.direct_rows (length keys)) (take sizes.group_rows keys ∷ (direct_parts n sizes (drop sizes.group_rows keys)).0) (direct_parts n sizes (drop sizes.group_rows keys)).1 keys
+      (rest_of n sizes (drop sizes.group_rows keys) (dropped sizes.group_rows keys all)) all
+
+-- ---- rows
+
+abbrev root_of : Origin → Key × ℕ × List Value
+root_of origin = (origin.key, origin.begin, origin.row)
+
+roots_are : (rows : List Rowed) → map root_of (map origin_of rows) ≡ map rooted rows
+roots_are [] = refl
+roots_are (row ∷ rows) = ap (λ (more : List (Key × ℕ × List Value)). rooted row ∷ more) (roots_are rows)
+
+roots_new : (c : ℕ) (news : List (Key × List Value)) → map root_of (map (new_origin c) news) ≡ map (rooted_at c) news
+roots_new c [] = refl
+roots_new c (new ∷ news) = ap (λ (more : List (Key × ℕ × List Value)). rooted_at c new ∷ more) (roots_new c news)
+
+roots_in : (groups : List Group) → map root_of (origins groups) ≡ map rooted (rows_in (listed groups))
+roots_in groups = ap (map root_of) (origins_of_listed groups) ∙ roots_are (rows_in (listed groups))
+
+roots_moved : (c : ℕ) (old new : List Group) (news : List (Key × List Value)) → IsPermutation (origins old ++ map (new_origin c) news) (origins new)
+    → IsPermutation (map rooted (rows_in (listed old)) ++ map (rooted_at c) news) (map rooted (rows_in (listed new)))
+roots_moved c old new news moved =
+    subst (λ (roots : List (Key × ℕ × List Value)). IsPermutation roots (map rooted (rows_in (listed new)))) before
+    (subst (λ (roots : List (Key × ℕ × List Value)). IsPermutation (map root_of (origins old ++ map (new_origin c) news)) roots) (roots_in new)
+    (IsPermutation-map root_of (origins old ++ map (new_origin c) news) (origins new) moved))
+  where
+    before : map root_of (origins old ++ map (new_origin c) news) ≡ map rooted (rows_in (listed old)) ++ map (rooted_at c) news
+    before =
+        map-append root_of (origins old) (map (new_origin c) news)
+        ∙ ap (λ (roots : List (Key × ℕ × List Value)). roots ++ map root_of (map (new_origin c) news)) (roots_in old)
+        ∙ ap (λ (roots : List (Key × ℕ × List Value)). map rooted (rows_in (listed old)) ++ roots) (roots_new c news)
+
+-- ---- what a commit rests on
+
+module _ (directory : Directory) (cs : List Change) (j : Stands directory cs) where
+  pub room_one : 1 ≤ directory.sizes.group_rows
+  room_one = let sizes = j.sizes in let least = sizes.least_group in omega (arith, least)
+
+  pub entries_later : All (λ (entry : Key × ℕ). entry.1 < directory.clock + 1) directory.list.buffer.entries
+  entries_later =
+      All-weaker (λ (entry : Key × ℕ). entry.1 ≤ directory.clock) (λ (entry : Key × ℕ). entry.1 < directory.clock + 1) (λ entry low. omega (arith, low)) directory.list.buffer.entries (buffer_low directory cs j)
+
+  pub notes_older : (key : Key) → ForSome (finite.get directory.recent.changes key) (λ other. other.commit < directory.clock + 1)
+  notes_older key other is = let low = noted_low directory.pruned directory.recent.changes cs j.recent directory.clock j.numbered key other is in omega (arith, low)
+
+  module _ (session : ℕ) (own : List Write) (own_is : own_of (txn_of directory.txns session) ≡ own) (up : writes.Ascend own) (parcel : Parcel) (is_for : IsParcelFor directory (own_of (txn_of directory.txns session)) parcel) where
+    given : IsParcelFor directory own parcel
+    given = subst (λ (o : List Write). IsParcelFor directory o parcel) own_is is_for
+
+    abbrev Says : Write → Type 0
+    Says write = write.replaces ≡ is_in_table cs directory.clock write.key
+
+    replaced_is : replaced_by cs directory.clock (edits_of own) ≡ replaced_in own
+    replaced_is = replaced_are cs directory.clock own (recursion_from_All Says own (subst (λ (o : List Write). All Says o) own_is (j.txns.replaced session)))
+
+    pub rest_up : Ascend (keys_in parcel.rest)
+    rest_up =
+        subst (λ (keys : List Key). Ascend keys) (sym given.parts.rest)
+        (rest_of (λ (keys : List Key). Ascend keys) keys_up (length (inserted_by (edits_of own))) (sizes_of directory) (inserted_by (edits_of own))
+        (subst (λ (keys : List Key). Ascend keys) (sym (inserted_are own)) (some_up (λ (write : Write). is_some write.row) own up)))
+
+    abbrev IsReplaced : List Key → Key → Type 0
+    IsReplaced replaced key = let whole = book_of directory.list in has_live key (opened whole.groups) ≡ true → is_one_of replaced key ≡ true
+
+    pub rest_live : All (IsReplaced (replaced_in own)) (keys_in parcel.rest)
+    rest_live =
+        let inserted = subst (λ (keys : List Key). All (IsReplaced keys) (inserted_by (edits_of own))) replaced_is (live_replaced directory cs j (edits_of own)) in
+        All-from_recursion (IsReplaced (replaced_in own)) (keys_in parcel.rest)
+        (subst (λ (keys : List Key). AllByRecursion (IsReplaced (replaced_in own)) keys) (sym given.parts.rest)
+        (rest_of (λ (keys : List Key). AllByRecursion (IsReplaced (replaced_in own)) keys) (λ key keys all. all.1) (length (inserted_by (edits_of own))) (sizes_of directory) (inserted_by (edits_of own))
+        (recursion_from_All (IsReplaced (replaced_in own)) (inserted_by (edits_of own)) inserted)))
+
+    -- ---- what it leaves
+
+    module _ (number : ℕ) (list : GroupList) where
+      abbrev g : ℕ
+      g = directory.sizes.group_rows
+
+      abbrev c : ℕ
+      c = directory.clock + 1
+
+      abbrev now : List Write → List Change
+      now o = cs ++ numbered c number (edits_of o)
+
+      done_book : book_of list ≡ after_parcel g c (replaced_in own) parcel (book_of directory.list) → IsBookOf g (book_of list) (now own) j.floor
+      done_book book_is =
+          let parts : List (List Key) × List Key = direct_parts (length (inserted_by (edits_of own))) (sizes_of directory) (inserted_by (edits_of own)) in
+          subst (λ (whole : Book). IsBookOf g whole (now own) j.floor) (sym book_is)
+          (subst (λ (keys : List Key). IsBookOf g (after_rest g c keys (after_loads c (map packed_keys parcel.groups) (after_ends (replaced_in own) c (book_of directory.list)))) (now own) j.floor) (sym given.parts.rest)
+          (subst (λ (keys : List Key). IsBookOf g (after_rest g c parts.1 (after_loads c (map packed_keys parcel.groups) (after_ends keys c (book_of directory.list)))) (now own) j.floor) replaced_is
+          (book_committed directory cs j number (edits_of own) (map packed_keys parcel.groups) (sorted_keys own up) (zip_keys parts.0 parcel.groups given.parts.groups))))
+
+      pub stands_done : (txns : Table) (recent : Newest) → IsHeld list → list.claims ≡ directory.list.claims → book_of list ≡ after_parcel g c (replaced_in own) parcel (book_of directory.list)
+          → IsPermutation (origins directory.list.groups.items ++ map (new_origin c) (parcel_rows parcel)) (origins list.groups.items) → txn_of txns ≡ with (txn_of directory.txns) session None
+          → recent.changes ≡ noted_by (record { commit = c; txn = number }) directory.recent.changes (written_in own)
+          → Stands (record directory { list = list; txns = txns; recent = recent; clock = directory.clock + 1 }) (now own)
+      stands_done txns recent held claims book_is moved gone noted =
+          let rows = committed_rows directory cs j number (edits_of own) (listed_rows list) (parcel_rows parcel) (sorted_keys own up) given.given (roots_moved c directory.list.groups.items list.groups.items (parcel_rows parcel) moved) in
+          let loans = subst (λ (all : List (Actor × Claim)). All (IsLoanOf directory.schema.value (now own)) all) (sym (ap (λ (some : Vec (Actor × Claim) Global). some.items) claims)) (committed_loans directory cs j number (edits_of own)) in
+          let may : MayBeList directory list (now own) = record { held = held; rows = rows; loans = loans } in
+          let keys : written_in own ≡ keys_of (edits_of (own_of (txn_of directory.txns session))) = sym (ap (λ (o : List Write). keys_of (edits_of o)) own_is ∙ keys_are own) in
+          subst (λ (o : List Write). Stands (record directory { list = list; txns = txns; recent = recent; clock = directory.clock + 1 }) (now o)) own_is
+          (stands_committed directory cs j txns session number list recent
+          (subst (λ (o : List Write). MayBeList directory list (now o)) (sym own_is) may)
+          (subst (λ (o : List Write). IsBookOf g (book_of list) (now o) j.floor) (sym own_is) (done_book book_is))
+          gone (noted ∙ ap (λ (all : List Key). noted_by (record { commit = c; txn = number }) directory.recent.changes all) keys))
+
+  -- ---- where nothing has changed but room
+
+  pub stands_kept : (list : GroupList) (recent : Newest) → IsHeld list → list.claims ≡ directory.list.claims → book_of list ≡ book_of directory.list → listed list.groups.items ≡ listed directory.list.groups.items
+      → recent.changes ≡ directory.recent.changes → Stands (record directory { list = list; recent = recent }) cs
+  stands_kept list recent held claims book_is rows noted = record {
+    sizes = j.sizes;
+    held = held;
+    numbered = j.numbered;
+    floor = j.floor;
+    is_floor = j.is_floor;
+    book = subst (λ (whole : Book). IsBookOf directory.sizes.group_rows whole cs j.floor) (sym book_is) j.book;
+    rows = subst (λ (groups : List (ℕ × List Rowed)). All (IsRowOf (width_in directory) cs) (rows_in groups)) (sym rows) j.rows;
+    loans = subst (λ (all : List (Actor × Claim)). All (IsLoanOf directory.schema.value cs) all) (sym (ap (λ (some : Vec (Actor × Claim) Global). some.items) claims)) j.loans;
+    recent = subst (λ (noted : Changes). IsRecent directory.pruned noted cs) (sym noted) j.recent;
+    pruned = j.pruned;
+    txns = j.txns;
+  }
+
+-- ---- nothing to commit
+
+pub stands_none : (directory : Directory) (cs : List Change) (c number : ℕ) (own : List Write) → own ≡ [] → Stands directory cs → Stands directory (cs ++ numbered c number (edits_of own))
+stands_none directory cs c number own none j = subst (λ (o : List Write). Stands directory (cs ++ numbered c number (edits_of o))) (sym none) (subst (Stands directory) (sym (append-nil cs)) j)
+
+-- one transaction under two names
+pub retold : (directory : Directory) (cs : List Change) (c : ℕ) (own : List Write) (code txn : Txn) → own ≡ code.own → (let here : Option Txn = Some code in here) ≡ Some txn → Stands directory (cs ++ numbered c code.number (edits_of own))
+    → Stands directory (cs ++ numbered c txn.number (edits_of txn.own))
+retold directory cs c own code txn own_is same j =
+    let one : code ≡ txn = cc in
+    subst (λ (t : Txn). Stands directory (cs ++ numbered c t.number (edits_of t.own))) one (subst (λ (o : List Write). Stands directory (cs ++ numbered c code.number (edits_of o))) own_is j)
+
+pub on_err : {X Y : Type 0} (P : Type 0) (result : Result X Y) → P → OnErr result P
+on_err P (Ok x) holds = tt
+on_err P (Err e) holds = holds

@@ -1,0 +1,6 @@
+use Rattle.std.proofs.Common.{◌≡◌, take}
+use Rattle.group_directory.specs.Calls.{written_in}
+use Rattle.group_directory.proofs.commits.written_keys.Given as goal
+
+abbrev pub invariant-loop-write : goal.invariant-loop-write
+invariant-loop-write l = l.keys.items ≡ written_in (take l.write-index l.writes)

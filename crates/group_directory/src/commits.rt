@@ -1,0 +1,177 @@
+// The commit of a session's own writes.
+ghost use Rattle.std.specs.Prelude.{◌≡◌, ◌≢◌, ◌≤◌, ◌<◌, ◌+◌, ◌^◌, ◌++◌, ◌↔◌, ℕ, List, [], ◌∷◌, map, length, All, IsPermutation, Option, None, Some, IsSome, IfOk, OnOk, OnErr, Err, true, unwrap_or};
+ghost use Rattle.std.specs.FinMap as finite;
+ghost use Rattle.std.specs.Option.{ForSome};
+ghost use Rattle.cs_model.specs.Changes.{Change};
+ghost use Rattle.cs_model.specs.Steps.{numbered};
+ghost use Rattle.change_list.specs.Edits.{edits_of};
+ghost use Rattle.delete_buffer.specs.Entries as buffer;
+ghost use Rattle.write_set.specs.Writes.{Ascend};
+ghost use Rattle.txn_table.specs.declared.txn.Txn.{Txn};
+ghost use Rattle.txn_table.specs.Txns.{txn_of, with, own_of, IsSession};
+ghost use Rattle.group_book.specs.Book.{opened};
+ghost use Rattle.group_book.specs.Commits.{is_one_of, has_live, draws_past};
+ghost use Rattle.group_view.specs.Books.{book_of};
+ghost use Rattle.group_view.specs.Lists.{listed, IsHeld};
+ghost use Rattle.group_directory.specs.declared.committing.CommitRefusal.TheVariants as refusal;
+ghost use Rattle.group_directory.specs.Stands.{Stands};
+ghost use Rattle.group_directory.specs.Laws.{noted_by};
+ghost use Rattle.group_directory.specs.Committing.{origins, new_origin, keys_in, HasOneBegin, parcel_rows, after_parcel};
+ghost use Rattle.group_directory.specs.Calls.{written_in, replaced_in, commit_number, IsParcelFor, IsAsBefore};
+
+use crate::commit_room::{is_past, stores_needed};
+use crate::committing::{CommitRefusal, commit};
+use crate::directory::Directory;
+use cs_base::Memory;
+use cs_types::Key;
+use group_view::{GroupList, Parcel};
+use std::alloc::Global;
+use version_store::{NewestChange, Recent};
+use write_set::Write;
+
+/// The keys of writes, in their order.
+fn written_keys(alloc: Global, writes: &[Write]) -> Result<Vec<Key>, Memory>
+    ensures { IfOk result (λ keys. keys.items ≡ written_in writes.now) }
+{
+    let mut keys = Vec::with_capacity(alloc, writes.len())?;
+    for write in writes {
+        keys.push(write.key)?;
+    }
+    Ok(keys)
+}
+
+/// Adds the key of a write that replaces or deletes a row.
+fn add_replaced(keys: &mut Vec<Key>, write: &Write) -> Result<(), Memory>
+    ensures { OnOk result (keys.new.items ≡ keys.old.items ++ replaced_in (write.now ∷ [])) }
+{
+    if write.replaces {
+        keys.push(write.key)?;
+    }
+    Ok(())
+}
+
+/// The keys of writes that replace or delete rows, in their order.
+fn replaced_keys(alloc: Global, writes: &[Write]) -> Result<Vec<Key>, Memory>
+    ensures { IfOk result (λ keys. keys.items ≡ replaced_in writes.now) }
+{
+    let mut keys = Vec::with_capacity(alloc, writes.len())?;
+    for write in writes {
+        add_replaced(&mut keys, write)?;
+    }
+    Ok(keys)
+}
+
+/// Notes the change as the newest one of each of the keys. It takes no memory.
+fn note_all(recent: &mut Recent, keys: &[Key], change: NewestChange)
+    requires ascending { buffer.Ascend keys.now }
+    requires room { length keys.now ≤ recent.old.spare }
+    requires older { (key : Key) → ForSome (finite.get recent.old.changes key) (λ other. other.commit < change.commit) }
+    ensures { recent.new.changes ≡ noted_by change recent.old.changes keys.now }
+{
+    for key in keys {
+        recent.note(*key, change);
+    }
+}
+
+/// Whether a commit of the parcel would draw a group id above 2^62.
+fn is_full(list: &GroupList, group_rows: u64, parcel: &Parcel) -> bool
+    requires rows { 1 ≤ group_rows }
+    requires held { IsHeld list.now }
+    ensures { (c : ℕ) (replaced : List Key) → result ≡ draws_past (book_of list.now) (after_parcel group_rows c replaced parcel.now (book_of list.now)) }
+{
+    let stores = stores_needed(list, group_rows, parcel.rest.len());
+    is_past(list.next, parcel.groups.len(), stores)
+}
+
+/// Commits own writes with the number of the change: to the groups, and to what is noted of their keys. After a refusal
+/// nothing has changed.
+fn commit_own(
+    alloc: Global,
+    list: &mut GroupList,
+    recent: &mut Recent,
+    group_rows: u64,
+    own: &[Write],
+    parcel: Parcel,
+    change: NewestChange,
+) -> Result<(), CommitRefusal>
+    requires rows { 1 ≤ group_rows }
+    requires held { IsHeld list.old }
+    requires written { buffer.Ascend (written_in own.now) }
+    requires replaced { buffer.Ascend (replaced_in own.now) }
+    requires later { All (λ entry. entry.1 < change.commit) list.old.buffer.entries }
+    requires rest { buffer.Ascend (keys_in parcel.rest) }
+    requires live { All (λ key. has_live key (opened (book_of list.old).groups) ≡ true → is_one_of (replaced_in own.now) key ≡ true) (keys_in parcel.rest) }
+    requires begun { All HasOneBegin parcel.groups }
+    requires older { (key : Key) → ForSome (finite.get recent.old.changes key) (λ other. other.commit < change.commit) }
+    ensures book { OnOk result (book_of list.new ≡ after_parcel group_rows change.commit (replaced_in own.now) parcel (book_of list.old)) }
+    ensures held { IsHeld list.new }
+    ensures claims { list.new.claims ≡ list.old.claims }
+    ensures origins { OnOk result (IsPermutation (origins list.old.groups.items ++ map (new_origin change.commit) (parcel_rows parcel)) (origins list.new.groups.items)) }
+    ensures noted { OnOk result (recent.new.changes ≡ noted_by change recent.old.changes (written_in own.now)) }
+    ensures full { (result ≡ Err refusal.Full) ↔ (draws_past (book_of list.old) (after_parcel group_rows change.commit (replaced_in own.now) parcel (book_of list.old)) ≡ true) }
+    ensures same { OnErr result (book_of list.new ≡ book_of list.old) }
+    ensures listed { OnErr result (listed list.new.groups.items ≡ listed list.old.groups.items) }
+    ensures kept { OnErr result (recent.new.changes ≡ recent.old.changes) }
+{
+    if is_full(list, group_rows, &parcel) {
+        return Err(CommitRefusal::Full);
+    }
+    let keys = written_keys(alloc, own)?;
+    let replaced = replaced_keys(alloc, own)?;
+    recent.reserve(keys.len())?;
+    commit(alloc, list, group_rows, &replaced, parcel, change.commit)?;
+    note_all(recent, &keys, change);
+    Ok(())
+}
+
+impl Directory {
+    /// Commits the own writes of a session's transaction, with a parcel of the rows that they insert, and ends the
+    /// transaction (Larson et al., PVLDB 2015, section 4). The answer is the number of the commit, the clock and one more, or
+    /// none where nothing was written, which changes nothing else.
+    ///
+    /// `Full` comes exactly where there are own writes and a group id above 2^62 would be drawn, and `Memory` where memory is
+    /// wanting. Then nothing has changed.
+    pub fn commit(&mut self, session: u32, parcel: Parcel) -> Result<Option<u64>, CommitRefusal>
+        requires session { IsSession session }
+        requires open { IsSome (txn_of self.old.txns session) }
+        requires clock { self.old.clock + 1 < 2 ^ 64 }
+        requires stands { (changes : List Change) × Stands self.old changes }
+        requires parcel { IsParcelFor self.old (own_of (txn_of self.old.txns session)) parcel }
+        ensures number { IfOk result (λ number. number ≡ commit_number self.old.clock (own_of (txn_of self.old.txns session))) }
+        ensures none { OnOk result (own_of (txn_of self.old.txns session) ≡ [] → self.new ≡ record self.old { txns = self.new.txns }) }
+        ensures clock { IfOk result (λ number. self.new.clock ≡ unwrap_or number self.old.clock) }
+        ensures txns { OnOk result (txn_of self.new.txns ≡ with (txn_of self.old.txns) session None) }
+        ensures next { self.new.txns.next ≡ self.old.txns.next }
+        ensures claims { self.new.list.claims ≡ self.old.list.claims }
+        ensures rest { self.new ≡ record self.old { list = self.new.list; txns = self.new.txns; recent = self.new.recent; clock = self.new.clock } }
+        ensures book { IfOk result (λ number. (c : ℕ) → number ≡ Some c → book_of self.new.list ≡ after_parcel self.old.sizes.group_rows c (replaced_in (own_of (txn_of self.old.txns session))) parcel (book_of self.old.list)) }
+        ensures stands { (changes : List Change) (txn : Txn) → Stands self.old changes → txn_of self.old.txns session ≡ Some txn → OnOk result (Stands self.new (changes ++ numbered (self.old.clock + 1) txn.number (edits_of txn.own))) }
+        ensures full { (result ≡ Err refusal.Full) ↔ ((own_of (txn_of self.old.txns session) ≢ []) × (draws_past (book_of self.old.list) (after_parcel self.old.sizes.group_rows (self.old.clock + 1) (replaced_in (own_of (txn_of self.old.txns session))) parcel (book_of self.old.list)) ≡ true)) }
+        ensures same { OnErr result (IsAsBefore self.old self.new) }
+        ensures refused { (changes : List Change) → Stands self.old changes → OnErr result (Stands self.new changes) }
+    {
+        let Some(txn) = self.txns.get(session) else {
+            unreachable!()
+        };
+        if txn.own.is_empty() {
+            self.txns.remove(session);
+            return Ok(None);
+        }
+        let change = NewestChange {
+            commit: self.clock + 1,
+            txn: txn.number,
+        };
+        commit_own(
+            self.alloc,
+            &mut self.list,
+            &mut self.recent,
+            self.sizes.group_rows,
+            txn.own.as_slice(),
+            parcel,
+            change,
+        )?;
+        self.txns.remove(session);
+        self.clock = change.commit;
+        Ok(Some(change.commit))
+    }
+}
