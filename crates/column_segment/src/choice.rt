@@ -1,7 +1,7 @@
 ghost use Rattle.std.specs.Prelude.{◌≡◌, ◌+◌, ◌<◌, ◌≤◌, ℕ, All, map, length, min, IfOk, IsTrue, None, Some, ◌⊎◌, slice_get};
 ghost use Rattle.bit_pack.specs.Codes.{packed};
 ghost use Rattle.segment_value.specs.Scales.{IsScaling};
-ghost use Rattle.cs_types.specs.Kinds.{keeps};
+ghost use Rattle.cs_types.specs.Kinds.{is_of_type};
 ghost use Rattle.std.specs.Bool.{OnTrue, OnFalse};
 ghost use Rattle.column_segment.specs.Cells.{number_of, HasText, HasNoText, HasNoNumber};
 ghost use Rattle.column_segment.specs.Layouts.{IsLeastWidth};
@@ -215,7 +215,7 @@ fn text_segment(alloc: Global, cells: &[Value]) -> Result<Segment, Memory>
 
 /// Whether a cell of a column is a text. In a column of texts all may be NULL.
 fn holds_text(kind: ColumnType, cells: &[Value]) -> bool
-    requires { All (λ cell. IsTrue (keeps kind cell)) cells.now }
+    requires { All (λ cell. IsTrue (is_of_type kind cell)) cells.now }
     ensures text { OnTrue result (HasText cells.now) }
     ensures no_number { OnTrue result (HasNoNumber cells.now) }
     ensures none { OnFalse result (HasNoText cells.now) }
@@ -230,7 +230,7 @@ fn holds_text(kind: ColumnType, cells: &[Value]) -> bool
 /// fewest words; of equal ones the first of value packed, value in runs, dictionary packed, dictionary in runs.
 pub fn encode(alloc: Global, kind: ColumnType, cells: &[Value]) -> Result<Segment, Memory>
     requires some { 0 < length cells.now }
-    requires of_type { All (λ cell. IsTrue (keeps kind cell)) cells.now }
+    requires of_type { All (λ cell. IsTrue (is_of_type kind cell)) cells.now }
     ensures segment { IfOk result (λ segment. IsSegmentOf cells.now segment.length segment.body segment.least segment.greatest segment.nulls) }
     ensures cells { IfOk result (λ segment. (i : ℕ) → i < length cells.now → slice_get cells.now i ≡ Some (cell_in segment.body i)) }
 {

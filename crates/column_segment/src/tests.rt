@@ -1,6 +1,6 @@
 ghost use Rattle.std.specs.Prelude.{◌≡◌, All, IsTrue};
 ghost use Rattle.std.specs.Bool.{OnTrue};
-ghost use Rattle.cs_types.specs.Kinds.{IsColumnType, keeps};
+ghost use Rattle.cs_types.specs.Kinds.{IsColumnType, is_of_type};
 
 use crate::{Batch, CellRef, Segment, SegmentBody, encode};
 use cs_base::{Items, Memory};
@@ -25,13 +25,27 @@ fn cells_of(alloc: Global, runs: &[(usize, CellRef<'_>)]) -> Result<Vec<Value>, 
     Ok(cells)
 }
 
+/// Whether a cell is one of the type.
+fn is_of_type(kind: ColumnType, cell: &Value) -> bool
+    requires { IsColumnType kind }
+    ensures { result ≡ is_of_type kind cell.now }
+{
+    match cell {
+        Value::Text(text) => match kind {
+            ColumnType::VarChar { n } => text.len() <= n as usize,
+            _ => false,
+        },
+        _ => kind.keeps(cell),
+    }
+}
+
 /// Whether a column of the type may have the cells.
 fn are_kept(kind: ColumnType, cells: &[Value]) -> bool
     requires { IsColumnType kind }
-    ensures { OnTrue result (All (λ cell. IsTrue (keeps kind cell)) cells.now) }
+    ensures { OnTrue result (All (λ cell. IsTrue (is_of_type kind cell)) cells.now) }
 {
     for cell in cells {
-        if !kind.keeps(cell) {
+        if !is_of_type(kind, cell) {
             return false;
         }
     }

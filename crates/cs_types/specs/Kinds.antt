@@ -69,6 +69,12 @@ keeps kind Null = true
 keeps kind (Number z) = keeps_number kind z
 keeps kind (Text t) = keeps_text kind t
 
+-- a value of a type, whatever bytes a text has: a number in its range, a text that is short enough
+abbrev pub is_of_type : ColumnType → Value → Bool
+is_of_type kind Null = true
+is_of_type kind (Number z) = keeps_number kind z
+is_of_type kind (Text t) = is_short kind t
+
 -- a loose value has no byte that a text may not have
 abbrev pub has_text_bytes : Loose → Bool
 has_text_bytes loose.Null = true

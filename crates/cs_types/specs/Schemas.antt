@@ -7,7 +7,7 @@ use Rattle.cs_types.specs.declared.Column.{Column}
 use Rattle.cs_types.specs.declared.Schema.{Schema}
 use Rattle.cs_types.specs.declared.Value.{Value}
 use Rattle.cs_types.specs.declared.Value.TheVariants.{Null, Number, Text}
-use Rattle.cs_types.specs.Kinds.{IsColumnType, keeps_number, keeps_text}
+use Rattle.cs_types.specs.Kinds.{IsColumnType, keeps_number, is_short}
 use Rattle.cs_types.specs.Rows.{cell_at}
 
 -- the types of keys: the integers and dates
@@ -30,11 +30,11 @@ pub record IsSchema (schema : Schema) : Type 0 where
   pub key_kind : (column : Column) → slice_get schema.columns schema.key ≡ Some column → IsTrue (is_key_kind column.kind)
   pub key_never_null : (column : Column) → slice_get schema.columns schema.key ≡ Some column → column.nullable ≡ false
 
--- a value may stand in a column
+-- a value may stand in a column, whatever bytes a text has
 abbrev pub may_hold : Column → Value → Bool
 may_hold column Null = column.nullable
 may_hold column (Number z) = keeps_number column.kind z
-may_hold column (Text t) = keeps_text column.kind t
+may_hold column (Text t) = is_short column.kind t
 
 -- a row fits a schema: no cell lies past the columns, and each column may hold its cell, NULL past the row's end
 pub record IsRowOf (schema : Schema) (cells : List Value) : Type 0 where

@@ -70,7 +70,7 @@ lowest_is P test Q (g ∷ gs) all none some = step (test g) refl (lowest_is P te
     step true is rest = some g all.0 is
     step false is rest = rest
 
-first_pair_is : (P : Group → Type 0) (floor group_rows : ℕ) (Q : Option (ℕ × ℕ) → Type 0) (gs : List Group) → AreById gs → AllByRecursion P gs → Q None
+pub first_pair_is : (P : Group → Type 0) (floor group_rows : ℕ) (Q : Option (ℕ × ℕ) → Type 0) (gs : List Group) → AreById gs → AllByRecursion P gs → Q None
     → ((a b : Group) → P a → P b → a.id < b.id → fit_together floor group_rows a b ≡ true → Q (Some (a.id, b.id))) → Q (first_pair floor group_rows gs)
 first_pair_is P floor group_rows Q [] up all none some = none
 first_pair_is P floor group_rows Q (g ∷ gs) up all none some =

@@ -12,7 +12,7 @@ use Rattle.cs_types.specs.declared.ColumnType.{ColumnType}
 use Rattle.cs_types.specs.declared.Key.{Key}
 use Rattle.cs_types.specs.declared.Value.{Value}
 use Rattle.cs_types.specs.declared.Value.TheVariants.{Null, Number, Text}
-use Rattle.cs_types.specs.Kinds.{keeps}
+use Rattle.cs_types.specs.Kinds.{is_of_type}
 use Rattle.cs_types.specs.Rows.{cell_at, key_in, IsNumber}
 use Rattle.cs_types.specs.Values.{value_cmp}
 use Rattle.column_segment.specs.declared.segment.Segment.{Segment}
@@ -55,13 +55,13 @@ segments-more done cells order segments segment are one = (
 )
 
 -- cells that are moved are kept as they were
-pub kept-moved : (kind : ColumnType) (cells : List Value) (order : List ℕ) → All (λ cell. IsTrue (keeps kind cell)) cells → All (λ cell. IsTrue (keeps kind cell)) (map (cell_at cells) order)
-kept-moved kind cells order all = All-map (λ cell. IsTrue (keeps kind cell)) (cell_at cells) order (λ k d l. go (get_or order k d))
+pub kept-moved : (kind : ColumnType) (cells : List Value) (order : List ℕ) → All (λ cell. IsTrue (is_of_type kind cell)) cells → All (λ cell. IsTrue (is_of_type kind cell)) (map (cell_at cells) order)
+kept-moved kind cells order all = All-map (λ cell. IsTrue (is_of_type kind cell)) (cell_at cells) order (λ k d l. go (get_or order k d))
   where
-    go : (i : ℕ) → IsTrue (keeps kind (cell_at cells i))
-    go i = subst (λ cell. IsTrue (keeps kind cell)) (sym (cell_at-get_or cells i)) (elim (cases_lt i (length cells)) [
+    go : (i : ℕ) → IsTrue (is_of_type kind (cell_at cells i))
+    go i = subst (λ cell. IsTrue (is_of_type kind cell)) (sym (cell_at-get_or cells i)) (elim (cases_lt i (length cells)) [
       | inl l ↦ all i Null l
-      | inr n ↦ subst (λ cell. IsTrue (keeps kind cell)) (sym (get_or_past cells i Null n)) refl
+      | inr n ↦ subst (λ cell. IsTrue (is_of_type kind cell)) (sym (get_or_past cells i Null n)) refl
     ])
 
 -- a segment's cells are those that it is of

@@ -12,7 +12,7 @@ use Rattle.cs_types.specs.declared.Column.{Column}
 use Rattle.cs_types.specs.declared.Schema.{Schema}
 use Rattle.cs_types.specs.declared.Value.{Value}
 use Rattle.cs_types.specs.declared.Value.TheVariants.{Null, Number, Text}
-use Rattle.cs_types.specs.Kinds.{keeps}
+use Rattle.cs_types.specs.Kinds.{is_of_type}
 use Rattle.cs_types.specs.Rows.{cell_at, IsNumber}
 use Rattle.cs_types.specs.Schemas.{may_hold, IsSchema, IsRowOf}
 use Rattle.cs_types.specs.Values.{value_cmp}
@@ -27,7 +27,7 @@ use Rattle.row_group.proofs.ColumnLemmas.{row_of-source, map-within, rows-raised
 use Rattle.row_group.proofs.ShownLemmas.{cell_at-get_or, map-map}
 use Rattle.row_group.proofs.OrderLemmas.{range-apart, range-within, length-range}
 
-held-kept : (column : Column) (v : Value) → IsTrue (may_hold column v) → IsTrue (keeps column.kind v)
+held-kept : (column : Column) (v : Value) → IsTrue (may_hold column v) → IsTrue (is_of_type column.kind v)
 held-kept column Null held = refl
 held-kept column (Number z) held = held
 held-kept column (Text t) held = held
@@ -57,7 +57,7 @@ module _ (schema : Schema) (columns : List (List Value)) (begins : List ℕ) (ev
       let there : c < length columns = omega (arith, slice_get_within schema.columns c column found, wide) in
       let cells = get_or columns c [] in
       let m : k < length begins = omega (arith, l, length-column c there) in
-      subst (λ (cell : Value). IsTrue (keeps column.kind cell))
+      subst (λ (cell : Value). IsTrue (is_of_type column.kind cell))
       (cell_of-source columns begins k c ∙ cell_at-get_or cells k ∙ get_or_default cells k Null d l)
       (held-kept column (cell_at (source_row columns begins k).cells c) ((fitted fit k m).held c column found))
 

@@ -1,7 +1,7 @@
 ghost use Rattle.std.specs.Prelude.{◌≡◌, ◌≢◌, ◌<◌, [], All, AllPairs, length, map, slice_index, slice_index_or, IfOk};
 ghost use Rattle.std.specs.Bool.{OnTrue};
 ghost use Rattle.cs_types.specs.declared.Column.{Column};
-ghost use Rattle.cs_types.specs.Kinds.{keeps};
+ghost use Rattle.cs_types.specs.Kinds.{is_of_type};
 ghost use Rattle.row_group.specs.Fields.{AreStamps};
 ghost use Rattle.row_group.specs.Arranged.{AreSegmentsOf, KeepColumns, AreKeyCodes, AreNumbers, IsArranged};
 

@@ -65,7 +65,11 @@ fn holds(column: &Column, value: &Value) -> bool
 {
     match value {
         Value::Null => column.nullable,
-        _ => column.kind.keeps(value),
+        Value::Number(_) => column.kind.keeps(value),
+        Value::Text(text) => match column.kind {
+            ColumnType::VarChar { n } => text.len() <= n as usize,
+            _ => false,
+        },
     }
 }
 

@@ -2,8 +2,8 @@
 //! its snapshot was taken.
 //!
 //! Its one contract: a `Recent` is a finite map from keys to their newest changes, and each call changes exactly the key
-//! that it names, but for a prune, which drops the changes that no open snapshot can precede. It stands on `cs_base` and `cs_types`. By the manual pages on SNAPSHOT isolation a write of a row that
-//! was changed after the snapshot is refused.
+//! that it names, but for a prune, which drops the changes that no open snapshot can precede. It stands on `cs_base` and
+//! `cs_types`. By the manual pages on SNAPSHOT isolation a write of a row that was changed after the snapshot is refused.
 #![tactic(auto)]
 
 use cs_base::Memory;

@@ -3,7 +3,7 @@ use Rattle.std.specs.List.{All}
 use Rattle.std.specs.Vec.Iter.{into_iter_items}
 use Rattle.std.proofs.lemmas.List.{append-nil, append_assoc, get_or_at, nil_from_length}
 use Rattle.cs_types.specs.declared.Value.{Value}
-use Rattle.cs_types.specs.Kinds.{keeps}
+use Rattle.cs_types.specs.Kinds.{is_of_type}
 use Rattle.column_segment.specs.declared.segment.Segment.{Segment}
 use Rattle.row_group.specs.Arranged.{IsColumnSegment, AreSegmentsOf}
 use Rattle.row_group.proofs.FieldLemmas.{segments-more, kept-moved}
@@ -16,8 +16,8 @@ encode-requires-clause-of_type c =
     let rest = ap (λ items. c.loop-cells.yielded ++ items) (sym c.in-Some.ensures.steps.0) ∙ c.loop-cells.invariant.rest in
     let place : length c.loop-cells.yielded ≡ c.len.result = sym (c.len.ensures ∙ c.loop-cells.invariant.made.0) in
     let here = ap (λ columns. get_or columns c.len.result []) (sym rest) ∙ get_or_at c.loop-cells.yielded cells (into_iter_items c.next.new.self) [] c.len.result place in
-    let all = subst (λ (column : List Value). All (λ cell. IsTrue (keeps kind cell)) column) here (c.requires.kept c.len.result c.at.result.now c.at.ensures.value) in
-    subst (λ (column : List Value). All (λ cell. IsTrue (keeps kind cell)) column) (sym (c.deref.ensures.value ∙ c.in_ok-cells.ensures)) (kept-moved kind cells c.args.order.now all)
+    let all = subst (λ (column : List Value). All (λ cell. IsTrue (is_of_type kind cell)) column) here (c.requires.kept c.len.result c.at.result.now c.at.ensures.value) in
+    subst (λ (column : List Value). All (λ cell. IsTrue (is_of_type kind cell)) column) (sym (c.deref.ensures.value ∙ c.in_ok-cells.ensures)) (kept-moved kind cells c.args.order.now all)
 
 pub loop-cells-preserved : goal.loop-cells-preserved
 loop-cells-preserved c =
