@@ -1,5 +1,5 @@
 -- Rows that the columns of a table hold, and edits that a table may take.
-use Rattle.std.specs.Prelude.{◌≡◌, ℕ, ◌≤◌, Bool, IsTrue, List, length, slice_get, All, Option, None, Some}
+use Rattle.std.specs.Prelude.{◌≡◌, ℕ, ◌≤◌, Bool, IsTrue, List, length, slice_get, All, IfSome, Option, None, Some}
 use Rattle.cs_types.specs.declared.Column.{Column}
 use Rattle.cs_types.specs.declared.Key.{Key}
 use Rattle.cs_types.specs.declared.Schema.{Schema}
@@ -39,6 +39,10 @@ IsFit schema edit = IsPrintableKey schema edit.0 × MayStand schema edit.0 edit.
 -- a row under its key, which can be printed
 abbrev pub IsFitEntry : Schema → Key × List Value → Type 0
 IsFitEntry schema entry = IsPrintableKey schema entry.0 × IsRowAt schema entry.0 entry.1
+
+-- a row has a cell for every column, as every row has that is written; a row may be shorter where columns were added later
+abbrev pub IsWhole : Schema → Edit → Type 0
+IsWhole schema edit = IfSome edit.1 (λ (row : List Value). length row ≡ length schema.columns)
 
 -- each change's edit fits the table
 abbrev pub AreFit : Schema → List Change → Type 0

@@ -14,6 +14,8 @@ kind_of (bound.Insert plan) = kind.Insert
 kind_of (bound.Update plan) = kind.Change
 kind_of (bound.Delete condition) = kind.Change
 kind_of (bound.Select query) = kind.Query
+kind_of bound.GroupReport = kind.Report
+kind_of bound.SegmentReport = kind.Report
 kind_of (bound.Refused refusal) = kind.Refused
 
 abbrev pub kind_is_of_table : Kind → Bool
@@ -21,20 +23,15 @@ kind_is_of_table kind.Control = false
 kind_is_of_table kind.Insert = true
 kind_is_of_table kind.Change = true
 kind_is_of_table kind.Query = true
+kind_is_of_table kind.Report = false
 kind_is_of_table kind.Refused = false
-
-abbrev pub kind_reads_rows : Kind → Bool
-kind_reads_rows kind.Control = false
-kind_reads_rows kind.Insert = false
-kind_reads_rows kind.Change = true
-kind_reads_rows kind.Query = true
-kind_reads_rows kind.Refused = false
 
 abbrev pub kind_is_write : Kind → Bool
 kind_is_write kind.Control = false
 kind_is_write kind.Insert = true
 kind_is_write kind.Change = true
 kind_is_write kind.Query = false
+kind_is_write kind.Report = false
 kind_is_write kind.Refused = false
 
 abbrev pub kind_is_insert : Kind → Bool
@@ -42,15 +39,12 @@ kind_is_insert kind.Control = false
 kind_is_insert kind.Insert = true
 kind_is_insert kind.Change = false
 kind_is_insert kind.Query = false
+kind_is_insert kind.Report = false
 kind_is_insert kind.Refused = false
 
 -- whether a statement is one of the table, which takes a snapshot, in a transaction of its own where none is open
 abbrev pub is_of_table : Bound → Bool
 is_of_table b = kind_is_of_table (kind_of b)
-
--- whether a statement reads rows to answer or to write; an INSERT reads none for its list of writes
-abbrev pub reads_rows : Bound → Bool
-reads_rows b = kind_reads_rows (kind_of b)
 
 -- INSERT, UPDATE and DELETE
 abbrev pub is_write : Bound → Bool

@@ -27,4 +27,6 @@ IsReady schema (bound.Insert plan) = Unit {0}
 IsReady schema (bound.Update plan) = All (λ (set : ℕ × Expr). set.0 ≢ schema.key) plan.sets
 IsReady schema (bound.Delete condition) = Unit {0}
 IsReady schema (bound.Select query) = Unit {0}
+IsReady schema bound.GroupReport = Unit {0}
+IsReady schema bound.SegmentReport = Unit {0}
 IsReady schema (bound.Refused refusal) = IsOfReading refusal

@@ -1,5 +1,5 @@
 -- What an event does to the state: a relation by cases of the event.
-use Rattle.std.specs.Prelude.{◌≡◌, ◌⊎◌, ℕ, ◌+◌, List, [], ◌∷◌, ◌++◌, length, map, fold, Bool, true, false, ◌==◌, ◌||◌, nat_lt, nat_le, ◌-◌, if◌then◌else◌, is_some, Option, None, Some, Result, Ok, Err}
+use Rattle.std.specs.Prelude.{◌≡◌, ◌⊎◌, ℕ, ◌+◌, ◌<◌, List, [], ◌∷◌, ◌++◌, length, map, fold, Bool, true, false, ◌==◌, ◌||◌, nat_lt, nat_le, ◌-◌, if◌then◌else◌, is_some, Option, None, Some, Result, Ok, Err}
 use Rattle.std.specs.BTreeMap.{insert_entry}
 use Rattle.std.specs.Map.{values_of}
 use Rattle.cs_types.specs.declared.Loose.{Loose}
@@ -58,6 +58,8 @@ abbrev pub IsRows : Bool → List (List Loose) → Reply → Type 0
 IsRows on rows reply.Done = ⊥
 IsRows on rows (reply.Rows list segments) = (list ≡ rows) × (is_some segments ≡ on)
 IsRows on rows (reply.Affected count) = ⊥
+IsRows on rows (reply.Groups lines buffered) = ⊥
+IsRows on rows (reply.Segments lines) = ⊥
 IsRows on rows (reply.Refused refusal) = ⊥
 
 -- the reply to a query: its rows, or 8115 with the row and the item whose whole count or sum is out of its range
@@ -71,6 +73,8 @@ IsWritten Judged edits reply.Done = ⊥
 IsWritten Judged edits (reply.Affected count) = Judged None × (count ≡ length edits)
 IsWritten Judged edits (reply.Refused refusal) = Judged (Some refusal)
 IsWritten Judged edits (reply.Rows list segments) = ⊥
+IsWritten Judged edits (reply.Groups lines buffered) = ⊥
+IsWritten Judged edits (reply.Segments lines) = ⊥
 
 -- the reply to a write of these edits, or their first value refusal, over what its transaction sees
 abbrev pub IsWriteReplyOf : State → ℕ → Option ℕ → Table → Bound → Result (List Edit) Refusal → Reply → Type 0
@@ -88,6 +92,23 @@ IsWriteReply schema m session (Some txn) b r =
 abbrev pub IsAnswerIn : Schema → State → ℕ → Option Txn → Query → Reply → Type 0
 IsAnswerIn schema m session None query r = ⊥
 IsAnswerIn schema m session (Some txn) query r = IsAnswer (m.statistics session) (answer schema query (values_of (seen m.changes txn))) r
+
+-- any report on groups, and any on segments: what stands in them is said by the book of groups
+abbrev pub IsGroups : Reply → Type 0
+IsGroups reply.Done = ⊥
+IsGroups (reply.Affected count) = ⊥
+IsGroups (reply.Rows rows segments) = ⊥
+IsGroups (reply.Groups lines buffered) = Unit {0}
+IsGroups (reply.Segments lines) = ⊥
+IsGroups (reply.Refused refusal) = ⊥
+
+abbrev pub IsSegments : Reply → Type 0
+IsSegments reply.Done = ⊥
+IsSegments (reply.Affected count) = ⊥
+IsSegments (reply.Rows rows segments) = ⊥
+IsSegments (reply.Groups lines buffered) = ⊥
+IsSegments (reply.Segments lines) = Unit {0}
+IsSegments (reply.Refused refusal) = ⊥
 
 -- BEGIN is done, but in a transaction that is 32 deep
 abbrev pub begin_reply : Option Txn → Reply
@@ -109,6 +130,8 @@ IsReply schema m session (bound.Insert plan) r = IsWriteReply schema m session (
 IsReply schema m session (bound.Update plan) r = IsWriteReply schema m session (m.txns session) (bound.Update plan) r
 IsReply schema m session (bound.Delete condition) r = IsWriteReply schema m session (m.txns session) (bound.Delete condition) r
 IsReply schema m session (bound.Select query) r = IsAnswerIn schema m session (m.txns session) query r
+IsReply schema m session bound.GroupReport r = IsGroups r
+IsReply schema m session bound.SegmentReport r = IsSegments r
 IsReply schema m session (bound.Refused refusal) r = r ≡ reply.Refused refusal
 
 -- ---- the state after a Finish
@@ -180,6 +203,8 @@ accepted schema m session (bound.Insert plan) = wrote m session (m.txns session)
 accepted schema m session (bound.Update plan) = wrote m session (m.txns session) (writes_in schema m.changes (m.txns session) (bound.Update plan))
 accepted schema m session (bound.Delete condition) = wrote m session (m.txns session) (writes_in schema m.changes (m.txns session) (bound.Delete condition))
 accepted schema m session (bound.Select query) = wrote m session (m.txns session) []
+accepted schema m session bound.GroupReport = m
+accepted schema m session bound.SegmentReport = m
 accepted schema m session (bound.Refused refusal) = m
 
 -- 3960 alone ends every transaction
@@ -205,6 +230,8 @@ abbrev pub replied : Schema → State → ℕ → Bound → Reply → State
 replied schema m session b reply.Done = accepted schema m session b
 replied schema m session b (reply.Affected count) = accepted schema m session b
 replied schema m session b (reply.Rows list segments) = accepted schema m session b
+replied schema m session b (reply.Groups lines buffered) = accepted schema m session b
+replied schema m session b (reply.Segments lines) = accepted schema m session b
 replied schema m session b (reply.Refused refusal) = refused m session refusal
 
 -- the statement is no longer half done
@@ -215,11 +242,19 @@ rested m session = half_set m session None
 abbrev pub finished : Schema → State → ℕ → Bound → Reply → State
 finished schema m session b r = replied schema (rested m session) session b r
 
--- a Finish of the half-done statement: with the defined reply, or with want of memory in its place
+-- for want of a group id: in the place of a reply after which something is committed, error 50001 at 1
+pub record IsOutOfIds (schema : Schema) (m : State) (session : ℕ) (b : Bound) (r : Reply) : Type 0 where
+  pub given : Reply
+  pub is_reply : IsReply schema m session b given
+  pub commits : m.clock < (finished schema m session b given).clock
+  pub refuses : r ≡ reply.Refused (Reading 50001 1)
+
+-- a Finish of the half-done statement: with the defined reply, or with want of a group id in its place; or, whatever was
+-- started, with want of memory
 abbrev pub IsFinish : Schema → State → ℕ → Option Half → Reply → State → Type 0
 IsFinish schema m session None r after = ⊥
 IsFinish schema m session (Some half) r after =
-    ((r ≡ reply.Refused Memory) ⊎ ((half.short ≡ false) × IsReply schema m session half.bound r))
+    ((r ≡ reply.Refused Memory) ⊎ ((half.short ≡ false) × (IsReply schema m session half.bound r ⊎ IsOutOfIds schema m session half.bound r)))
     × (after ≡ finished schema m session half.bound r)
 
 -- ---- the step

@@ -1,24 +1,31 @@
 -- The printed text of replies and events, and of a log.
-use Rattle.std.specs.Prelude.{ℕ, ◌+◌, List, [], ◌∷◌, ◌++◌, length, codes, decimal, count_by, Bool, false, ◌==◌, slice_get, All, IsTrue, Option, None, Some}
+use Rattle.std.specs.Prelude.{ℕ, ◌+◌, List, [], ◌∷◌, ◌++◌, length, codes, decimal, count_by, Bool, true, false, ◌-◌, ◌==◌, slice_get, All, IsTrue, Option, None, Some}
 use Rattle.std.specs.List.{flat_map}
 use Rattle.cs_types.specs.declared.Column.{Column}
 use Rattle.cs_types.specs.declared.ColumnType.{ColumnType}
 use Rattle.cs_types.specs.declared.ColumnType.TheVariants.{BigInt}
+use Rattle.cs_types.specs.declared.Encoding.{Encoding}
+use Rattle.cs_types.specs.declared.Encoding.TheVariants.{ValuePacked, ValueRuns, DictPacked, DictRuns}
 use Rattle.cs_types.specs.declared.Key.{Key}
 use Rattle.cs_types.specs.declared.Loose.{Loose}
 use Rattle.cs_types.specs.declared.Schema.{Schema}
+use Rattle.cs_types.specs.declared.Value.{Value}
 use Rattle.cs_types.specs.declared.Value.TheVariants.{Number}
 use Rattle.cs_types.specs.Kinds.{keeps}
-use Rattle.cs_types.specs.Text.{loose_text, value_text, IsPrintable}
+use Rattle.cs_types.specs.Text.{loose_of, loose_text, value_text, IsPrintable}
 use Rattle.cs_model.specs.Actors.{actor_of}
 use Rattle.cs_model.specs.State.{Begin}
 use Rattle.cs_model.specs.Works.{session_text, actor_text, work_text}
 use Rattle.cs_model.specs.declared.entry.Refusal.{Refusal}
 use Rattle.cs_model.specs.declared.entry.Refusal.TheVariants.{Reading, Valued, Locked, Changed, Duplicate, NoTxn, Memory}
 use Rattle.cs_model.specs.declared.entry.Reply.{Reply}
-use Rattle.cs_model.specs.declared.entry.Reply.TheVariants.{Done, Affected, Rows, Refused}
+use Rattle.cs_model.specs.declared.entry.Reply.TheVariants.{Done, Affected, Rows, Groups, Segments, Refused}
 use Rattle.cs_model.specs.declared.entry.Entry.{Entry}
 use Rattle.cs_model.specs.declared.entry.Entry.TheVariants.{Start, Finish, End, Mover}
+use Rattle.cs_model.specs.declared.report.GroupLine.{GroupLine}
+use Rattle.cs_model.specs.declared.report.GroupState.{GroupState}
+use Rattle.cs_model.specs.declared.report.GroupState.TheVariants.{Invisible, Opened, Closed, Compressed, Tombstone}
+use Rattle.cs_model.specs.declared.report.SegmentLine.{SegmentLine}
 
 abbrev pub next_cell : Loose → List ℕ
 next_cell cell = codes ", " ++ loose_text cell
@@ -62,11 +69,72 @@ abbrev pub segments_line : Option (ℕ × ℕ) → List ℕ
 segments_line None = []
 segments_line (Some counts) = codes "  segments read " ++ decimal counts.0 ++ codes ", skipped " ++ decimal counts.1 ++ codes "\n"
 
+-- ---- reports
+
+-- the parts of a line, joined by a comma and a space
+abbrev pub next_part : List ℕ → List ℕ
+next_part part = codes ", " ++ part
+
+abbrev pub parts_text : List (List ℕ) → List ℕ
+parts_text [] = []
+parts_text (part ∷ parts) = part ++ flat_map next_part parts
+
+abbrev pub report_line : List (List ℕ) → List ℕ
+report_line parts = codes "  " ++ parts_text parts ++ codes "\n"
+
+abbrev pub state_code : GroupState → ℕ
+state_code Invisible = 0
+state_code Opened = 1
+state_code Closed = 2
+state_code Compressed = 3
+state_code Tombstone = 4
+
+abbrev pub state_name : GroupState → List ℕ
+state_name Invisible = codes "INVISIBLE"
+state_name Opened = codes "OPEN"
+state_name Closed = codes "CLOSED"
+state_name Compressed = codes "COMPRESSED"
+state_name Tombstone = codes "TOMBSTONE"
+
+-- `id, code, STATE, total, deleted`
+abbrev pub group_line : GroupLine → List ℕ
+group_line line = report_line (decimal line.id ∷ decimal (state_code line.state) ∷ state_name line.state ∷ decimal line.total ∷ decimal line.deleted ∷ [])
+
+abbrev pub encoding_name : Encoding → List ℕ
+encoding_name ValuePacked = codes "VP"
+encoding_name ValueRuns = codes "VR"
+encoding_name DictPacked = codes "DP"
+encoding_name DictRuns = codes "DR"
+
+abbrev pub bit_of : Bool → ℕ
+bit_of true = 1
+bit_of false = 0
+
+-- the type of a column, counted from 1
+abbrev pub column_kind : Schema → ℕ → ColumnType
+column_kind schema column = kind_or (slice_get schema.columns (column - 1))
+
+-- `id, column, encoding, rows, nulls, words, least, greatest`
+abbrev pub segment_line : Schema → SegmentLine → List ℕ
+segment_line schema line = report_line (
+    decimal line.id
+    ∷ decimal line.column
+    ∷ encoding_name line.encoding
+    ∷ decimal line.rows
+    ∷ decimal (bit_of line.nulls)
+    ∷ decimal line.words
+    ∷ value_text (column_kind schema line.column) line.least
+    ∷ value_text (column_kind schema line.column) line.greatest
+    ∷ []
+    )
+
 -- the reply, and the lines under it
 abbrev pub reply_text : Schema → Reply → List ℕ
 reply_text schema Done = codes "ok\n"
 reply_text schema (Affected count) = codes "ok " ++ decimal count ++ codes " affected\n"
 reply_text schema (Rows rows segments) = codes "ok " ++ decimal (length rows) ++ codes " rows\n" ++ flat_map row_line rows ++ segments_line segments
+reply_text schema (Groups lines buffered) = codes "ok " ++ decimal (length lines) ++ codes " groups, " ++ decimal buffered ++ codes " buffered\n" ++ flat_map group_line lines
+reply_text schema (Segments lines) = codes "ok " ++ decimal (length lines) ++ codes " segments\n" ++ flat_map (segment_line schema) lines
 reply_text schema (Refused refusal) = refusal_text schema refusal ++ codes "\n"
 
 -- the text of an entry: event is its number, place that of its statement in its session, both from 1
@@ -117,10 +185,20 @@ IsPrintableRefusal schema Memory = Unit {0}
 abbrev pub IsPrintableRow : List Loose → Type 0
 IsPrintableRow row = All IsPrintable row
 
+-- a cell that is no day outside the calendar
+abbrev pub IsPrintableCell : ColumnType → Value → Type 0
+IsPrintableCell kind value = IsPrintable (loose_of kind value)
+
+-- the least and the greatest cell of the column
+abbrev pub IsPrintableSegment : Schema → SegmentLine → Type 0
+IsPrintableSegment schema line = IsPrintableCell (column_kind schema line.column) line.least × IsPrintableCell (column_kind schema line.column) line.greatest
+
 abbrev pub IsPrintableReply : Schema → Reply → Type 0
 IsPrintableReply schema Done = Unit {0}
 IsPrintableReply schema (Affected count) = Unit {0}
 IsPrintableReply schema (Rows rows segments) = All IsPrintableRow rows
+IsPrintableReply schema (Groups lines buffered) = Unit {0}
+IsPrintableReply schema (Segments lines) = All (IsPrintableSegment schema) lines
 IsPrintableReply schema (Refused refusal) = IsPrintableRefusal schema refusal
 
 abbrev pub IsPrintableEntry : Schema → Entry → Type 0

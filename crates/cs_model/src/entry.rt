@@ -1,6 +1,7 @@
 // Statements, replies and events.
 use crate::plan::{InsertPlan, Query, UpdatePlan};
 use crate::pred::Pred;
+use crate::report::{GroupLine, SegmentLine};
 use crate::work::{Actor, Work};
 use cs_base::{Boxed, Items};
 use cs_types::{Key, Loose};
@@ -30,6 +31,10 @@ pub enum Bound {
     Delete(Boxed<Option<Pred>>),
     /// SELECT from the table.
     Select(Boxed<Query>),
+    /// SELECT from the report on row groups.
+    GroupReport,
+    /// SELECT from the report on segments.
+    SegmentReport,
     /// Reading or binding refused the text, or there was no memory for it: no other refusal stands here.
     Refused(Refusal),
 }
@@ -67,6 +72,13 @@ pub enum Reply {
         rows: Items<AnswerRow>,
         segments: Option<(u64, u64)>,
     },
+    /// The report on row groups: a line for each, by id, and the number of entries of the delete buffer.
+    Groups {
+        lines: Items<GroupLine>,
+        buffered: u64,
+    },
+    /// The report on segments: a line for each COMPRESSED group and column.
+    Segments(Items<SegmentLine>),
     /// The statement was refused.
     Refused(Refusal),
 }

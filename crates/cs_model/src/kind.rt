@@ -13,8 +13,10 @@ pub enum Kind {
     Insert,
     /// UPDATE or DELETE: it writes in the place of rows that it reads.
     Change,
-    /// SELECT: it reads rows and writes none.
+    /// SELECT from the table: it reads rows and writes none.
     Query,
+    /// SELECT from a report: it reads what the row groups are, and no row.
+    Report,
     /// A text that was refused.
     Refused,
 }
@@ -29,6 +31,7 @@ impl Bound {
             Bound::Insert(_) => Kind::Insert,
             Bound::Update(_) | Bound::Delete(_) => Kind::Change,
             Bound::Select(_) => Kind::Query,
+            Bound::GroupReport | Bound::SegmentReport => Kind::Report,
             Bound::Refused(_) => Kind::Refused,
         }
     }

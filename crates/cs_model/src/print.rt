@@ -3,11 +3,12 @@ ghost use Rattle.std.specs.Prelude.{◌≡◌, ◌++◌, All, OnOk, OnErr, IsTru
 ghost use Rattle.std.specs.List.{flat_map};
 ghost use Rattle.cs_types.specs.Text.{IsPrintable};
 ghost use Rattle.cs_model.specs.Works.{session_text};
-ghost use Rattle.cs_model.specs.Text.{next_cell, cells_text, row_line, key_kind, key_text, valued_text, refusal_text, segments_line, reply_text, entry_text, IsPrintableRow, IsPrintableKey, IsPrintableRefusal, IsPrintableReply, IsPrintableEntry};
+ghost use Rattle.cs_model.specs.Text.{next_cell, cells_text, row_line, key_kind, key_text, valued_text, refusal_text, segments_line, group_line, segment_line, reply_text, entry_text, IsPrintableRow, IsPrintableKey, IsPrintableRefusal, IsPrintableReply, IsPrintableEntry};
 ghost use Rattle.cs_types.specs.Kinds.{keeps};
 ghost use Rattle.cs_types.specs.declared.Value.TheVariants as value;
 
 use crate::entry::{AnswerRow, Entry, Refusal, Reply};
+use crate::print_report::{append_groups, append_segments};
 use crate::print_work::{append_actor, append_work};
 use cs_base::Memory;
 use cs_types::{ColumnType, Key, Line, Loose, Schema, Value, print_loose, print_value};
@@ -154,7 +155,7 @@ fn append_refusal(schema: &Schema, refusal: Refusal, line: &mut Line) -> Result<
 }
 
 /// Adds the counts of segments, where there are some.
-fn append_segments(segments: Option<(u64, u64)>, line: &mut Line) -> Result<(), Memory>
+fn append_segment_counts(segments: Option<(u64, u64)>, line: &mut Line) -> Result<(), Memory>
     ensures { OnOk result (line.new ≡ line.old ++ segments_line segments) }
 {
     let Some((read, skipped)) = segments else {
@@ -184,7 +185,21 @@ fn append_reply(schema: &Schema, reply: &Reply, line: &mut Line) -> Result<(), M
             line.append_number(rows.len() as u64)?;
             line.append(b" rows\n")?;
             append_rows(rows.as_slice(), line)?;
-            append_segments(*segments, line)
+            append_segment_counts(*segments, line)
+        }
+        Reply::Groups { lines, buffered } => {
+            line.append(b"ok ")?;
+            line.append_number(lines.len() as u64)?;
+            line.append(b" groups, ")?;
+            line.append_number(*buffered)?;
+            line.append(b" buffered\n")?;
+            append_groups(lines.as_slice(), line)
+        }
+        Reply::Segments(lines) => {
+            line.append(b"ok ")?;
+            line.append_number(lines.len() as u64)?;
+            line.append(b" segments\n")?;
+            append_segments(schema, lines.as_slice(), line)
         }
         Reply::Refused(refusal) => {
             append_refusal(schema, *refusal, line)?;

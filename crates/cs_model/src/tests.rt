@@ -1,7 +1,14 @@
-use crate::{Actor, Bound, Entry, Refusal, Reply, Work, print_entry};
+ghost use Rattle.std.specs.Bool.{OnTrue};
+ghost use Rattle.cs_model.specs.Text.{IsPrintableCell};
+
+use crate::print_report::{append_segment, column_kind};
+use crate::{
+    Actor, Bound, Entry, GroupLine, GroupState, Refusal, Reply, SegmentLine, Work, print_entry,
+};
 use cs_base::{Items, Memory};
-use cs_types::{Line, Schema};
+use cs_types::{Column, ColumnType, Encoding, FIRST_DAY, Line, Schema, Value};
 use std::alloc::Global;
+use std::process::Abort;
 use std::sync::Arc;
 use std::test::Fail;
 
@@ -141,5 +148,200 @@ fn work_that_is_counted_is_added_to_a_line(rt: HostRuntime) -> Result<(), Fail> 
 ";
     let line = text_of(rt.alloc(), Actor::Session(64), &works)?;
     assert_eq!(rt; line.as_slice(), text.as_slice());
+    Ok(())
+}
+
+#[test]
+fn a_group_report_has_a_line_for_each_group(rt: HostRuntime) -> Result<(), Fail> {
+    let groups = [
+        (1, GroupState::Invisible, 0, 0),
+        (2, GroupState::Opened, 1, 0),
+        (3, GroupState::Closed, 1048576, 2),
+        (4, GroupState::Compressed, 18446744073709551615, 10),
+        (12, GroupState::Tombstone, 2, 1),
+    ];
+    let mut lines = Items::new(rt.alloc());
+    for (id, state, total, deleted) in groups {
+        lines.push(GroupLine {
+            id,
+            state,
+            total,
+            deleted,
+        })?;
+    }
+    let schema = schema(rt.alloc());
+    let reply = Reply::Groups { lines, buffered: 7 };
+    let finish = Entry::Finish { session: 1, reply };
+    let mut line = Line::new(rt.alloc());
+    print_entry(rt.alloc(), &schema, 8, 4, &finish, &mut line)?;
+    let text = b"8 s1.4 < ok 5 groups, 7 buffered
+  1, 0, INVISIBLE, 0, 0
+  2, 1, OPEN, 1, 0
+  3, 2, CLOSED, 1048576, 2
+  4, 3, COMPRESSED, 18446744073709551615, 10
+  12, 4, TOMBSTONE, 2, 1
+";
+    assert_eq!(rt; line.as_slice(), text.as_slice());
+    Ok(())
+}
+
+#[test]
+fn a_report_without_lines_has_its_counts(rt: HostRuntime) -> Result<(), Fail> {
+    let alloc = rt.alloc();
+    let schema = schema(alloc);
+    let groups = Entry::Finish {
+        session: 1,
+        reply: Reply::Groups {
+            lines: Items::new(alloc),
+            buffered: 0,
+        },
+    };
+    let segments = Entry::Finish {
+        session: 1,
+        reply: Reply::Segments(Items::new(alloc)),
+    };
+    let mut line = Line::new(alloc);
+    print_entry(alloc, &schema, 2, 1, &groups, &mut line)?;
+    print_entry(alloc, &schema, 4, 2, &segments, &mut line)?;
+    let text = b"2 s1.1 < ok 0 groups, 0 buffered\n4 s1.2 < ok 0 segments\n";
+    assert_eq!(rt; line.as_slice(), text.as_slice());
+    Ok(())
+}
+
+/// A table with columns of these types.
+fn table(alloc: Global, kinds: &[ColumnType]) -> Result<Schema, Memory> {
+    let mut columns = Items::new(alloc);
+    for kind in kinds {
+        columns.push(Column {
+            name: Items::new(alloc),
+            kind: *kind,
+            nullable: true,
+        })?;
+    }
+    Ok(Schema {
+        name: Items::new(alloc),
+        columns,
+        key: 0,
+    })
+}
+
+/// A text.
+fn text(alloc: Global, bytes: &[u8]) -> Result<Value, Memory> {
+    let mut text = Items::new(alloc);
+    for byte in bytes {
+        text.push(*byte)?;
+    }
+    Ok(Value::Text(text))
+}
+
+/// Whether a cell is no day outside the calendar.
+fn is_printable(kind: ColumnType, cell: &Value) -> bool
+    ensures { OnTrue result (IsPrintableCell kind cell.now) }
+{
+    match cell {
+        Value::Number(day) => match kind {
+            ColumnType::Date => ColumnType::Date.keeps_number(*day),
+            _ => true,
+        },
+        _ => true,
+    }
+}
+
+/// The line of a segment is this text.
+fn check_segment(
+    rt: &impl Abort,
+    alloc: Global,
+    schema: &Schema,
+    segment: &SegmentLine,
+    want: &[u8],
+) -> Result<(), Memory> {
+    let kind = column_kind(schema, segment.column);
+    assert!(rt; is_printable(kind, &segment.least) && is_printable(kind, &segment.greatest));
+    let mut line = Line::new(alloc);
+    append_segment(schema, segment, &mut line)?;
+    assert_eq!(rt; line.as_slice(), want);
+    Ok(())
+}
+
+#[test]
+fn a_segment_is_printed_by_its_column(rt: HostRuntime) -> Result<(), Fail> {
+    let alloc = rt.alloc();
+    let (vp, vr, dp, dr) = (
+        Encoding::ValuePacked,
+        Encoding::ValueRuns,
+        Encoding::DictPacked,
+        Encoding::DictRuns,
+    );
+    let schema = table(
+        alloc,
+        &[
+            ColumnType::Int,
+            ColumnType::Date,
+            ColumnType::VarChar { n: 4 },
+            ColumnType::Decimal { p: 3, s: 1 },
+        ],
+    )?;
+    let (low, high) = (Value::Number(FIRST_DAY), Value::Number(19782));
+    let (empty, quoted) = (text(alloc, b"")?, text(alloc, b"it's")?);
+    let cases = [
+        (
+            1,
+            vp,
+            false,
+            3,
+            Value::Number(-1),
+            Value::Number(4),
+            b"  12, 1, VP, 4, 0, 3, -1, 4\n".as_slice(),
+        ),
+        (
+            2,
+            vr,
+            true,
+            4,
+            low,
+            high,
+            b"  12, 2, VR, 4, 1, 4, 0001-01-01, 2024-02-29\n",
+        ),
+        (
+            3,
+            dp,
+            false,
+            18446744073709551615,
+            empty,
+            quoted,
+            b"  12, 3, DP, 4, 0, 18446744073709551615, '', 'it''s'\n",
+        ),
+        (
+            3,
+            dr,
+            true,
+            2,
+            Value::Null,
+            Value::Null,
+            b"  12, 3, DR, 4, 1, 2, NULL, NULL\n",
+        ),
+        (
+            4,
+            vp,
+            true,
+            0,
+            Value::Number(-5),
+            Value::Number(25),
+            b"  12, 4, VP, 4, 1, 0, -0.5, 2.5\n",
+        ),
+    ];
+    for (column, encoding, nulls, words, least, greatest, want) in cases {
+        let segment = SegmentLine {
+            id: 12,
+            column,
+            encoding,
+            rows: 4,
+            nulls,
+            words,
+            least,
+            greatest,
+        };
+        check_segment(&rt, alloc, &schema, &segment, want)?;
+    }
     Ok(())
 }

@@ -130,12 +130,16 @@ acts_accepted schema m s (bound.Insert plan) = acts_wrote m s (m.txns s) (writes
 acts_accepted schema m s (bound.Update plan) = acts_wrote m s (m.txns s) (writes_in schema m.changes (m.txns s) (bound.Update plan)) refl
 acts_accepted schema m s (bound.Delete condition) = acts_wrote m s (m.txns s) (writes_in schema m.changes (m.txns s) (bound.Delete condition)) refl
 acts_accepted schema m s (bound.Select query) = acts_wrote m s (m.txns s) [] refl
+acts_accepted schema m s bound.GroupReport = acts_same m s
+acts_accepted schema m s bound.SegmentReport = acts_same m s
 acts_accepted schema m s (bound.Refused refusal) = acts_same m s
 
 acts_replied : (schema : Schema) (m : State) (s : ℕ) (b : Bound) (r : Reply) → Acts m s (replied schema m s b r)
 acts_replied schema m s b reply.Done = acts_accepted schema m s b
 acts_replied schema m s b (reply.Affected count) = acts_accepted schema m s b
 acts_replied schema m s b (reply.Rows list segments) = acts_accepted schema m s b
+acts_replied schema m s b (reply.Groups lines buffered) = acts_accepted schema m s b
+acts_replied schema m s b (reply.Segments lines) = acts_accepted schema m s b
 acts_replied schema m s b (reply.Refused refusal) = acts_if m s _ _ (ends_txn (m.txns s) refusal) (acts_gone m s) (acts_same m s)
 
 -- ---- a Start's transaction

@@ -16,7 +16,7 @@ use Rattle.cs_model.specs.declared.entry.Entry.TheVariants.{Start, Finish, End, 
 use Rattle.cs_model.specs.declared.entry.Bound.{Bound}
 use Rattle.cs_model.specs.declared.entry.Bound.TheVariants as bound
 use Rattle.cs_model.specs.declared.entry.Refusal.{Refusal}
-use Rattle.cs_model.specs.declared.entry.Refusal.TheVariants.{Memory}
+use Rattle.cs_model.specs.declared.entry.Refusal.TheVariants.{Reading, Memory}
 use Rattle.cs_model.specs.declared.entry.Reply.{Reply}
 use Rattle.cs_model.specs.declared.entry.Reply.TheVariants as reply
 use Rattle.cs_types.specs.Keys.{key_cmp, same_key}
@@ -27,7 +27,7 @@ use Rattle.cs_model.specs.Actors.{actor_of}
 use Rattle.cs_model.specs.Kinds.{is_of_table}
 use Rattle.cs_model.specs.Answers.{writes}
 use Rattle.cs_model.specs.Obstacles.{owns, is_above, IsFree, keys_of}
-use Rattle.cs_model.specs.Steps.{IsStep, IsFinish, IsReply, IsWriteReply, IsWriteReplyOf, staged, writes_in, edits_in, wrote, began, unwound, accepted, refused, replied, rested, pinned, next_opened, fixed, txn_opened, commits, committed, is_empty, gone, ends_txn}
+use Rattle.cs_model.specs.Steps.{IsStep, IsFinish, IsReply, IsOutOfIds, IsWriteReply, IsWriteReplyOf, staged, writes_in, edits_in, wrote, began, unwound, accepted, refused, replied, rested, pinned, next_opened, fixed, txn_opened, commits, committed, is_empty, gone, ends_txn}
 use Rattle.log_laws.specs.Laws.{AreOwners}
 use Rattle.log_laws.proofs.Framed.{framed, at_own}
 
@@ -159,6 +159,9 @@ owned_refused m s refusal = owned_if m s _ _ (ends_txn (m.txns s) refusal) (owne
 abbrev pub IsAccepted : Reply → Type 0
 IsAccepted r = (refusal : Refusal) → r ≡ reply.Refused refusal → ⊥
 
+abbrev pub IsRefused : Reply → Type 0
+IsRefused r = (refusal : Refusal) × (r ≡ reply.Refused refusal)
+
 -- no other transaction has the key, and no change of it is above the snapshot
 abbrev pub IsClear : State → ℕ → Option ℕ → Key → Type 0
 IsClear m s snapshot key = IsFree m.txns s key × (is_above (newest key m.changes) snapshot ≡ false)
@@ -167,25 +170,28 @@ pub no_keys : (P : Key → Type 0) → All P (keys_of [])
 no_keys P = All-nil P
 
 cleared_of : (m : State) (s : ℕ) (snapshot : Option ℕ) (table : Table) (b : Bound) (w : Result (List Edit) Refusal) (r : Reply) → IsAccepted r
-    → (r ≡ reply.Refused Memory) ⊎ IsWriteReplyOf m s snapshot table b w r → All (IsClear m s snapshot) (keys_of (edits_in w))
-cleared_of m s snapshot table b w r not (inl e) = absurd (not Memory e)
+    → IsRefused r ⊎ IsWriteReplyOf m s snapshot table b w r → All (IsClear m s snapshot) (keys_of (edits_in w))
+cleared_of m s snapshot table b w r not (inl e) = absurd (not e.0 e.1)
 cleared_of m s snapshot table b (Err refusal) r not (inr h) = absurd (not refusal h)
 cleared_of m s snapshot table b (Ok edits) reply.Done not (inr h) = absurd h
 cleared_of m s snapshot table b (Ok edits) (reply.Affected count) not (inr h) = λ k d lt. ((h.0 k d lt).0, (h.0 k d lt).1)
 cleared_of m s snapshot table b (Ok edits) (reply.Rows list segments) not (inr h) = absurd h
+cleared_of m s snapshot table b (Ok edits) (reply.Groups lines buffered) not (inr h) = absurd h
+cleared_of m s snapshot table b (Ok edits) (reply.Segments lines) not (inr h) = absurd h
 cleared_of m s snapshot table b (Ok edits) (reply.Refused refusal) not (inr h) = absurd (not refusal refl)
 
 pub cleared : (schema : Schema) (m : State) (s : ℕ) (o : Option Txn) (b : Bound) (r : Reply) → IsAccepted r
-    → (r ≡ reply.Refused Memory) ⊎ IsWriteReply schema m s o b r → All (IsClear m s (snapshot_of o)) (keys_of (writes_in schema m.changes o b))
+    → IsRefused r ⊎ IsWriteReply schema m s o b r → All (IsClear m s (snapshot_of o)) (keys_of (writes_in schema m.changes o b))
 cleared schema m s None b r not h = no_keys (IsClear m s None)
 cleared schema m s (Some txn) b r not h = cleared_of m s txn.snapshot (seen m.changes txn) b (writes schema (seen m.changes txn) b) r not h
 
 freed : (schema : Schema) (m : State) (s : ℕ) (o : Option Txn) (b : Bound) (r : Reply) → IsAccepted r
-    → (r ≡ reply.Refused Memory) ⊎ IsWriteReply schema m s o b r → All (λ key. IsFree m.txns s key) (keys_of (writes_in schema m.changes o b))
+    → IsRefused r ⊎ IsWriteReply schema m s o b r → All (λ key. IsFree m.txns s key) (keys_of (writes_in schema m.changes o b))
 freed schema m s o b r not h = λ k d lt. (cleared schema m s o b r not h k d lt).0
 
+-- a refusal, or the reply that is defined
 abbrev pub IsDefined : Schema → State → ℕ → Bound → Reply → Type 0
-IsDefined schema m s b r = (r ≡ reply.Refused Memory) ⊎ IsReply schema m s b r
+IsDefined schema m s b r = IsRefused r ⊎ IsReply schema m s b r
 
 owned_accepted : (schema : Schema) (m : State) (s : ℕ) (b : Bound) (r : Reply) → IsAccepted r → IsDefined schema m s b r → Owned m s (accepted schema (rested m s) s b)
 owned_accepted schema m s bound.Begin r not h = owned_began (rested m s) s (m.txns s) refl
@@ -197,17 +203,26 @@ owned_accepted schema m s (bound.Update plan) r not h = owned_wrote (rested m s)
 owned_accepted schema m s (bound.Delete condition) r not h =
     owned_wrote (rested m s) s (m.txns s) (writes_in schema m.changes (m.txns s) (bound.Delete condition)) refl (freed schema m s (m.txns s) (bound.Delete condition) r not h)
 owned_accepted schema m s (bound.Select query) r not h = owned_wrote (rested m s) s (m.txns s) [] refl (no_keys (λ key. IsFree m.txns s key))
+owned_accepted schema m s bound.GroupReport r not h = owned_same m s
+owned_accepted schema m s bound.SegmentReport r not h = owned_same m s
 owned_accepted schema m s (bound.Refused refusal) r not h = owned_same m s
 
 owned_replied : (schema : Schema) (m : State) (s : ℕ) (b : Bound) (r : Reply) → IsDefined schema m s b r → Owned m s (replied schema (rested m s) s b r)
 owned_replied schema m s b reply.Done h = owned_accepted schema m s b reply.Done (λ refusal e. cc e) h
 owned_replied schema m s b (reply.Affected count) h = owned_accepted schema m s b (reply.Affected count) (λ refusal e. cc e) h
 owned_replied schema m s b (reply.Rows list segments) h = owned_accepted schema m s b (reply.Rows list segments) (λ refusal e. cc e) h
+owned_replied schema m s b (reply.Groups lines buffered) h = owned_accepted schema m s b (reply.Groups lines buffered) (λ refusal e. cc e) h
+owned_replied schema m s b (reply.Segments lines) h = owned_accepted schema m s b (reply.Segments lines) (λ refusal e. cc e) h
 owned_replied schema m s b (reply.Refused refusal) h = owned_refused (rested m s) s refusal
 
-pub defined_of : (schema : Schema) (m : State) (s : ℕ) (b : Bound) (r : Reply) (short : Bool) → (r ≡ reply.Refused Memory) ⊎ ((short ≡ false) × IsReply schema m s b r) → IsDefined schema m s b r
-defined_of schema m s b r short (inl e) = inl e
-defined_of schema m s b r short (inr h) = inr h.1
+-- want of memory and want of a group id are refusals
+pub defined_of : (schema : Schema) (m : State) (s : ℕ) (b : Bound) (r : Reply) (short : Bool) → (r ≡ reply.Refused Memory) ⊎ ((short ≡ false) × (IsReply schema m s b r ⊎ IsOutOfIds schema m s b r)) → IsDefined schema m s b r
+defined_of schema m s b r short (inl e) = inl (Memory, e)
+defined_of schema m s b r short (inr h) = at h.1
+  where
+    at : IsReply schema m s b r ⊎ IsOutOfIds schema m s b r → IsDefined schema m s b r
+    at (inl given) = inr given
+    at (inr out) = inl (Reading 50001 1, out.refuses)
 
 owned_finish : (schema : Schema) (m : State) (s : ℕ) (h : Option Half) (r : Reply) (after : State) → IsFinish schema m s h r after → Owned m s after
 owned_finish schema m s None r after x = absurd x

@@ -19,12 +19,11 @@ use Rattle.cs_model.specs.State.{Txn, Half, State, Begin, seen}
 use Rattle.cs_model.specs.Obstacles.{keys_of, owns, is_above, IsFree}
 use Rattle.cs_model.specs.Steps.{IsStep, Leads, numbered, started, fixed, txn_opened}
 use Rattle.log_laws.specs.Laws.{AreOwners, changes_at, AreOnce, IsUnchanged, IsPinnedHalf, IsSound}
-use Rattle.log_laws.specs.Started.{Shows}
 use Rattle.log_laws.proofs.Framed.{framed, clock_step}
 use Rattle.log_laws.proofs.Entries.{none_is}
 use Rattle.log_laws.proofs.Numbers.{all_drawn, ascends_step, snap_step, commits_of}
 use Rattle.log_laws.proofs.Owners.{has, own_gains, owners_at, not_true, equal, apart_is}
-use Rattle.log_laws.proofs.StartedOn.{shows_after, pinned_on}
+use Rattle.log_laws.proofs.StartedOn.{pinned_after, pinned_on}
 use Rattle.log_laws.proofs.Written.{IsKept, Writes, writes_step}
 
 -- ---- a commit changes a key once
@@ -150,10 +149,7 @@ half_none h o clock e = subst (λ x. IsPinnedHalf x o clock) (sym (none_is h e))
 
 half_own : (begin : Begin) (m : State) (e : Entry) (after : State) → IsStep begin m e after → IsSound m → IsPinnedHalf (after.half (actor_of e)) (after.txns (actor_of e)) after.clock
 half_own begin m (Start s b short) after x p =
-    let shows : Shows (started m s b.value short) s b.value short (seen m.changes (fixed (txn_opened (m.txns s) m.next) false m.clock)) =
-    shows_after m s b.value short (seen m.changes (fixed (txn_opened (m.txns s) m.next) false m.clock)) (p.snapshots s) (λ r n. refl) in
-    subst (λ (z : State). IsPinnedHalf (z.half s) (z.txns s) z.clock) (sym x.2)
-    (subst (λ h. IsPinnedHalf h ((started m s b.value short).txns s) (started m s b.value short).clock) (sym shows.half) shows.pinned)
+    subst (λ (z : State). IsPinnedHalf (z.half s) (z.txns s) z.clock) (sym x.2) (pinned_after m s b.value short (p.snapshots s))
 half_own begin m (Finish s r) after x p = half_none (after.half s) (after.txns s) after.clock (framed begin m (Finish s r) after x).half
 half_own begin m (End s) after x p = half_none (after.half s) (after.txns s) after.clock (framed begin m (End s) after x).half
 half_own begin m (Mover actor work) after x p =

@@ -15,7 +15,7 @@ use Rattle.cs_model.specs.declared.entry.Entry.TheVariants.{Start, Finish, End, 
 use Rattle.cs_model.specs.declared.entry.Bound.{Bound}
 use Rattle.cs_model.specs.declared.entry.Bound.TheVariants as bound
 use Rattle.cs_model.specs.declared.entry.Refusal.{Refusal}
-use Rattle.cs_model.specs.declared.entry.Refusal.TheVariants.{Memory}
+use Rattle.cs_model.specs.declared.entry.Refusal.TheVariants.{Reading, Memory}
 use Rattle.cs_model.specs.declared.entry.Reply.{Reply}
 use Rattle.cs_model.specs.declared.entry.Reply.TheVariants as reply
 use Rattle.cs_model.specs.Actors.{actor_of}
@@ -24,7 +24,7 @@ use Rattle.cs_model.specs.Floors.{snapshot_of}
 use Rattle.cs_model.specs.State.{Txn, Half, State, Begin, schema_now, with}
 use Rattle.cs_model.specs.Kinds.{is_of_table}
 use Rattle.cs_model.specs.Obstacles.{keys_of, owns, is_above, IsFree}
-use Rattle.cs_model.specs.Steps.{IsStep, IsFinish, IsReply, numbered, staged, is_empty, committed, writes_in, wrote, began, unwound, accepted, refused, replied, rested, pinned, next_opened, or_clock, fixed, txn_opened, commits, gone, ends_txn}
+use Rattle.cs_model.specs.Steps.{IsStep, IsFinish, IsReply, IsOutOfIds, numbered, staged, is_empty, committed, writes_in, wrote, began, unwound, accepted, refused, replied, rested, pinned, next_opened, or_clock, fixed, txn_opened, commits, gone, ends_txn}
 use Rattle.cs_model.proofs.Tables.{sorted_none, sorted_put}
 use Rattle.log_laws.specs.Frames.{IsPinnedAt, IsPinned}
 use Rattle.log_laws.specs.Laws.{IsByKey, IsUnchanged, WritesPinned, IsPinnedWriter, IsPinnedHalf}
@@ -188,10 +188,12 @@ writes_accepted schema m s (bound.Delete condition) r not h k pins =
     writes_wrote (rested m s) s (m.txns s) edits refl k (pinned_laid (m.txns s) m.clock edits (pins refl)) (cleared schema m s (m.txns s) (bound.Delete condition) r not h)
 writes_accepted schema m s (bound.Select query) r not h k pins =
     writes_wrote (rested m s) s (m.txns s) [] refl k (pinned_none (m.txns s) k.1) (no_keys (IsClear m s (snapshot_of (m.txns s))))
+writes_accepted schema m s bound.GroupReport r not h k pins = writes_same m s k
+writes_accepted schema m s bound.SegmentReport r not h k pins = writes_same m s k
 writes_accepted schema m s (bound.Refused refusal) r not h k pins = writes_same m s k
 
 -- a reply that is no refusal comes only where the Start found memory
-pins_of : (schema : Schema) (m : State) (s : ℕ) (half : Half) (r : Reply) → IsAccepted r → (r ≡ reply.Refused Memory) ⊎ ((half.short ≡ false) × IsReply schema m s half.bound r)
+pins_of : (schema : Schema) (m : State) (s : ℕ) (half : Half) (r : Reply) → IsAccepted r → (r ≡ reply.Refused Memory) ⊎ ((half.short ≡ false) × (IsReply schema m s half.bound r ⊎ IsOutOfIds schema m s half.bound r))
     → IsPinnedHalf (Some half) (m.txns s) m.clock → Pins m s half.bound
 pins_of schema m s half r not (inl e) pinned of_table = absurd (not Memory e)
 pins_of schema m s half r not (inr h) pinned of_table = pinned of_table h.0
@@ -200,6 +202,8 @@ writes_replied : (schema : Schema) (m : State) (s : ℕ) (b : Bound) (r : Reply)
 writes_replied schema m s b reply.Done h k pins = let not : IsAccepted reply.Done = λ refusal e. cc e in writes_accepted schema m s b reply.Done not h k (pins not)
 writes_replied schema m s b (reply.Affected count) h k pins = let not : IsAccepted (reply.Affected count) = λ refusal e. cc e in writes_accepted schema m s b (reply.Affected count) not h k (pins not)
 writes_replied schema m s b (reply.Rows list segments) h k pins = let not : IsAccepted (reply.Rows list segments) = λ refusal e. cc e in writes_accepted schema m s b (reply.Rows list segments) not h k (pins not)
+writes_replied schema m s b (reply.Groups lines buffered) h k pins = let not : IsAccepted (reply.Groups lines buffered) = λ refusal e. cc e in writes_accepted schema m s b (reply.Groups lines buffered) not h k (pins not)
+writes_replied schema m s b (reply.Segments lines) h k pins = let not : IsAccepted (reply.Segments lines) = λ refusal e. cc e in writes_accepted schema m s b (reply.Segments lines) not h k (pins not)
 writes_replied schema m s b (reply.Refused refusal) h k pins = writes_refused (rested m s) s refusal k
 
 writes_finish : (schema : Schema) (m : State) (s : ℕ) (h : Option Half) (r : Reply) (after : State) → IsFinish schema m s h r after → IsKept m.changes (m.txns s) → IsPinnedHalf h (m.txns s) m.clock → Writes m s after

@@ -15,13 +15,13 @@ ghost use Rattle.cs_model.specs.declared.entry.Entry.{Entry};
 ghost use Rattle.cs_model.specs.declared.entry.Entry.TheVariants.{Start, Finish, End};
 ghost use Rattle.cs_model.specs.declared.entry.Reply.{Reply};
 ghost use Rattle.cs_model.specs.Actors.{entries_of, turns_of, is_begun, has_ended, owed};
-ghost use Rattle.cs_model.specs.Changes.{Table, table};
+ghost use Rattle.cs_model.specs.Changes.{table};
 ghost use Rattle.cs_model.specs.Floors.{IsFloor, snapshots};
 ghost use Rattle.cs_model.specs.State.{State, Begin, begin_of};
 ghost use Rattle.cs_model.specs.Steps.{IsStep, Legal};
 ghost use Rattle.log_laws.specs.Frames.{Frames};
 ghost use Rattle.log_laws.specs.Laws.{AreDistinct, IsSound, MayBegin};
-ghost use Rattle.log_laws.specs.Started.{Starts, IsStarted};
+ghost use Rattle.log_laws.specs.Started.{Begun, Starts, IsStarted};
 
 /// A legal log leads to one state from what it begins with: the events alone decide what is committed, open and half done.
 pub fn one_state()
@@ -65,13 +65,13 @@ pub fn floor_stays()
 {}
 
 /// What a session has begun stays through all entries but its own Starts, Finishes and End: its statement is half done, and
-/// reads the same rows, whatever others begin, commit or end meanwhile, and whatever becomes of the row groups. A Start gives
-/// it: the rows of the snapshot that it takes or has, with the transaction's own writes.
+/// its work stands on the same snapshot and the same own writes, whatever others begin, commit or end meanwhile, and whatever
+/// becomes of the row groups. A Start gives it.
 pub fn started_stays()
-    ensures starts { (begin : Begin) (log : List Entry) (m after : State) (session : ℕ) (b : Arc Bound Global) (short : Bool) (rows : Table) → IsSound begin.state → Legal begin log m
-        → m.half session ≡ None → Starts m session b.value short rows after → IsStarted begin (log ++ Start session b short ∷ []) session b.value short rows }
-    ensures stays { (begin : Begin) (log rest : List Entry) (session : ℕ) (b : Bound) (short : Bool) (rows : Table) → turns_of session rest ≡ []
-        → IsStarted begin log session b short rows → IsStarted begin (log ++ rest) session b short rows }
+    ensures starts { (begin : Begin) (log : List Entry) (m after : State) (session : ℕ) (b : Arc Bound Global) (begun : Begun) → Legal begin log m → m.half session ≡ None
+        → b.value ≡ begun.bound → Starts begin m session begun after → IsStarted begin (log ++ Start session b begun.short ∷ []) session begun }
+    ensures stays { (begin : Begin) (log rest : List Entry) (session : ℕ) (begun : Begun) → turns_of session rest ≡ []
+        → IsStarted begin log session begun → IsStarted begin (log ++ rest) session begun }
 {}
 
 /// The entries that sessions owe: a Start adds its Finish to them, and a Finish and an End take themselves away. So a log

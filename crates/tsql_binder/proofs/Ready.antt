@@ -1,5 +1,5 @@
 -- What a text is bound to can be run: an UPDATE without faults sets no key, and a refusal is one of reading.
-use Rattle.std.proofs.Common.{◌≡◌, ◌≢◌, ℕ, List, [], ◌∷◌, ◌++◌, map, refl, sym, subst, arith, cond, Bool, true, false, All, inl, inr}
+use Rattle.std.proofs.Common.{◌≡◌, ◌≢◌, ℕ, List, [], ◌∷◌, ◌++◌, map, refl, sym, subst, arith, cond, codes, Bool, true, false, All, inl, inr}
 use Rattle.std.specs.Prelude.{Option, None, Some, unwrap_or, Result, Ok, Err, IfOk}
 use Rattle.std.specs.List.{flat_map}
 use Rattle.std.specs.Option.{option_and_then}
@@ -8,8 +8,11 @@ use Rattle.std.proofs.lemmas.Bool.Decides.{nat_tests}
 use Rattle.cs_base.specs.declared.memory.Memory.{Memory}
 use Rattle.cs_types.specs.declared.Schema.{Schema}
 use Rattle.cs_model.specs.declared.expr.Expr.{Expr}
+use Rattle.cs_base.specs.Names.{same_name}
 use Rattle.cs_model.specs.declared.entry.Bound.{Bound}
+use Rattle.cs_model.specs.declared.entry.Bound.TheVariants.{GroupReport, SegmentReport}
 use Rattle.cs_model.specs.Ready.{IsReady}
+use Rattle.tsql_trees.specs.declared.leaf.NameTree.{NameTree}
 use Rattle.tsql_trees.specs.declared.statement.SetTree.{SetTree}
 use Rattle.tsql_trees.specs.declared.statement.Statement.{Statement}
 use Rattle.tsql_trees.specs.declared.statement.Statement.TheVariants as statements
@@ -22,7 +25,8 @@ use Rattle.bind_faults.specs.Faults.{faults, wrong_table, before_all, first_faul
 use Rattle.bind_faults.proofs.Leasts.{least_none}
 use Rattle.bind_forms.specs.Plans.{set_of}
 use Rattle.tsql_binder.specs.Postponed.{is_postponed}
-use Rattle.tsql_binder.specs.Meaning.{later, plan_of, unless, bound_of, bound_or, Means}
+use Rattle.tsql_binder.specs.Reports.{groups_name, segments_name, report_named, report_behind, report_in, is_whole}
+use Rattle.tsql_binder.specs.Meaning.{later, plan_of, unless, reported, bound_but_for, bound_of, bound_or, Means}
 
 -- ---- no faults at all
 
@@ -85,14 +89,52 @@ module _ (schema : Schema) where
   planned_ready (statements.Delete table filter) none = tt
   planned_ready (statements.Select items table filter groups order) none = tt
 
+  -- what is behind `sys.` is a report
+  named_ready : (name : List ℕ) (bound : Bound) → report_named name ≡ Some bound → IsReady schema bound
+  named_ready name bound e = at (same_name name groups_name) (same_name name segments_name) e
+    where
+      at : (g s : Bool) → cond g (Some GroupReport) (cond s (Some SegmentReport) None) ≡ Some bound → IsReady schema bound
+      at true s h = let same : GroupReport ≡ bound = cc h in subst (IsReady schema) same tt
+      at false true h = let same : SegmentReport ≡ bound = cc h in subst (IsReady schema) same tt
+      at false false h = absurd (cc h)
+
+  behind_ready : (first : NameTree) (second : Option NameTree) (bound : Bound) → report_behind first second ≡ Some bound → IsReady schema bound
+  behind_ready first None bound e = absurd (cc e)
+  behind_ready first (Some n) bound e = at (same_name first.bytes (codes "sys")) e
+    where
+      at : (sys : Bool) → cond sys (report_named n.bytes) None ≡ Some bound → IsReady schema bound
+      at true h = named_ready n.bytes bound h
+      at false h = absurd (cc h)
+
+  report_ready : (statement : Statement) (bound : Bound) → report_in statement ≡ Some bound → IsReady schema bound
+  report_ready statements.Begin bound e = absurd (cc e)
+  report_ready statements.Commit bound e = absurd (cc e)
+  report_ready statements.Rollback bound e = absurd (cc e)
+  report_ready statements.SetSnapshot bound e = absurd (cc e)
+  report_ready (statements.SetStatistics on) bound e = absurd (cc e)
+  report_ready (statements.SetLockTimeout number) bound e = absurd (cc e)
+  report_ready (statements.AlterIndex index table compress) bound e = absurd (cc e)
+  report_ready (statements.Insert table names source) bound e = absurd (cc e)
+  report_ready (statements.Update table sets filter) bound e = absurd (cc e)
+  report_ready (statements.Delete table filter) bound e = absurd (cc e)
+  report_ready (statements.Select items table filter groups order) bound e = behind_ready table.first table.second bound e
+
   -- what a statement is bound to
   pub bound_ready : (statement : Statement) (bound : Bound) → bound_of schema statement ≡ Ok bound → IsReady schema bound
-  bound_ready statement bound e = at (is_postponed statement) (first_fault schema statement) refl e
+  bound_ready statement bound e = at (is_postponed statement) (report_in statement) refl e
     where
-      at : (is_later : Bool) (found : Option Fault) → first_fault schema statement ≡ found → cond is_later (Err later) (unless found (plan_of schema statement)) ≡ Ok bound → IsReady schema bound
-      at true found is h = absurd (cc)
-      at false None is h = let same : plan_of schema statement ≡ bound = cc in subst (IsReady schema) same (planned_ready statement (no_faults schema statement is))
-      at false (Some f) is h = absurd (cc)
+      without : (found : Option Fault) → first_fault schema statement ≡ found → unless found (plan_of schema statement) ≡ Ok bound → IsReady schema bound
+      without None is h = let same : plan_of schema statement ≡ bound = cc in subst (IsReady schema) same (planned_ready statement (no_faults schema statement is))
+      without (Some f) is h = absurd (cc)
+
+      with : (whole : Bool) (report : Bound) → report_in statement ≡ Some report → reported whole report ≡ Ok bound → IsReady schema bound
+      with true report is h = let same : report ≡ bound = cc h in subst (IsReady schema) same (report_ready statement report is)
+      with false report is h = absurd (cc h)
+
+      at : (is_later : Bool) (report : Option Bound) → report_in statement ≡ report → cond is_later (Err later) (bound_but_for schema statement report) ≡ Ok bound → IsReady schema bound
+      at true report is h = absurd (cc)
+      at false None is h = without (first_fault schema statement) refl h
+      at false (Some report) is h = with (is_whole statement) report is h
 
   -- what a text means
   pub meant_ready : (text : List ℕ) (bound : Bound) → Means schema text bound → IsReady schema bound

@@ -1,2 +1,3 @@
 pub mod Postponed
+pub mod Reports
 pub mod Meaning

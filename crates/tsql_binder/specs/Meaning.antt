@@ -1,5 +1,5 @@
 -- What the text of a statement means over a schema: its tree's bound form, or its first refusal.
-use Rattle.std.specs.Prelude.{◌≡◌, ◌⊎◌, ℕ, List, Option, None, Some, Result, Ok, Err, if◌then◌else◌}
+use Rattle.std.specs.Prelude.{◌≡◌, ◌⊎◌, ℕ, List, Bool, true, false, Option, None, Some, Result, Ok, Err, if◌then◌else◌}
 use Rattle.cs_types.specs.declared.Schema.{Schema}
 use Rattle.cs_model.specs.declared.entry.Bound.{Bound}
 use Rattle.cs_model.specs.declared.entry.Bound.TheVariants.{Begin, Commit, Rollback, Nothing, Insert, Update, Delete, Select, Refused}
@@ -15,6 +15,7 @@ use Rattle.bind_forms.specs.Plans.{insert_plan, update_plan, query}
 use Rattle.tsql_binder.specs.declared.refusal.BindRefusal.{BindRefusal}
 use Rattle.tsql_binder.specs.declared.refusal.BindRefusal.TheVariants.{At, Memory}
 use Rattle.tsql_binder.specs.Postponed.{is_postponed}
+use Rattle.tsql_binder.specs.Reports.{report_in, is_whole}
 
 -- 50001 at the first byte, for a form that comes later
 abbrev pub later : Fault
@@ -40,9 +41,19 @@ abbrev pub unless : Option Fault → Bound → Result Bound Fault
 unless None bound = Ok bound
 unless (Some f) bound = Err f
 
+-- a SELECT from a report: its bound form where it is `SELECT * FROM` it, and 50001 at the first byte for any other form
+abbrev pub reported : Bool → Bound → Result Bound Fault
+reported true report = Ok report
+reported false report = Err (fault 50001 1)
+
+-- what is no report is looked for faults
+abbrev pub bound_but_for : Schema → Statement → Option Bound → Result Bound Fault
+bound_but_for schema statement None = unless (first_fault schema statement) (plan_of schema statement)
+bound_but_for schema statement (Some report) = reported (is_whole statement) report
+
 -- the bound form of a statement, or its first fault; a form that comes later is refused before all
 abbrev pub bound_of : Schema → Statement → Result Bound Fault
-bound_of schema statement = if is_postponed statement then Err later else unless (first_fault schema statement) (plan_of schema statement)
+bound_of schema statement = if is_postponed statement then Err later else bound_but_for schema statement (report_in statement)
 
 abbrev pub bound_or : Result Bound Fault → Bound
 bound_or (Ok bound) = bound

@@ -10,6 +10,7 @@ ghost use Rattle.tsql_binder.specs.Meaning.{plan_of, bound_of, bound_or, Means, 
 
 use crate::postponed::is_postponed;
 use crate::refusal::BindRefusal;
+use crate::report::{is_whole, report_in};
 use bind_faults::{Fault, first_fault};
 use bind_forms::{filter_of, insert_plan, query, update_plan};
 use cs_base::{Boxed, Memory};
@@ -22,6 +23,12 @@ use tsql_trees::Statement;
 
 /// What a form that comes later is refused for.
 const LATER: Fault = Fault {
+    number: 50_001,
+    at: 1,
+};
+
+/// What a SELECT from a report is refused for that is not `SELECT * FROM` it.
+const OTHER_REPORT: Fault = Fault {
     number: 50_001,
     at: 1,
 };
@@ -75,24 +82,36 @@ fn refused(number: u32, at: u32) -> Bound
     Bound::Refused(Refusal::Reading { number, at })
 }
 
-/// The bound form of a statement over a schema. `At` with its first fault: 50001 at 1 for a form that comes later; then 208
-/// for a table that is not there; then the leftmost fault, at one place the one of the least number. `Memory` where there is
-/// no room for the bound form.
+/// A refusal for a fault.
+fn refusal_at(fault: Fault) -> BindRefusal
+    ensures { result ≡ BindRefusal.At fault.number fault.at }
+{
+    BindRefusal::At {
+        number: fault.number,
+        at: fault.at,
+    }
+}
+
+/// The bound form of a statement over a schema. `At` with its first fault: 50001 at 1 for a form that comes later, and for
+/// a SELECT from a report that is not `SELECT * FROM` it; then 208 for a table that is not there; then the leftmost fault,
+/// at one place the one of the least number. `Memory` where there is no room for the bound form.
 pub fn bind(alloc: Global, schema: &Schema, statement: &Statement) -> Result<Bound, BindRefusal>
     ensures gives { GivesBound (bound_of schema.now statement.now) result }
     // An UPDATE that is bound sets no key.
     ensures ready { IfOk result (IsReady schema.now) }
 {
-    let fault = if is_postponed(statement) {
-        Some(LATER)
-    } else {
-        first_fault(schema, statement)
-    };
-    match fault {
-        Some(fault) => Err(BindRefusal::At {
-            number: fault.number,
-            at: fault.at,
-        }),
+    if is_postponed(statement) {
+        return Err(refusal_at(LATER));
+    }
+    if let Some(report) = report_in(statement) {
+        return if is_whole(statement) {
+            Ok(report)
+        } else {
+            Err(refusal_at(OTHER_REPORT))
+        };
+    }
+    match first_fault(schema, statement) {
+        Some(fault) => Err(refusal_at(fault)),
         None => Ok(plan_of(alloc, schema, statement)?),
     }
 }
