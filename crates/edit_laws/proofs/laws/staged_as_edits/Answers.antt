@@ -1,5 +1,5 @@
-use Rattle.change_list.proofs.Writes.{staged_edits, ascends}
-use Rattle.change_list.proofs.laws.staged_as_edits.Goals as goal
+use Rattle.edit_laws.proofs.Writes.{staged_edits, ascends}
+use Rattle.edit_laws.proofs.laws.staged_as_edits.Goals as goal
 
 pub returns-clause-staged : goal.returns-clause-staged
 returns-clause-staged c = λ own more. staged_edits own more

@@ -1,5 +1,5 @@
-use Rattle.change_list.proofs.Rows.{each_of_changes, each_of_either}
-use Rattle.change_list.proofs.laws.rows_by_edits.Goals as goal
+use Rattle.edit_laws.proofs.Rows.{each_of_changes, each_of_either}
+use Rattle.edit_laws.proofs.laws.rows_by_edits.Goals as goal
 
 pub returns-clause-table : goal.returns-clause-table
 returns-clause-table c = λ changes s. each_of_changes changes s

@@ -10,7 +10,7 @@ ghost use Rattle.cs_model.specs.Changes.{Change, Edit, Table, laid, until, table
 ghost use Rattle.cs_model.specs.Steps.{staged};
 ghost use Rattle.write_set.specs.declared.write.Write.{Write};
 ghost use Rattle.write_set.specs.Writes as writes;
-ghost use Rattle.change_list.specs.Edits.{edits_of};
+ghost use Rattle.edit_laws.specs.Edits.{edits_of};
 
 /// The row of a key in a table with edits laid over it, the keys of both ascending: what the edits make of the key, and
 /// where they have none of it, its row in the table.

@@ -16,9 +16,9 @@ use Rattle.write_set.proofs.Orders.{put_entry}
 use Rattle.write_set.proofs.Puts.{head, tail}
 use Rattle.cs_types.specs.Keys.{key_cmp, same_key}
 use Rattle.cs_model.specs.Steps.{staged}
-use Rattle.change_list.specs.Edits.{edits_of}
+use Rattle.edit_laws.specs.Edits.{edits_of}
 use Rattle.cs_types.proofs.KeyLemmas.{key_total, one_key}
-use Rattle.change_list.proofs.Tables.{Ascends, at}
+use Rattle.edit_laws.proofs.Tables.{Ascends, at}
 
 -- ---- writes that are staged
 
