@@ -1,0 +1,76 @@
+-- An entry moves the groups by the listed transitions alone.
+use Rattle.std.proofs.Common.{◌≡◌, ℕ, ◌+◌, ◌⊎◌, inl, List, [], ◌∷◌, refl, sym, ap, subst}
+use Rattle.std.specs.Prelude.{Contains}
+use Rattle.std.proofs.lemmas.List.Elements.{All-contains}
+use Rattle.cs_model.specs.declared.entry.Entry.{Entry}
+use Rattle.cs_model.specs.declared.entry.Entry.TheVariants.{Start, Finish, End, Mover}
+use Rattle.cs_model.specs.declared.work.Actor.{Actor}
+use Rattle.cs_model.specs.declared.work.Work.{Work}
+use Rattle.cs_model.specs.Changes.{Edit, Change}
+use Rattle.cs_model.specs.State as model
+use Rattle.group_book.specs.Book.{Choice, Claim, Book}
+use Rattle.group_book.specs.Book.Choice.{Compress, Flush, Rebuild, Merge, Settle, Clear, Idle}
+use Rattle.group_book.specs.Choices.{choice, after_choice}
+use Rattle.group_book.specs.Commits.{Sizes, replaced_by, inserted_by}
+use Rattle.group_book.specs.Invariant.{IsClaim, IsBookOf}
+use Rattle.group_book.specs.Orders.{IsReordered}
+use Rattle.group_book.specs.States.{State, state_of, mover_transitions, commit_transitions, GroupsMoveBy}
+use Rattle.group_book.specs.Turns.{after_work}
+use Rattle.group_book.proofs.Committed.{commit_moves}
+use Rattle.group_book.proofs.Moves.{claim_moves, install_moves, flush_moves, release_moves, settle_moves, clear_moves}
+use Rattle.group_book.proofs.Orders.{same_states}
+use Rattle.group_log.specs.Followed.{Ground, committed_edits, book_with, Commits, Works, IsBookStep}
+use Rattle.group_log.specs.Followed.Works.{chosen, out_of_memory, installed, released}
+use Rattle.group_log.specs.Moves.{transitions_of}
+use Rattle.group_log.proofs.Claims.{claim_in}
+
+rests : (transitions : List (State × State)) (book made : Book) → made ≡ book → GroupsMoveBy transitions book made
+rests transitions book made same id = inl (ap (λ (b : Book). state_of b.groups id) (sym same))
+
+moves_reordered : (transitions : List (State × State)) (book made other : Book) → GroupsMoveBy transitions book made → IsReordered made other → GroupsMoveBy transitions book other
+moves_reordered transitions book made other moves r id =
+    subst (λ s. (state_of book.groups id ≡ s) ⊎ Contains transitions (state_of book.groups id, s)) (same_states made other r id) (moves id)
+
+finish_moves : (sizes : Sizes) (m : model.State) (own : List Edit) (book made : Book) → Commits sizes m own book made → GroupsMoveBy commit_transitions book made
+finish_moves sizes m [] book made same = rests commit_transitions book made same
+finish_moves sizes m (edit ∷ own) book made commits =
+    let all : List Edit = edit ∷ own in
+    moves_reordered commit_transitions book (book_with sizes m all book) made (commit_moves sizes book (m.clock + 1) (replaced_by m.changes m.clock all) (inserted_by all)) commits.0
+
+choice_moves : (group_rows : ℕ) (book : Book) (changes : List Change) (floor at : ℕ) (by : Actor) (choice : Choice) → IsBookOf group_rows book changes floor → GroupsMoveBy mover_transitions book (after_choice choice at by book)
+choice_moves group_rows book changes floor at by (Compress source) j = claim_moves by (Compress source) (source ∷ []) at book
+choice_moves group_rows book changes floor at by Flush j = λ id. inl refl
+choice_moves group_rows book changes floor at by (Rebuild source) j = claim_moves by (Rebuild source) (source ∷ []) at book
+choice_moves group_rows book changes floor at by (Merge first second) j = claim_moves by (Merge first second) (first ∷ second ∷ []) at book
+choice_moves group_rows book changes floor at by Settle j = settle_moves at book
+choice_moves group_rows book changes floor at by Clear j = clear_moves book j.groups.by_id
+choice_moves group_rows book changes floor at by Idle j = λ id. inl refl
+
+claim_is : (group_rows : ℕ) (book : Book) (changes : List Change) (floor : ℕ) (claim : Claim) → Contains book.claims claim → IsBookOf group_rows book changes floor → IsClaim group_rows book changes floor claim
+claim_is group_rows book changes floor claim in_list j = All-contains (IsClaim group_rows book changes floor) book.claims claim j.claims.each in_list
+
+work_moves : (group_rows : ℕ) (book : Book) (changes : List Change) (floor : ℕ) (claim : Claim) (choice : Choice) → Contains book.claims claim → IsBookOf group_rows book changes floor
+    → GroupsMoveBy mover_transitions book (after_work choice claim book)
+work_moves group_rows book changes floor claim (Compress source) in_list j = install_moves group_rows book changes floor claim j.groups.by_id (claim_is group_rows book changes floor claim in_list j)
+work_moves group_rows book changes floor claim Flush in_list j = flush_moves claim book
+work_moves group_rows book changes floor claim (Rebuild source) in_list j = install_moves group_rows book changes floor claim j.groups.by_id (claim_is group_rows book changes floor claim in_list j)
+work_moves group_rows book changes floor claim (Merge first second) in_list j = install_moves group_rows book changes floor claim j.groups.by_id (claim_is group_rows book changes floor claim in_list j)
+work_moves group_rows book changes floor claim Settle in_list j = λ id. inl refl
+work_moves group_rows book changes floor claim Clear in_list j = λ id. inl refl
+work_moves group_rows book changes floor claim Idle in_list j = λ id. inl refl
+
+works_move : (sizes : Sizes) (at : ℕ) (by : Actor) (book : Book) (changes : List Change) (floor : ℕ) (w : Work) (made : Book) → IsBookOf sizes.group_rows book changes floor → Works sizes at by book w made
+    → GroupsMoveBy mover_transitions book made
+works_move sizes at by book changes floor w made j (chosen none is) = choice_moves sizes.group_rows book changes floor at by (choice at sizes.group_rows by book) j
+works_move sizes at by book changes floor w made j (out_of_memory none is) = λ id. inl refl
+works_move sizes at by book changes floor w made j (installed claim holds is moved) =
+    moves_reordered mover_transitions book (after_work claim.choice claim book) made (work_moves sizes.group_rows book changes floor claim claim.choice (claim_in by book claim holds) j) moved
+works_move sizes at by book changes floor w made j (released claim holds is) =
+    release_moves sizes.group_rows book changes floor claim j.groups.by_id (claim_is sizes.group_rows book changes floor claim (claim_in by book claim holds) j)
+
+pub step_moves : (origin : Ground) (m after : model.State) (entry : Entry) (book made : Book) (changes : List Change) (floor : ℕ) → IsBookOf origin.sizes.group_rows book changes floor
+    → IsBookStep origin m book entry after made → GroupsMoveBy (transitions_of entry) book made
+step_moves origin m after (Start session b short) book made changes floor j same = rests [] book made same
+step_moves origin m after (Finish session r) book made changes floor j finishes = finish_moves origin.sizes m (committed_edits m after) book made finishes.commits
+step_moves origin m after (End session) book made changes floor j same = rests [] book made same
+step_moves origin m after (Mover by w) book made changes floor j moves = works_move origin.sizes (moves.1).0 by book changes floor w made j (moves.1).2

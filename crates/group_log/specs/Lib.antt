@@ -1,0 +1,5 @@
+pub mod Reports
+pub mod Segments
+pub mod Followed
+pub mod Grounds
+pub mod Moves
