@@ -84,7 +84,7 @@ all-mapped P f (x ∷ xs) all = (all.0, all-mapped P f xs all.1)
 abbrev pub holds_it : Actor → Actor × Claim → Bool
 holds_it actor held = same_actor held.0 actor
 
-first_made : {X : Type 0} (f : X → book.Claim) (xs : List X) → first_claim (map f xs) ≡ option_map f (first_of xs)
+pub first_made : {X : Type 0} (f : X → book.Claim) (xs : List X) → first_claim (map f xs) ≡ option_map f (first_of xs)
 first_made f [] = refl
 first_made f (x ∷ xs) = refl
 

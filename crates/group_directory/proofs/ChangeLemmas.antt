@@ -1,6 +1,7 @@
 -- A list of groups whose open store has changed.
 use Rattle.std.proofs.Common.{◌-◌, min, max, cond, not, ◌≡◌, ℕ, suc, ◌<◌, ◌≤◌, ◌+◌, Bool, true, false, List, [], ◌∷◌, ◌++◌, map, length, get_or, set, Option, Some, None, refl, sym, ap, subst, ◌∙◌, arith}
 use Rattle.std.specs.List.{All, AllByRecursion}
+use Rattle.std.specs.Prelude.{nat_lt}
 use Rattle.std.specs.List.Sorted.{IsPermutation}
 use Rattle.cs_types.specs.declared.Key.{Key}
 use Rattle.cs_types.specs.Keys.{same_key}
@@ -14,18 +15,20 @@ use Rattle.group_book.specs.Commits.{is_live, has_live, new_version, with_versio
 use Rattle.group_book.proofs.Lists.{all-append}
 use Rattle.group_book.proofs.Made.{endings_of as ended_at}
 use Rattle.group_book.specs.Book as book
-use Rattle.group_book.specs.Book.{Version, Content, opened}
+use Rattle.group_book.specs.Book.{Content as book_content}
+use Rattle.group_book.specs.Book.{Version, Content, opened, is_compressed}
 use Rattle.group_view.specs.declared.groups.GroupContent.{GroupContent}
 use Rattle.group_view.specs.declared.groups.GroupContent.TheVariants.{Opened, Closed, Compressed, Invisible, Tombstone}
 use Rattle.group_view.specs.declared.groups.Group.{Group}
 use Rattle.group_view.specs.declared.groups.GroupList.{GroupList}
-use Rattle.group_view.specs.Parts.{Rowed, stored_version}
+use Rattle.group_view.specs.Parts.{Rowed, stored_version, stored_versions}
 use Rattle.group_view.specs.Books.{versions_of, rowed_in_content, content_of, group_of, claim_of, book_of}
 use Rattle.group_view.specs.Views.{endings_of}
-use Rattle.group_view.specs.Lists.{is_open, listed, IsOpenAt, IsFittingContent, IsHeld}
+use Rattle.group_view.specs.Lists.{is_open, listed, packed_in, IsOpenAt, IsFittingContent, IsHeld}
 use Rattle.group_directory.specs.Committing.{origin_of, origins, not_live, put_in, places_in, places, HasRoomFor, IsReadyFor, IsRoomy, HasRoom}
 use Rattle.group_directory.proofs.OpenLemmas.{IsShut, IsSplit, split, KeepsShut, turned, turned-shut, with_version-shut, with_opened-shut, opened-open, opened-shut}
 use Rattle.group_directory.proofs.BufferLemmas.{buffer_is}
+use Rattle.group_directory.proofs.PackedLaws.{unpacked, open_unpacked, packed-set}
 use Rattle.group_directory.proofs.PutLemmas as put
 
 -- the list with this content at the place, and with another buffer
@@ -34,6 +37,24 @@ changed_list list at here content opened buffer = record list { groups = with_it
 
 pub split_at : (old : GroupList) (at : ℕ) → IsHeld old → old.opened ≡ Some at → IsSplit old.groups.items at
 split_at old at held opened = split old.groups.items at (subst (λ (place : Option ℕ). IsOpenAt old.groups.items place) opened held.opened)
+
+pub open_kind_is : (content : GroupContent) → is_open content ≡ true → is_compressed (content_of content) ≡ false
+open_kind_is (Opened store) is = refl
+open_kind_is (Closed store) is = refl
+open_kind_is (Compressed packed marks) is = cc
+open_kind_is Invisible is = refl
+open_kind_is (Tombstone total deleted) is = refl
+
+put_kind : (group_rows : ℕ) (version : Version) (content : GroupContent) → is_open content ≡ true → is_compressed (with_version group_rows version (content_of content)) ≡ false
+put_kind group_rows version (Opened store) is = store_kind (nat_lt (length (versions_of (stored_versions store.versions) ++ version ∷ [])) group_rows) (versions_of (stored_versions store.versions) ++ version ∷ [])
+  where
+    store_kind : (t : Bool) (versions : List Version) → is_compressed (cond t (book_content.Opened versions) (book_content.Closed versions)) ≡ false
+    store_kind true versions = refl
+    store_kind false versions = refl
+put_kind group_rows version (Closed store) is = refl
+put_kind group_rows version (Compressed packed marks) is = cc
+put_kind group_rows version Invisible is = refl
+put_kind group_rows version (Tombstone total deleted) is = refl
 
 shut_open : false ≡ true → ⊥
 shut_open h = cc
@@ -121,6 +142,13 @@ module _ (old : GroupList) (at : ℕ) (here : Group) (content : GroupContent) (o
       ap listed whole
       ∙ put.listed_same t.before t.group made t.after (ap (λ (group : Group). group.id) same) t.stands stays (rows ∙ ap (λ (group : Group). rowed_in_content group.content) same)
       ∙ ap listed (sym t.whole)
+
+  -- the packed groups stay, whatever the open store becomes
+  pub same_packed : is_compressed (content_of content) ≡ false → packed_in (set old.groups.items at (record here { content = content })) ≡ packed_in old.groups.items
+  same_packed is = packed-set old.groups.items at here (record here { content = content }) read (unpacked here.id content is ∙ sym (open_unpacked here.id here.content (open_here old at here held is_at read)))
+
+  pub put_packed : (group_rows : ℕ) (version : Version) → content_of content ≡ with_version group_rows version (content_of here.content) → packed_in (set old.groups.items at (record here { content = content })) ≡ packed_in old.groups.items
+  put_packed group_rows version is = same_packed (ap is_compressed is ∙ put_kind group_rows version here.content (open_here old at here held is_at read))
 
   pub less_room : (group_rows rows : ℕ) (pool : List Store) → IsRoomy group_rows rows content → places_in group_rows (content_of content) + 1 ≡ places_in group_rows (content_of here.content)
       → HasRoom group_rows (suc rows) 0 old pool → HasRoom group_rows rows 0 (changed_list old at here content opened_at buffer) pool

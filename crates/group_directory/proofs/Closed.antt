@@ -6,16 +6,17 @@ use Rattle.std.specs.Option.{option_map}
 use Rattle.std.proofs.lemmas.List.Elements.{recursion_from_All, All-from_recursion}
 use Rattle.std.proofs.lemmas.Option.{same_Some, slice_get-get_or, slice_get_within}
 use Rattle.group_book.specs.Book as book
-use Rattle.group_book.specs.Book.{is_opened}
+use Rattle.group_book.specs.Book.{is_opened, is_compressed}
 use Rattle.group_book.specs.Choices.{first_of, lowest}
 use Rattle.group_book.specs.Turns.{closed}
 use Rattle.group_view.specs.declared.groups.Group.{Group}
 use Rattle.group_view.specs.declared.groups.GroupContent.{GroupContent}
 use Rattle.group_view.specs.declared.groups.GroupContent.TheVariants as kept
 use Rattle.group_view.specs.Books.{content_of, group_of, rowed_in_content}
-use Rattle.group_view.specs.Lists.{is_open, is_listed, listed, IsOpenAt}
+use Rattle.group_view.specs.Lists.{is_open, is_listed, listed, packed_content, packed_in, IsOpenAt}
 use Rattle.group_directory.proofs.Books.{open_kind}
 use Rattle.group_directory.proofs.Opened.{opens}
+use Rattle.group_directory.proofs.PackedLaws.{unpacked, open_unpacked, packed-set}
 
 abbrev IsShut : Group → Type 0
 IsShut g = opens g ≡ false
@@ -93,6 +94,19 @@ set_shut (g ∷ gs) (suc at) y h shut = (first_shut g gs at h, set_shut gs at y 
 
 pub closed_open : (gs : List Group) (at : ℕ) (y : Group) → IsOpenAt gs (Some at) → opens y ≡ false → IsOpenAt (set gs at y) None
 closed_open gs at y h shut = All-from_recursion IsShut (set gs at y) (set_shut gs at y h shut)
+
+-- the packed groups
+closed_unpacked : (id : ℕ) (old new : GroupContent) → is_open old ≡ true → content_of new ≡ closed (content_of old) → packed_content id new ≡ []
+closed_unpacked id (kept.Opened store) new is made = unpacked id new (ap is_compressed made)
+closed_unpacked id (kept.Closed store) new is made = unpacked id new (ap is_compressed made)
+closed_unpacked id (kept.Compressed packed marks) new is made = cc
+closed_unpacked id kept.Invisible new is made = unpacked id new (ap is_compressed made)
+closed_unpacked id (kept.Tombstone total deleted) new is made = unpacked id new (ap is_compressed made)
+
+pub closed_packed : (gs : List Group) (at : ℕ) (x y : Group) → IsOpenAt gs (Some at) → x ≡ get_or gs at x → content_of y.content ≡ closed (content_of x.content) → packed_in (set gs at y) ≡ packed_in gs
+closed_packed gs at x y h here made =
+    let open_is : is_open x.content ≡ true = same_Some (is_open x.content) true (ap (λ (g : Group). Some (is_open g.content)) here ∙ sym (ap (option_map (λ (group : Group). is_open group.content)) (slice_get-get_or gs at x (open_within gs at h))) ∙ h.0) in
+    packed-set gs at x y here (closed_unpacked y.id x.content y.content open_is made ∙ sym (open_unpacked x.id x.content open_is))
 
 -- the rows that a view shows
 pub listed-set : (gs : List Group) (at : ℕ) (x y : Group) → x ≡ get_or gs at x → y.id ≡ x.id → is_listed y.content ≡ is_listed x.content → rowed_in_content y.content ≡ rowed_in_content x.content → listed (set gs at y) ≡ listed gs

@@ -18,7 +18,7 @@ use Rattle.cs_model.specs.declared.work.Actor.{Actor}
 use Rattle.cs_model.specs.Changes.{Change}
 use Rattle.cs_model.specs.Obstacles.{keys_of}
 use Rattle.cs_model.specs.Steps.{numbered}
-use Rattle.change_list.specs.Edits.{edits_of}
+use Rattle.edit_laws.specs.Edits.{edits_of}
 use Rattle.delete_buffer.specs.Entries.{Ascend}
 use Rattle.write_set.specs.declared.write.Write.{Write}
 use Rattle.write_set.specs.Writes as writes
@@ -33,20 +33,23 @@ use Rattle.group_view.specs.declared.claim.Parcel.{Parcel}
 use Rattle.group_view.specs.declared.groups.Group.{Group}
 use Rattle.group_view.specs.declared.groups.GroupList.{GroupList}
 use Rattle.group_view.specs.Books.{book_of}
-use Rattle.group_view.specs.Lists.{listed, IsHeld}
+use Rattle.group_view.specs.Lists.{listed, packed_in, IsHeld}
 use Rattle.group_view.specs.Laws.{IsRowOf}
-use Rattle.group_view.specs.Parts.{Rowed}
+use Rattle.group_view.specs.Parts.{Rowed, ArePacked}
 use Rattle.group_directory.specs.declared.directory.Directory.{Directory}
 use Rattle.group_directory.specs.Rows.{rooted}
 use Rattle.group_directory.specs.Stands.{width_in, rows_in, listed_rows, IsLoanOf, IsRecent, Stands}
 use Rattle.group_directory.specs.Laws.{rooted_at, noted_by, sizes_of, MayBeList}
-use Rattle.group_directory.specs.Committing.{Origin, origin_of, origins, new_origin, keys_in, packed_keys, parcel_rows, after_parcel}
+use Rattle.group_view.specs.Parcels.{keys_in, packed_keys, parcel_rows}
+use Rattle.group_directory.specs.Committing.{Origin, origin_of, origins, new_origin, rebased, packed_groups, after_parcel}
 use Rattle.group_directory.specs.Calls.{written_in, replaced_in, IsParcelFor}
 use Rattle.group_directory.proofs.KeyLaws.{keys_are, sorted_keys, replaced_are, inserted_are}
 use Rattle.group_directory.proofs.PutLemmas.{keys_up}
 use Rattle.group_directory.proofs.BookLaws.{buffer_low, live_replaced}
 use Rattle.group_directory.proofs.EventLaws.{book_committed}
 use Rattle.group_directory.proofs.GroupLaws.{committed_rows, committed_loans}
+use Rattle.group_directory.proofs.LentLaws.{stay_committed, lent_moved}
+use Rattle.group_directory.proofs.PackedLaws.{packed_after}
 use Rattle.group_directory.proofs.RecentLaws.{noted_low}
 use Rattle.group_directory.proofs.StandLaws.{stands_committed}
 use Rattle.group_directory.proofs.WholeLemmas.{origins_of_listed, zip_keys}
@@ -179,13 +182,18 @@ module _ (directory : Directory) (cs : List Change) (j : Stands directory cs) wh
           (book_committed directory cs j number (edits_of own) (map packed_keys parcel.groups) (sorted_keys own up) (zip_keys parts.0 parcel.groups given.parts.groups))))
 
       pub stands_done : (txns : Table) (recent : Newest) → IsHeld list → list.claims ≡ directory.list.claims → book_of list ≡ after_parcel g c (replaced_in own) parcel (book_of directory.list)
-          → IsPermutation (origins directory.list.groups.items ++ map (new_origin c) (parcel_rows parcel)) (origins list.groups.items) → txn_of txns ≡ with (txn_of directory.txns) session None
+          → IsPermutation (origins directory.list.groups.items ++ map (new_origin c) (parcel_rows parcel)) (origins list.groups.items)
+          → packed_groups list.groups.items ≡ packed_groups directory.list.groups.items ++ map (rebased c) parcel.groups → txn_of txns ≡ with (txn_of directory.txns) session None
           → recent.changes ≡ noted_by (record { commit = c; txn = number }) directory.recent.changes (written_in own)
           → Stands (record directory { list = list; txns = txns; recent = recent; clock = directory.clock + 1 }) (now own)
-      stands_done txns recent held claims book_is moved gone noted =
+      stands_done txns recent held claims book_is moved packed gone noted =
           let rows = committed_rows directory cs j number (edits_of own) (listed_rows list) (parcel_rows parcel) (sorted_keys own up) given.given (roots_moved c directory.list.groups.items list.groups.items (parcel_rows parcel) moved) in
           let loans = subst (λ (all : List (Actor × Claim)). All (IsLoanOf directory.schema.value (now own)) all) (sym (ap (λ (some : Vec (Actor × Claim) Global). some.items) claims)) (committed_loans directory cs j number (edits_of own)) in
-          let may : MayBeList directory list (now own) = record { held = held; rows = rows; loans = loans } in
+          let same = ap (λ (some : Vec (Actor × Claim) Global). some.items) claims in
+          let lent = lent_moved directory.list list (after_parcel g c (replaced_in own) parcel (book_of directory.list)) book_is same
+          (λ claim in_list. stay_committed g (book_of directory.list) cs j.floor j.book claim in_list g c (replaced_in own) (keys_in parcel.rest) (map packed_keys parcel.groups)) j.lent in
+          let are = packed_after directory.schema.value c directory.list.groups.items list.groups.items parcel.groups packed given.begun given.packed j.packed in
+          let may : MayBeList directory list (now own) = record { held = held; rows = rows; packed = are; loans = loans; lent = lent } in
           let keys : written_in own ≡ keys_of (edits_of (own_of (txn_of directory.txns session))) = sym (ap (λ (o : List Write). keys_of (edits_of o)) own_is ∙ keys_are own) in
           subst (λ (o : List Write). Stands (record directory { list = list; txns = txns; recent = recent; clock = directory.clock + 1 }) (now o)) own_is
           (stands_committed directory cs j txns session number list recent
@@ -196,8 +204,8 @@ module _ (directory : Directory) (cs : List Change) (j : Stands directory cs) wh
   -- ---- where nothing has changed but room
 
   pub stands_kept : (list : GroupList) (recent : Newest) → IsHeld list → list.claims ≡ directory.list.claims → book_of list ≡ book_of directory.list → listed list.groups.items ≡ listed directory.list.groups.items
-      → recent.changes ≡ directory.recent.changes → Stands (record directory { list = list; recent = recent }) cs
-  stands_kept list recent held claims book_is rows noted = record {
+      → packed_in list.groups.items ≡ packed_in directory.list.groups.items → recent.changes ≡ directory.recent.changes → Stands (record directory { list = list; recent = recent }) cs
+  stands_kept list recent held claims book_is rows packed noted = record {
     sizes = j.sizes;
     held = held;
     numbered = j.numbered;
@@ -205,7 +213,9 @@ module _ (directory : Directory) (cs : List Change) (j : Stands directory cs) wh
     is_floor = j.is_floor;
     book = subst (λ (whole : Book). IsBookOf directory.sizes.group_rows whole cs j.floor) (sym book_is) j.book;
     rows = subst (λ (groups : List (ℕ × List Rowed)). All (IsRowOf (width_in directory) cs) (rows_in groups)) (sym rows) j.rows;
+    packed = subst (ArePacked directory.schema.value) (sym packed) j.packed;
     loans = subst (λ (all : List (Actor × Claim)). All (IsLoanOf directory.schema.value cs) all) (sym (ap (λ (some : Vec (Actor × Claim) Global). some.items) claims)) j.loans;
+    lent = lent_moved directory.list list (book_of directory.list) book_is (ap (λ (some : Vec (Actor × Claim) Global). some.items) claims) (λ claim in_list. refl) j.lent;
     recent = subst (λ (noted : Changes). IsRecent directory.pruned noted cs) (sym noted) j.recent;
     pruned = j.pruned;
     txns = j.txns;

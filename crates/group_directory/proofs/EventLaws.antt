@@ -29,7 +29,7 @@ use Rattle.group_directory.specs.Stands.{Stands}
 use Rattle.group_directory.specs.Laws.{sizes_of}
 use Rattle.group_directory.proofs.BookLaws.{reach}
 
-mapped_there : {X Y : Type 0} (f : X → Y) (xs : List X) (x : X) → Contains xs x → Contains (map f xs) (f x)
+pub mapped_there : {X Y : Type 0} (f : X → Y) (xs : List X) (x : X) → Contains xs x → Contains (map f xs) (f x)
 mapped_there f xs x (k, within, at) = (k, omega (arith, within, length-map xs f), get_or-map f xs k x ∙ ap f at)
 
 pub claim_at : (directory : Directory) (held : Actor × Claim) → Contains directory.list.claims.items held → Contains (book_of directory.list).claims (claim_of held)

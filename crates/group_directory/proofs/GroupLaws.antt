@@ -33,19 +33,21 @@ use Rattle.group_view.specs.declared.groups.Group.{Group}
 use Rattle.group_view.specs.declared.view.GroupView.{GroupView}
 use Rattle.group_view.specs.declared.parts.GroupPart.{GroupPart}
 use Rattle.group_view.specs.declared.parts.GroupPart.TheVariants.{Packed, Store}
-use Rattle.group_view.specs.Parts.{Rowed, packed_versions, stored_versions, rowed_in}
+use Rattle.group_view.specs.Parts.{Rowed, packed_parts, ArePacked, IsPackedGroup, packed_versions, stored_versions, rowed_in}
 use Rattle.group_view.specs.Views.{endings_of, buffer_of, rowed_of}
 use Rattle.group_view.specs.Books.{versions_of, rowed_in_content, choice_of, claim_of, book_of}
 use Rattle.group_view.specs.Lists.{is_listed, listed}
 use Rattle.group_view.specs.Laws.{IsRowOf, IsViewOf}
 use Rattle.group_view.specs.Claims.{lent_entries, rowed_of_packed, IsMadeOf}
 use Rattle.group_directory.specs.declared.directory.Directory.{Directory}
-use Rattle.group_directory.specs.Rows.{Seen, seen, entry_of, part_entry, rooted, rooted_in}
+use Rattle.group_directory.specs.Rows.{Seen, seen, entry_of, packed_seen, part_entry, rooted, rooted_in}
 use Rattle.group_directory.specs.Claiming.{PartValue, part_value, valued, IsShareOf}
 use Rattle.group_directory.specs.Claiming.PartValue.{PackedValue, StoreValue}
 use Rattle.group_directory.specs.Stands.{width_in, rows_in, listed_rows, IsEndedBy, IsLoanOf, Stands}
-use Rattle.group_directory.specs.Laws.{rooted_at, IsGiven, width_of, IsLookAt}
+use Rattle.group_view.specs.Parcels.{IsGiven}
+use Rattle.group_directory.specs.Laws.{rooted_at, width_of, IsLookAt}
 use Rattle.group_directory.proofs.RowLaws.{rows_moved, rows_later, rows_committed, rows_packed}
+use Rattle.group_directory.proofs.PackedLaws.{packed_picked, packed_shared}
 use Rattle.group_directory.proofs.LoanLaws.{ends_lent, ends_later}
 use Rattle.group_directory.proofs.BookLaws.{each_claim, lows, reach, listed_low, lent_low, listed_versions}
 use Rattle.std.proofs.lemmas.List.Sorted.{IsPermutation-refl}
@@ -141,6 +143,7 @@ module _ (directory : Directory) (cs : List Change) (j : Stands directory cs) wh
         of_table = loan.of_table;
         rows = rows_later (width_in directory) directory.clock txn cs own (rowed_of claim.view) (lent_low directory cs j k d inside) loan.rows;
         ends = ends_later cs directory.clock txn own (lows directory cs j) (buffer_of claim.view) (rowed_of claim.view) (lent_low directory cs j k d inside) loan.ends;
+        packed = loan.packed;
         entries = loan.entries;
       }
 
@@ -179,11 +182,11 @@ module _ (directory : Directory) (view : GroupView) (cs : List Change) (j : Stan
 -- ---- a new claim
 
 -- the versions of a part, by what it shares
-abbrev value_rows : PartValue → List Rowed
+abbrev pub value_rows : PartValue → List Rowed
 value_rows (PackedValue group marks) = packed_versions group.key group.rows marks
 value_rows (StoreValue versions) = stored_versions versions
 
-part_rows : (part : GroupPart) → value_rows (part_value part) ≡ rowed_in part
+pub part_rows : (part : GroupPart) → value_rows (part_value part) ≡ rowed_in part
 part_rows (Packed group marks) = refl
 part_rows (Store store) = refl
 
@@ -201,6 +204,7 @@ loan_shared schema cs by claim other share loan = record {
   rows = subst (All (IsRowOf (length schema.columns) cs)) (sym rows) loan.rows;
   ends = subst (λ (entries : List Ending). All (IsEndedBy cs entries) (versions_of (rowed_of other.view))) (sym buffer)
       (subst (λ (l : List Rowed). All (IsEndedBy cs (buffer_of claim.view)) (versions_of l)) (sym rows) loan.ends);
+  packed = subst (ArePacked schema) (sym (packed_shared claim.view.groups other.view.groups share.groups)) loan.packed;
   entries = λ flush. ap endings_of share.entries ∙ loan.entries (sym (ap choice_of share.choice) ∙ flush)
       ∙ sym (ap (λ (entries : List Ending). entries_for entries (versions_of (rowed_of other.view))) buffer ∙ ap (λ (l : List Rowed). entries_for (buffer_of claim.view) (versions_of l)) rows);
 }
@@ -213,12 +217,15 @@ loan_shared schema cs by claim other share loan = record {
 
 -- a claim of some groups of a directory, with its buffer
 pub loan_made : (directory : Directory) (cs : List Change) (j : Stands directory cs) (by : Actor) (claim : Claim) (test : Seen → Bool) (sources : List ℕ) → claim.schema.value ≡ directory.schema.value
-    → map part_entry claim.view.groups ≡ map entry_of (filter test (map seen directory.list.groups.items)) → claim.view.buffer.value ≡ directory.list.buffer.entries
+    → map part_entry claim.view.groups ≡ map entry_of (filter test (map seen directory.list.groups.items)) → packed_parts claim.view.groups ≡ packed_seen (filter test (map seen directory.list.groups.items))
+    → claim.view.buffer.value ≡ directory.list.buffer.entries
     → versions_of (rowed_of claim.view) ≡ turns.versions_of sources (book_of directory.list).groups → (choice_of claim.choice ≡ Flush → endings_of claim.entries ≡ lent_entries claim)
     → IsLoanOf directory.schema.value cs (by, claim)
-loan_made directory cs j by claim test sources schema groups buffer lent entries = record {
+loan_made directory cs j by claim test sources schema groups shared buffer lent entries = record {
   of_table = schema;
   rows = view_picked (IsRowOf (width_in directory) cs) test directory.list.groups.items claim.view groups j.rows;
+  packed = subst (ArePacked directory.schema.value) (sym shared)
+      (packed_picked (λ (entry : ℕ × packed.Packed). IsPackedGroup directory.schema.value entry.1) test directory.list.groups.items j.packed);
   ends = ends_lent directory.sizes.group_rows j.floor (book_of directory.list) cs sources claim.view j.book (ap endings_of buffer) lent;
   entries = entries;
 }

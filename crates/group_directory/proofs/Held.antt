@@ -19,12 +19,13 @@ use Rattle.group_view.specs.declared.parts.GroupPart.{GroupPart}
 use Rattle.group_view.specs.Parts.{IsFitting}
 use Rattle.group_view.specs.Views.{endings_of}
 use Rattle.group_view.specs.Books.{book_of, claim_of, content_of, group_of}
-use Rattle.group_view.specs.Lists.{is_listed, listed, IsFittingContent, IsHeld, IsOpenAt}
+use Rattle.group_view.specs.Lists.{is_listed, listed, packed_in, IsFittingContent, IsHeld, IsOpenAt}
 use Rattle.group_directory.specs.Sharing.{IsSameList}
 use Rattle.group_directory.specs.Events.{MakesHidden, IsHiddenBy}
 use Rattle.group_directory.proofs.Mapped.{filter-map, how_many-gone}
 use Rattle.group_directory.proofs.Opened.{opens, open-filter}
 use Rattle.group_directory.proofs.Books.{book_is, all-mapped, held_claim, holds_it, invisible_hidden, tombstone_hidden, listed-filter}
+use Rattle.group_directory.proofs.PackedLaws.{packed-filter}
 use Rattle.group_directory.proofs.Shared.{same_groups, same_open}
 
 abbrev pub Fits : Group → Type 0
@@ -94,12 +95,17 @@ module _ (old new : GroupList) (actor : Actor) (place : ℕ) (held : Actor × Cl
       next
       ∙ ap (λ claim. released claim (book_of old)) (sym the_claim)
 
-  pub release_listed : new.groups.items ≡ filter (λ g. not (is_fresh held.1.fresh (group_of g))) old.groups.items → MakesHidden actor (book_of old) → listed new.groups.items ≡ listed old.groups.items
-  release_listed groups hidden =
+  unlisted : MakesHidden actor (book_of old) → AllByRecursion (λ (g : Group). is_fresh held.1.fresh (group_of g) ≡ true → is_listed g.content ≡ false) old.groups.items
+  unlisted hidden =
       let now : IsHiddenBy (map group_of old.groups.items) (Some (claim_of held)) = subst (IsHiddenBy (map group_of old.groups.items)) the_claim hidden in
-      ap listed groups ∙ listed-filter (λ g. is_fresh held.1.fresh (group_of g)) old.groups.items
-      (weaker (λ (g : Group). is_fresh held.1.fresh (group_of g) ≡ true → is_invisible (content_of g.content) ≡ true) (λ (g : Group). is_fresh held.1.fresh (group_of g) ≡ true → is_listed g.content ≡ false) old.groups.items (λ g h fresh. invisible_hidden g.content (h fresh))
-      (all-mapped (λ (g : book.Group). is_fresh held.1.fresh g ≡ true → is_invisible g.content ≡ true) group_of old.groups.items (recursion_from_All (λ (g : book.Group). is_fresh held.1.fresh g ≡ true → is_invisible g.content ≡ true) (map group_of old.groups.items) now)))
+      weaker (λ (g : Group). is_fresh held.1.fresh (group_of g) ≡ true → is_invisible (content_of g.content) ≡ true) (λ (g : Group). is_fresh held.1.fresh (group_of g) ≡ true → is_listed g.content ≡ false) old.groups.items (λ g h fresh. invisible_hidden g.content (h fresh))
+      (all-mapped (λ (g : book.Group). is_fresh held.1.fresh g ≡ true → is_invisible g.content ≡ true) group_of old.groups.items (recursion_from_All (λ (g : book.Group). is_fresh held.1.fresh g ≡ true → is_invisible g.content ≡ true) (map group_of old.groups.items) now))
+
+  pub release_packed : new.groups.items ≡ filter (λ g. not (is_fresh held.1.fresh (group_of g))) old.groups.items → MakesHidden actor (book_of old) → packed_in new.groups.items ≡ packed_in old.groups.items
+  release_packed groups hidden = ap packed_in groups ∙ packed-filter (λ g. is_fresh held.1.fresh (group_of g)) old.groups.items (unlisted hidden)
+
+  pub release_listed : new.groups.items ≡ filter (λ g. not (is_fresh held.1.fresh (group_of g))) old.groups.items → MakesHidden actor (book_of old) → listed new.groups.items ≡ listed old.groups.items
+  release_listed groups hidden = ap listed groups ∙ listed-filter (λ g. is_fresh held.1.fresh (group_of g)) old.groups.items (unlisted hidden)
 
 -- ---- a clear
 
@@ -107,12 +113,15 @@ pub clear_book : (old new : GroupList) → new.groups.items ≡ filter (λ (g : 
 clear_book old new groups claims buffer next =
     book_is (book_of new) (after_clear (book_of old)) (ap (map group_of) groups ∙ sym (filter-map (λ (g : book.Group). not (is_tombstone g.content)) group_of old.groups.items)) (ap endings_of buffer) (ap (map claim_of) claims) next
 
+tombstones_hidden : (gs : List Group) → AllByRecursion (λ (g : Group). is_tombstone (content_of g.content) ≡ true → is_listed g.content ≡ false) gs
+tombstones_hidden [] = tt
+tombstones_hidden (g ∷ gs) = (tombstone_hidden g.content, tombstones_hidden gs)
+
 pub clear_listed : (gs : List Group) → listed (filter (λ (g : Group). not (is_tombstone (content_of g.content))) gs) ≡ listed gs
-clear_listed gs = listed-filter (λ (g : Group). is_tombstone (content_of g.content)) gs (each gs)
-  where
-    each : (xs : List Group) → AllByRecursion (λ (g : Group). is_tombstone (content_of g.content) ≡ true → is_listed g.content ≡ false) xs
-    each [] = tt
-    each (x ∷ xs) = (tombstone_hidden x.content, each xs)
+clear_listed gs = listed-filter (λ (g : Group). is_tombstone (content_of g.content)) gs (tombstones_hidden gs)
+
+pub clear_packed : (gs : List Group) → packed_in (filter (λ (g : Group). not (is_tombstone (content_of g.content))) gs) ≡ packed_in gs
+clear_packed gs = packed-filter (λ (g : Group). is_tombstone (content_of g.content)) gs (tombstones_hidden gs)
 
 pub clear_number : (list : GroupList) (n : ℕ) → n + length (filter (λ (g : Group). not (is_tombstone (content_of g.content))) list.groups.items) ≡ length list.groups.items → n ≡ tombstone_count (book_of list)
 clear_number list n e =

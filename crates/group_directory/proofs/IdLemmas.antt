@@ -10,7 +10,8 @@ use Rattle.group_book.specs.Book.Content.{Opened, Closed, Compressed, Invisible,
 use Rattle.group_book.specs.Commits.{new_version, ended_by, with_opened, with_group, with_version, store_of, stored, after_ends, after_loads, after_rest}
 use Rattle.group_book.proofs.Lists.{how_many-append}
 use Rattle.group_view.specs.declared.claim.Parcel.{Parcel}
-use Rattle.group_directory.specs.Committing.{places_in, places, stores_opened, keys_in, packed_keys, after_parcel}
+use Rattle.group_view.specs.Parcels.{keys_in, packed_keys}
+use Rattle.group_directory.specs.Committing.{places_in, places, stores_opened, after_parcel}
 
 abbrev pub opens_in : Group → Bool
 opens_in group = is_opened group.content

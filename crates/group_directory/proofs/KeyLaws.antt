@@ -10,7 +10,7 @@ use Rattle.write_set.proofs.Puts.{head, tail}
 use Rattle.cs_types.specs.declared.Key.{Key}
 use Rattle.cs_model.specs.Changes.{Edit, Change}
 use Rattle.cs_model.specs.Obstacles.{keys_of}
-use Rattle.change_list.specs.Edits.{edits_of}
+use Rattle.edit_laws.specs.Edits.{edits_of}
 use Rattle.write_set.specs.declared.write.Write.{Write}
 use Rattle.group_book.specs.Commits.{is_in_table, replaced_by, inserted_by}
 

@@ -17,7 +17,8 @@ use Rattle.group_view.specs.declared.groups.GroupContent.TheVariants.{Compressed
 use Rattle.group_view.specs.Parts.{Rowed, packed_version, packed_versions}
 use Rattle.group_view.specs.Books.{versions_of, rowed_in_content, group_of}
 use Rattle.group_view.specs.Lists.{IsFittingContent}
-use Rattle.group_directory.specs.Committing.{Origin, origin_of, origins, new_origin, Load, loaded, IsUnmarked, IsLoadOf, packed_keys, packed_rows}
+use Rattle.group_view.specs.Parcels.{packed_keys, packed_rows}
+use Rattle.group_directory.specs.Committing.{Origin, origin_of, origins, new_origin, Load, loaded, IsUnmarked, IsLoadOf}
 use Rattle.group_directory.proofs.OpenLemmas.{IsShut}
 
 -- ---- the list

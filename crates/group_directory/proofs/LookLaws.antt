@@ -1,5 +1,5 @@
 -- What is seen of a directory.
-use Rattle.std.proofs.Common.{◌≡◌, ℕ, List, map, Bool, true, ◌==◌, Option, Some, None, sym, ap, subst, ◌∙◌, cond, arith}
+use Rattle.std.proofs.Common.{◌≡◌, ℕ, List, map, Bool, true, ◌==◌, Option, Some, None, refl, sym, ap, subst, ◌∙◌, cond, arith}
 use Rattle.std.specs.Prelude.{IfOk, IsSome, Result, Ok, Err}
 use Rattle.std.specs.List.{All}
 use Rattle.std.proofs.lemmas.Bool.Decides.{nat_tests}
@@ -12,9 +12,9 @@ use Rattle.group_book.specs.Invariant.{IsBookOf}
 use Rattle.group_book.proofs.Closed.{close_is}
 use Rattle.group_view.specs.declared.groups.GroupList.{GroupList}
 use Rattle.group_view.specs.declared.view.GroupView.{GroupView}
-use Rattle.group_view.specs.Parts.{Rowed}
-use Rattle.group_view.specs.Books.{book_of}
-use Rattle.group_view.specs.Lists.{listed, IsHeld}
+use Rattle.group_view.specs.Parts.{Rowed, ArePacked}
+use Rattle.group_view.specs.Books.{book_of, StandsAsLent}
+use Rattle.group_view.specs.Lists.{listed, packed_in, IsHeld}
 use Rattle.group_view.specs.Laws.{IsRowOf}
 use Rattle.group_view.specs.Views.{IsView, ShowsTables}
 use Rattle.group_view.proofs.Tables.{is_view, tables_shown}
@@ -24,12 +24,15 @@ use Rattle.group_directory.specs.Sharing.{IsViewOf}
 use Rattle.group_directory.specs.Stands.{width_in, rows_in, IsLoanOf, Stands}
 use Rattle.group_directory.specs.Laws.{IsLookAt}
 use Rattle.group_directory.proofs.GroupLaws.{look_changes, look_book, look_view}
+use Rattle.group_directory.proofs.LentLaws.{stay_closed, lent_moved}
+use Rattle.group_directory.proofs.PackedLaws.{packed_listed}
 use Rattle.group_directory.proofs.StandLaws.{stands_moved}
 
 -- a view of all groups at the floor and the clock is a look
 looks_at : (d : Directory) (floor : ℕ) (view : GroupView) → IsFloor (snapshots_in (txn_of d.txns)) d.clock floor → IsViewOf shows d.list floor d.clock view → map part_entry view.groups ≡ listed d.list.groups.items → IsLookAt d view
 looks_at d floor view is v all = record {
   groups = all;
+  packed = v.packed ∙ packed_listed d.list.groups.items;
   fitting = v.fitting;
   buffer = v.buffer;
   floor = subst (IsFloor (snapshots_in (txn_of d.txns)) d.clock) (sym v.floor) is;
@@ -51,27 +54,34 @@ module _ {E : Type 0} (d : Directory) (floor : ℕ) (is : IsFloor (snapshots_in 
       tables_shown d.sizes.group_rows (width_in d) view (book_of d.list) cs (look_changes d view cs j look) (look_book d view cs j look) (look_view d view cs j look)
   look_shows (Err e) v all = tt
 
--- a list with the same rows and claims, whose book is one of the changes, may stand in the directory's place
+-- a list with the same rows and claims, which stand as they were lent, and whose book is one of the changes, may stand in the
+-- directory's place
 pub stands_listed : (d : Directory) (cs : List Change) → (j : Stands d cs) → (list : GroupList) → IsHeld list → listed list.groups.items ≡ listed d.list.groups.items
-    → list.claims.items ≡ d.list.claims.items → IsBookOf d.sizes.group_rows (book_of list) cs j.floor → Stands (record d { list = list }) cs
-stands_listed d cs j list held rows claims book =
+    → packed_in list.groups.items ≡ packed_in d.list.groups.items → list.claims.items ≡ d.list.claims.items → All (StandsAsLent (book_of list)) list.claims.items → IsBookOf d.sizes.group_rows (book_of list) cs j.floor → Stands (record d { list = list }) cs
+stands_listed d cs j list held rows packed claims lent book =
     stands_moved d cs j list
     (record {
       held = held;
       rows = subst (λ (groups : List (ℕ × List Rowed)). All (IsRowOf (width_in d) cs) (rows_in groups)) (sym rows) j.rows;
+      packed = subst (ArePacked d.schema.value) (sym packed) j.packed;
       loans = subst (All (IsLoanOf d.schema.value cs)) (sym claims) j.loans;
+      lent = lent;
     })
     book
 
 -- one that differs in what it shares alone; and one whose open store is closed
 pub stands_looked : (d : Directory) (cs : List Change) → Stands d cs → (list : GroupList) → IsHeld list → book_of list ≡ book_of d.list → listed list.groups.items ≡ listed d.list.groups.items
-    → list.claims.items ≡ d.list.claims.items → Stands (record d { list = list }) cs
-stands_looked d cs j list held same rows claims = stands_listed d cs j list held rows claims (subst (λ b. IsBookOf d.sizes.group_rows b cs j.floor) (sym same) j.book)
+    → packed_in list.groups.items ≡ packed_in d.list.groups.items → list.claims.items ≡ d.list.claims.items → Stands (record d { list = list }) cs
+stands_looked d cs j list held same rows packed claims =
+    stands_listed d cs j list held rows packed claims (lent_moved d.list list (book_of d.list) same claims (λ claim in_list. refl) j.lent)
+    (subst (λ b. IsBookOf d.sizes.group_rows b cs j.floor) (sym same) j.book)
 
 pub stands_closed : (d : Directory) (cs : List Change) → Stands d cs → (list : GroupList) → IsHeld list → book_of list ≡ after_close (book_of d.list) → listed list.groups.items ≡ listed d.list.groups.items
-    → list.claims.items ≡ d.list.claims.items → Stands (record d { list = list }) cs
-stands_closed d cs j list held is rows claims =
-    stands_listed d cs j list held rows claims (subst (λ b. IsBookOf d.sizes.group_rows b cs j.floor) (sym is) (close_is d.sizes.group_rows (book_of d.list) cs j.floor j.book))
+    → packed_in list.groups.items ≡ packed_in d.list.groups.items → list.claims.items ≡ d.list.claims.items → Stands (record d { list = list }) cs
+stands_closed d cs j list held is rows packed claims =
+    stands_listed d cs j list held rows packed claims
+    (lent_moved d.list list (after_close (book_of d.list)) is claims (λ claim in_list. stay_closed d.sizes.group_rows (book_of d.list) cs j.floor j.book claim in_list) j.lent)
+    (subst (λ b. IsBookOf d.sizes.group_rows b cs j.floor) (sym is) (close_is d.sizes.group_rows (book_of d.list) cs j.floor j.book))
 
 -- a transaction that is there has a snapshot once it is fixed
 pub fixed_there : (clock : ℕ) (o : Option Txn) → IsSome o → IsSome (fixed clock o)

@@ -44,3 +44,10 @@ filter-none p (x ∷ xs) all =
 pub counted : {X : Type 0} (p : X → Bool) (xs : List X) → count_by p xs ≡ how_many p xs
 counted p [] = refl
 counted p (x ∷ xs) = sum_by-cons (λ y. cond (p y) 1 0) x xs ∙ ap (λ n. cond (p x) 1 0 + n) (counted p xs)
+
+-- where none passes, none goes
+pub filter-stays : {X : Type 0} (p : X → Bool) (xs : List X) → All (λ x. p x ≡ false) xs → filter (λ x. not (p x)) xs ≡ xs
+filter-stays p [] all = refl
+filter-stays p (x ∷ xs) all =
+    let no : p x ≡ false = all 0 x (omega arith) in
+    rw no (ap (λ ys. x ∷ ys) (filter-stays p xs (λ k d lt. all (suc k) d (omega (arith, lt)))))

@@ -2,6 +2,7 @@
 use Rattle.std.proofs.Common.{◌≡◌, ℕ, zero, suc, ◌<◌, ◌≤◌, ◌+◌, ◌-◌, min, max, true, false, List, [], ◌∷◌, ◌++◌, map, length, get_or, set, Option, Some, None, refl, sym, ap, subst, ◌∙◌, add-one, arith, vec_len, vec_capacity, cond}
 use Rattle.std.specs.List.{All, AllByRecursion, AllPairs, list_any}
 use Rattle.std.specs.List.Sorted.{IsPermutation}
+use Rattle.std.proofs.lemmas.Grind.{flat_map-append}
 use Rattle.std.proofs.lemmas.List.{append-nil, append_assoc, map-append, length-append, get_or_at, set_at}
 use Rattle.std.proofs.lemmas.List.Elements.{All-from_recursion, recursion_from_All, All-weaker, All-push}
 use Rattle.std.proofs.lemmas.List.Sorted.{IsPermutation-append_right, IsPermutation-append_left, IsPermutation-to_front, IsPermutation-trans}
@@ -20,7 +21,7 @@ use Rattle.group_view.specs.declared.groups.GroupList.{GroupList}
 use Rattle.group_view.specs.Parts.{Rowed, stored_versions}
 use Rattle.group_view.specs.Views.{endings_of}
 use Rattle.group_view.specs.Books.{versions_of, rowed_in_content, content_of, group_of, claim_of, book_of}
-use Rattle.group_view.specs.Lists.{is_open, is_listed, listed, IsOpenAt, IsFittingContent, IsHeld}
+use Rattle.group_view.specs.Lists.{is_open, is_listed, listed, packed_of, packed_in, IsOpenAt, IsFittingContent, IsHeld}
 use Rattle.group_directory.specs.Committing.{Origin, origin_of, origins, put_in, places_in, places, stores_opened, IsRoomy, HasRoom, IsReadyToOpen}
 use Rattle.std.specs.declared.cmp.Ordering.TheVariants.{Less}
 use Rattle.group_directory.proofs.EndLemmas.{less_apart}
@@ -201,6 +202,9 @@ module _ (old new : GroupList) (store : Store) (shut : All IsShut old.groups.ite
       ap origins items ∙ origins-append old.groups.items (added ∷ [])
       ∙ ap (λ (vs : List KeyedVersion). origins old.groups.items ++ (map origin_of (stored_versions vs) ++ [])) empty
       ∙ append-nil (origins old.groups.items)
+
+  pub packed_new : packed_in new.groups.items ≡ packed_in old.groups.items
+  packed_new = ap packed_in items ∙ flat_map-append packed_of old.groups.items (added ∷ []) ∙ append-nil (packed_in old.groups.items)
 
   pub places_new : (group_rows : ℕ) → places group_rows (map group_of new.groups.items) ≡ max 1 group_rows
   places_new group_rows =

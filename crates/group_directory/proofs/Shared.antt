@@ -15,13 +15,14 @@ use Rattle.group_view.specs.declared.groups.Group.{Group}
 use Rattle.group_view.specs.declared.groups.GroupList.{GroupList}
 use Rattle.group_view.specs.declared.parts.GroupPart.{GroupPart}
 use Rattle.group_view.specs.declared.view.GroupView.{GroupView}
-use Rattle.group_view.specs.Parts.{Rowed}
+use Rattle.group_view.specs.Parts.{packed_parts}
 use Rattle.group_view.specs.Books.{group_of}
-use Rattle.group_view.specs.Lists.{is_open, listed, IsOpenAt}
+use Rattle.group_view.specs.Lists.{is_open, listed, packed_in, IsOpenAt}
 use Rattle.group_directory.specs.Rows.{Seen, seen, shows, entry_of, part_entry}
 use Rattle.group_directory.specs.Sharing.{picks, is_next, is_number_of, AreNamed, IsViewOf}
 use Rattle.group_directory.proofs.Books.{open_kind, listed_seen}
 use Rattle.group_directory.proofs.Opened.{opens}
+use Rattle.group_directory.proofs.PackedLaws.{packed_listed}
 
 -- ---- lists whose groups are seen alike
 
@@ -48,35 +49,35 @@ read_at [] k b at = cc
 read_at (g ∷ gs) zero b at = (g, refl, cc)
 read_at (g ∷ gs) (suc k) b at = read_at gs k b at
 
-pub same_open : (gs hs : List Group) (opened : Option ℕ) → map group_of gs ≡ map group_of hs → IsOpenAt gs opened → IsOpenAt hs opened
-same_open gs hs opened e h = by_kinds gs hs opened (opens_book gs ∙ ap (map kind) e ∙ sym (opens_book hs)) h
-  where
-    none_open : (xs ys : List Group) → map opens xs ≡ map opens ys → AllByRecursion (λ g. opens g ≡ false) xs → AllByRecursion (λ g. opens g ≡ false) ys
-    none_open xs [] e all = tt
-    none_open [] (y ∷ ys) e all = cc
-    none_open (x ∷ xs) (y ∷ ys) e all = let here : opens x ≡ opens y = cc in let rest : map opens xs ≡ map opens ys = cc in (sym here ∙ all.0, none_open xs ys rest all.1)
+none_open : (xs ys : List Group) → map opens xs ≡ map opens ys → AllByRecursion (λ g. opens g ≡ false) xs → AllByRecursion (λ g. opens g ≡ false) ys
+none_open xs [] e all = tt
+none_open [] (y ∷ ys) e all = cc
+none_open (x ∷ xs) (y ∷ ys) e all = let here : opens x ≡ opens y = cc in let rest : map opens xs ≡ map opens ys = cc in (sym here ∙ all.0, none_open xs ys rest all.1)
 
-    by_kinds : (xs ys : List Group) (at : Option ℕ) → map opens xs ≡ map opens ys → IsOpenAt xs at → IsOpenAt ys at
-    by_kinds xs ys None e all = All-from_recursion (λ (g : Group). is_open g.content ≡ false) ys (none_open xs ys e (recursion_from_All (λ (g : Group). is_open g.content ≡ false) xs all))
-    by_kinds xs ys (Some at) e h = (
-      sym (slice_get-map opens ys at) ∙ ap (λ l. slice_get l at) (sym e) ∙ slice_get-map opens xs at ∙ h.0,
-      λ other apart g there.
-          let old = read_at xs other (opens g) (ap (λ l. slice_get l other) e ∙ slice_get-map opens ys other ∙ ap (option_map opens) there) in
-          sym old.2 ∙ h.1 other apart old.0 old.1,
-    )
+pub open_alike : (xs ys : List Group) (at : Option ℕ) → map opens xs ≡ map opens ys → IsOpenAt xs at → IsOpenAt ys at
+open_alike xs ys None e all = All-from_recursion (λ (g : Group). is_open g.content ≡ false) ys (none_open xs ys e (recursion_from_All (λ (g : Group). is_open g.content ≡ false) xs all))
+open_alike xs ys (Some at) e h = (
+  sym (slice_get-map opens ys at) ∙ ap (λ l. slice_get l at) (sym e) ∙ slice_get-map opens xs at ∙ h.0,
+  λ other apart g there.
+      let old = read_at xs other (opens g) (ap (λ l. slice_get l other) e ∙ slice_get-map opens ys other ∙ ap (option_map opens) there) in
+      sym old.2 ∙ h.1 other apart old.0 old.1,
+)
+
+pub same_open : (gs hs : List Group) (opened : Option ℕ) → map group_of gs ≡ map group_of hs → IsOpenAt gs opened → IsOpenAt hs opened
+same_open gs hs opened e h = open_alike gs hs opened (opens_book gs ∙ ap (map kind) e ∙ sym (opens_book hs)) h
 
 -- ---- one group more
 
-pub picked_more : (test : Seen → Bool) (all : List Seen) (gs : List Group) (i : ℕ) (g : Group) (done : List (ℕ × List Rowed)) → map seen gs ≡ all → i < length gs → g ≡ get_or gs i g
-    → done ≡ map entry_of (filter test (take i all)) → done ++ map entry_of (filter test (seen g ∷ [])) ≡ map entry_of (filter test (take (i + 1) all))
-picked_more test all gs i g done same inside here is =
+pub picked_more : {X : Type 0} (f : List Seen → List X) → ((xs ys : List Seen) → f (xs ++ ys) ≡ f xs ++ f ys) → (test : Seen → Bool) (all : List Seen) (gs : List Group) (i : ℕ) (g : Group) (done : List X) → map seen gs ≡ all → i < length gs → g ≡ get_or gs i g
+    → done ≡ f (filter test (take i all)) → done ++ f (filter test (seen g ∷ [])) ≡ f (filter test (take (i + 1) all))
+picked_more f joins test all gs i g done same inside here is =
     let within : i < length all = omega (arith, ap length same, length-map gs seen, inside) in
     let item : get_or all i (seen g) ≡ seen g = ap (λ l. get_or l i (seen g)) (sym same) ∙ get_or-map seen gs i g (seen g) inside ∙ ap seen (sym here) in
-    ap (λ l. l ++ map entry_of (filter test (seen g ∷ []))) is
-    ∙ sym (map-append entry_of (filter test (take i all)) (filter test (seen g ∷ [])))
-    ∙ ap (map entry_of) (sym (filter-append test (take i all) (seen g ∷ [])))
-    ∙ ap (λ s. map entry_of (filter test (take i all ++ s ∷ []))) (sym item)
-    ∙ ap (λ l. map entry_of (filter test l)) (sym (take_more all i (seen g) within))
+    ap (λ l. l ++ f (filter test (seen g ∷ []))) is
+    ∙ sym (joins (filter test (take i all)) (filter test (seen g ∷ [])))
+    ∙ ap f (sym (filter-append test (take i all) (seen g ∷ [])))
+    ∙ ap (λ s. f (filter test (take i all ++ s ∷ []))) (sym item)
+    ∙ ap (λ l. f (filter test l)) (sym (take_more all i (seen g) within))
 
 -- ---- the next source
 
@@ -141,3 +142,7 @@ next_picks sources all gs i n g parts named same inside here done count =
 pub shown_listed : {E : Type 0} (r : Result GroupView E) (list : GroupList) (least last : ℕ) → IfOk r (IsViewOf shows list least last) → IfOk r (λ view. map part_entry view.groups ≡ listed list.groups.items)
 shown_listed (Ok view) list least last is = is.groups ∙ sym (listed_seen list.groups.items)
 shown_listed (Err e) list least last is = tt
+
+pub shown_packed : {E : Type 0} (r : Result GroupView E) (list : GroupList) (least last : ℕ) → IfOk r (IsViewOf shows list least last) → IfOk r (λ view. packed_parts view.groups ≡ packed_in list.groups.items)
+shown_packed (Ok view) list least last is = is.packed ∙ packed_listed list.groups.items
+shown_packed (Err e) list least last is = tt

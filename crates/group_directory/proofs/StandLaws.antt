@@ -11,19 +11,21 @@ use Rattle.cs_model.specs.Floors.{IsFloor}
 use Rattle.cs_model.specs.Obstacles.{keys_of}
 use Rattle.cs_model.specs.Steps.{numbered}
 use Rattle.log_laws.proofs.Floors.{floor_one}
-use Rattle.change_list.specs.Edits.{edits_of}
+use Rattle.edit_laws.specs.Edits.{edits_of}
 use Rattle.write_set.specs.declared.write.Write.{Write}
 use Rattle.txn_table.specs.declared.txn.Txn.{Txn}
 use Rattle.txn_table.specs.Txns.{Table, txn_of, with, opened, deepened, fixed, widened, snapshot_of, own_of, snapshots_in}
 use Rattle.version_store.specs.Newest.{Newest, Changes, KeepsAbove}
+use Rattle.row_group.specs.declared.packed.Packed.{Packed}
 use Rattle.group_book.specs.Book.{Book}
 use Rattle.group_book.specs.Stocks.{AreChanges}
 use Rattle.group_book.specs.Invariant.{IsBookOf}
 use Rattle.group_book.proofs.Rise.{book_rise, empty_is}
 use Rattle.group_view.specs.declared.groups.Group.{Group}
 use Rattle.group_view.specs.declared.groups.GroupList.{GroupList}
-use Rattle.group_view.specs.Books.{book_of}
-use Rattle.group_view.specs.Lists.{listed}
+use Rattle.group_view.specs.Books.{book_of, StandsAsLent}
+use Rattle.group_view.specs.Parts.{ArePacked, IsPackedGroup}
+use Rattle.group_view.specs.Lists.{listed, packed_in}
 use Rattle.group_view.specs.Laws.{IsRowOf}
 use Rattle.group_directory.specs.declared.directory.Directory.{Directory}
 use Rattle.group_directory.specs.Stands.{width_in, rows_in, IsLoanOf, IsRecent, AreTxns, Stands}
@@ -61,7 +63,9 @@ module _ (directory : Directory) (cs : List Change) (j : Stands directory cs) wh
       is_floor = is;
       book = book_rise directory.sizes.group_rows (book_of directory.list) cs j.floor floor le j.book;
       rows = j.rows;
+      packed = j.packed;
       loans = j.loans;
+      lent = j.lent;
       recent = j.recent;
       pruned = let low = j.pruned in omega (arith, low, le);
       txns = are;
@@ -130,7 +134,9 @@ module _ (directory : Directory) (cs : List Change) (j : Stands directory cs) wh
           is_floor = found.2;
           book = book_rise directory.sizes.group_rows (book_of list) (cs ++ numbered (directory.clock + 1) number (edits_of (own_of (was session)))) j.floor found.0 found.1 book;
           rows = may.rows;
+          packed = may.packed;
           loans = may.loans;
+          lent = may.lent;
           recent = subst (λ (m : Changes). IsRecent directory.pruned m (cs ++ numbered (directory.clock + 1) number (edits_of (own_of (was session))))) (sym noted)
               (recent_new directory.pruned directory.recent.changes cs j.recent directory.clock number (edits_of (own_of (was session))));
           pruned = let low = j.pruned in let le = found.1 in omega (arith, low, le);
@@ -148,7 +154,9 @@ module _ (directory : Directory) (cs : List Change) (j : Stands directory cs) wh
     is_floor = j.is_floor;
     book = book;
     rows = may.rows;
+    packed = may.packed;
     loans = may.loans;
+    lent = may.lent;
     recent = j.recent;
     pruned = j.pruned;
     txns = j.txns;
@@ -167,7 +175,9 @@ module _ (directory : Directory) (cs : List Change) (j : Stands directory cs) wh
     is_floor = j.is_floor;
     book = j.book;
     rows = j.rows;
+    packed = j.packed;
     loans = j.loans;
+    lent = j.lent;
     recent = recent_pruned directory.pruned directory.recent.changes cs j.recent floor recent.changes (let low = j.pruned in let same = floor_given floor is in omega (arith, low, same)) keeps;
     pruned = let same = floor_given floor is in omega (arith, same);
     txns = j.txns;
@@ -184,7 +194,9 @@ stands_new directory n = record {
   is_floor = record { least = λ session s is. absurd (none_some s (sym (none session) ∙ is)); one_of = inr (refl, none) };
   book = subst (λ (b : Book). IsBookOf directory.sizes.group_rows b [] directory.clock) (sym n.book) (empty_is directory.sizes.group_rows directory.clock);
   rows = subst (λ (groups : List Group). All (IsRowOf (width_in directory) []) (rows_in (listed groups))) (sym n.groups) (All-nil (IsRowOf (width_in directory) []));
+  packed = subst (λ (groups : List Group). ArePacked directory.schema.value (packed_in groups)) (sym n.groups) (All-nil (λ (entry : ℕ × Packed). IsPackedGroup directory.schema.value entry.1));
   loans = subst (All (IsLoanOf directory.schema.value [])) (sym n.claims) (All-nil (IsLoanOf directory.schema.value []));
+  lent = subst (All (StandsAsLent (book_of directory.list))) (sym n.claims) (All-nil (StandsAsLent (book_of directory.list)));
   recent = subst (λ (m : Changes). IsRecent directory.pruned m []) (sym n.recent) (recent_none directory.pruned);
   pruned = let zero = n.pruned in omega (arith, zero);
   txns = txns_none (txn_of directory.txns) [] directory.clock n.txns;

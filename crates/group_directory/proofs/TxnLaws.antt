@@ -11,7 +11,7 @@ use Rattle.cs_model.specs.Changes.{Edit, Change, table, until, newest, made}
 use Rattle.cs_model.specs.Obstacles.{is_above, has_row}
 use Rattle.cs_model.specs.Steps.{numbered}
 use Rattle.cs_model.proofs.Tables.{row_is}
-use Rattle.change_list.specs.Edits.{edits_of}
+use Rattle.edit_laws.specs.Edits.{edits_of}
 use Rattle.write_set.specs.declared.write.Write.{Write}
 use Rattle.write_set.specs.Writes.{put, staged}
 use Rattle.write_set.proofs.Puts.{All-put, all_tail}

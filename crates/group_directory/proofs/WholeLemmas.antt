@@ -26,7 +26,8 @@ use Rattle.group_view.specs.Books.{rowed_in_content, group_of, book_of}
 use Rattle.group_view.specs.Lists.{is_listed, listed, IsHeld}
 use Rattle.group_directory.specs.declared.committing.CommitRefusal.{CommitRefusal}
 use Rattle.group_directory.specs.declared.committing.CommitRefusal.TheVariants as refusal
-use Rattle.group_directory.specs.Committing.{Origin, origin_of, origins, new_origin, keys_in, Load, loaded, IsLoadOf, places, stores_opened, packed_keys, packed_rows, after_parcel, IsParcelOf}
+use Rattle.group_view.specs.Parcels.{keys_in, packed_keys, packed_rows, IsParcelOf}
+use Rattle.group_directory.specs.Committing.{Origin, origin_of, origins, new_origin, Load, loaded, IsLoadOf, places, stores_opened, after_parcel}
 use Rattle.group_directory.proofs.PutLemmas.{origins-append}
 use Rattle.group_directory.proofs.LoadLemmas.{origins_loaded, book_with_loads, grown}
 use Rattle.group_directory.proofs.CommitLemmas.{one_open, book_grown}

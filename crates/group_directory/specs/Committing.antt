@@ -1,20 +1,17 @@
 -- What a commit makes of a list of groups, and the room that it takes first.
-use Rattle.std.specs.Prelude.{◌≡◌, ◌≤◌, ◌<◌, ◌+◌, ◌-◌, ◌^◌, ℕ, zero, suc, min, max, not, List, [], ◌∷◌, ◌++◌, map, filter, length, replicate, Option, None, Some, All, IsPermutation, vec_len, vec_capacity}
-use Rattle.std.specs.List.{AllZip}
+use Rattle.std.specs.Prelude.{◌≡◌, ◌≤◌, ◌<◌, ◌+◌, ◌-◌, ◌^◌, ℕ, zero, suc, min, max, not, List, [], ◌∷◌, ◌++◌, map, filter, length, replicate, Option, None, Some, All, vec_len, vec_capacity}
 use Rattle.std.specs.declared.alloc.Global.{Global}
 use Rattle.std.specs.declared.sync.Arc.{Arc}
 use Rattle.cs_types.specs.declared.Key.{Key}
 use Rattle.cs_types.specs.declared.Value.{Value}
-use Rattle.cs_types.specs.Rows.{key_in}
 use Rattle.row_group.specs.declared.packed.Packed.{Packed}
-use Rattle.row_group.specs.Rows.{PackedRow}
 use Rattle.row_group.specs.Groups.{begun_at}
 use Rattle.delete_bitmap.specs.declared.Marks.{Marks}
 use Rattle.delta_store.specs.Versions.{Store, IsReady}
 use Rattle.group_book.specs.Book as book
 use Rattle.group_book.specs.Book.{Content, Book, opened}
 use Rattle.group_book.specs.Book.{Content as content}
-use Rattle.group_book.specs.Commits.{Sizes, has_live, direct_parts, with_version, after_ends, after_loads, after_rest}
+use Rattle.group_book.specs.Commits.{has_live, with_version, after_ends, after_loads, after_rest}
 use Rattle.group_book.specs.Book.{Version}
 use Rattle.group_view.specs.declared.groups.GroupContent.{GroupContent}
 use Rattle.group_view.specs.declared.groups.GroupContent.TheVariants.{Opened, Closed, Compressed, Invisible, Tombstone}
@@ -22,6 +19,8 @@ use Rattle.group_view.specs.declared.groups.Group.{Group}
 use Rattle.group_view.specs.declared.groups.GroupList.{GroupList}
 use Rattle.group_view.specs.declared.claim.Parcel.{Parcel}
 use Rattle.group_view.specs.Parts.{Rowed}
+use Rattle.group_view.specs.Lists.{packed_in}
+use Rattle.group_view.specs.Parcels.{keys_in, packed_keys}
 use Rattle.group_view.specs.Books.{rowed_in_content, group_of}
 
 -- ---- rows
@@ -43,9 +42,6 @@ origins (group ∷ groups) = map origin_of (rowed_in_content group.content) ++ o
 -- those that a commit of the number c makes of rows with their keys
 abbrev pub new_origin : ℕ → Key × List Value → Origin
 new_origin c entry = record { key = entry.0; begin = c; row = entry.1 }
-
-abbrev pub keys_in : List (Key × List Value) → List Key
-keys_in rows = map (λ (entry : Key × List Value). entry.0) rows
 
 -- ---- room
 
@@ -128,31 +124,19 @@ loaded id (load ∷ loads) = record { id = id; content = Compressed load.0 load.
 abbrev pub IsUnmarked : Load → Type 0
 IsUnmarked load = let packed = load.0.value in load.1.value ≡ replicate (length packed.rows) None
 
+-- the group with this begin for each row
+abbrev pub rebased : ℕ → Packed → Packed
+rebased c group = record group { rows = map (begun_at c) group.rows; base = c }
+
 -- the load is the group with this begin
 abbrev pub IsLoadOf : ℕ → Packed → Load → Type 0
-IsLoadOf c group load = (load.0.value ≡ record group { rows = map (begun_at c) group.rows; base = c }) × IsUnmarked load
+IsLoadOf c group load = (load.0.value ≡ rebased c group) × IsUnmarked load
 
--- no row of the group has a begin beside its base
-abbrev pub HasOneBegin : Packed → Type 0
-HasOneBegin group = All (λ row. row.begin ≡ group.base) group.rows
+-- the COMPRESSED groups of a list, without their bitmaps
+abbrev pub packed_groups : List Group → List Packed
+packed_groups groups = map (λ (entry : ℕ × Packed). entry.1) (packed_in groups)
 
 -- ---- the parcel of a commit
-
-abbrev pub packed_keys : Packed → List Key
-packed_keys group = map (λ (row : PackedRow). key_in group.key row.cells) group.rows
-
-abbrev pub packed_rows : List Packed → List (Key × List Value)
-packed_rows [] = []
-packed_rows (group ∷ groups) = map (λ (row : PackedRow). (key_in group.key row.cells, row.cells)) group.rows ++ packed_rows groups
-
--- the parcel is of these keys: each part that loads directly is a group, with its keys in some order, and the rest follows by key
-pub record IsParcelOf (sizes : Sizes) (inserted : List Key) (parcel : Parcel) : Type 0 where
-  pub groups : AllZip (λ (part : List Key) (group : Packed). IsPermutation part (packed_keys group)) (direct_parts (length inserted) sizes inserted).0 parcel.groups
-  pub rest : keys_in parcel.rest ≡ (direct_parts (length inserted) sizes inserted).1
-
--- the rows of a parcel with their keys
-abbrev pub parcel_rows : Parcel → List (Key × List Value)
-parcel_rows parcel = packed_rows parcel.groups ++ parcel.rest
 
 -- a commit of the number c with the rows of a parcel: its groups load directly, each with its rows in its own order
 abbrev pub after_parcel : ℕ → ℕ → List Key → Parcel → Book → Book

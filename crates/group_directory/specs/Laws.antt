@@ -1,10 +1,9 @@
 -- What the laws of a directory ask for and give.
-use Rattle.std.specs.Prelude.{◌≡◌, ◌≢◌, ℕ, ◌≤◌, List, [], map, fold, length, All, Any, Contains, Option, None, Some, false}
-use Rattle.std.specs.Option.{option_map}
+use Rattle.std.specs.Prelude.{◌≡◌, ◌≢◌, ℕ, ◌≤◌, List, [], map, fold, length, All, Contains, Option, None, Some, false}
 use Rattle.std.specs.FinMap as finite
 use Rattle.cs_types.specs.declared.Key.{Key}
 use Rattle.cs_types.specs.declared.Value.{Value}
-use Rattle.cs_model.specs.Changes.{Edit, Change, table, newest}
+use Rattle.cs_model.specs.Changes.{Change, table, newest}
 use Rattle.cs_model.specs.Floors.{IsFloor}
 use Rattle.cs_model.specs.Obstacles.{has_row, is_above}
 use Rattle.write_set.specs.declared.write.Write.{Write}
@@ -18,9 +17,9 @@ use Rattle.group_view.specs.declared.claim.Claim.{Claim}
 use Rattle.group_view.specs.declared.groups.GroupList.{GroupList}
 use Rattle.group_view.specs.declared.parts.GroupPart.{GroupPart}
 use Rattle.group_view.specs.declared.view.GroupView.{GroupView}
-use Rattle.group_view.specs.Parts.{Rowed, padded, IsFitting}
-use Rattle.group_view.specs.Books.{book_of}
-use Rattle.group_view.specs.Lists.{listed, IsHeld}
+use Rattle.group_view.specs.Parts.{Rowed, packed_parts, ArePacked, IsFitting}
+use Rattle.group_view.specs.Books.{book_of, StandsAsLent}
+use Rattle.group_view.specs.Lists.{listed, packed_in, IsHeld}
 use Rattle.group_view.specs.Laws.{IsRowOf}
 use Rattle.group_directory.specs.declared.directory.Directory.{Directory}
 use Rattle.group_directory.specs.Rows.{part_entry, rooted}
@@ -35,10 +34,6 @@ rooted_at c entry = (entry.0, c, entry.1)
 -- each of the versions is one of the old ones, up to its end
 abbrev pub AreAmong : List Rowed → List Rowed → Type 0
 AreAmong old rows = All (Contains (map rooted old)) (map rooted rows)
-
--- one of the edits gives the key this row, in so many cells
-abbrev pub IsGiven : ℕ → List Edit → Key × List Value → Type 0
-IsGiven width own entry = Any (λ (edit : Edit). (edit.0 ≡ entry.0) × (option_map (padded width) edit.1 ≡ Some (padded width entry.1))) own
 
 -- the cells of a row, as the claim has them
 abbrev pub width_of : Claim → ℕ
@@ -73,7 +68,9 @@ sizes_of directory = record { group_rows = directory.sizes.group_rows; direct_ro
 pub record MayBeList (directory : Directory) (list : GroupList) (changes : List Change) : Type 0 where
   pub held : IsHeld list
   pub rows : All (IsRowOf (width_in directory) changes) (listed_rows list)
+  pub packed : ArePacked directory.schema.value (packed_in list.groups.items)
   pub loans : All (IsLoanOf directory.schema.value changes) list.claims.items
+  pub lent : All (StandsAsLent (book_of list)) list.claims.items
 
 -- a new table's directory: no group, no entry, no claim, no transaction and no change
 pub record IsNew (directory : Directory) : Type 0 where
@@ -91,6 +88,7 @@ pub record IsNew (directory : Directory) : Type 0 where
 -- the view shows the directory's groups with its buffer, from its floor to its clock
 pub record IsLookAt (directory : Directory) (view : GroupView) : Type 0 where
   pub groups : map part_entry view.groups ≡ listed directory.list.groups.items
+  pub packed : packed_parts view.groups ≡ packed_in directory.list.groups.items
   pub fitting : All (λ (part : ℕ × GroupPart). IsFitting part.1) view.groups
   pub buffer : view.buffer.value ≡ directory.list.buffer.entries
   pub floor : IsFloor (snapshots_in (txn_of directory.txns)) directory.clock view.floor

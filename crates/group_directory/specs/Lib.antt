@@ -1,9 +1,15 @@
 pub mod Rows
 pub mod Claiming
+pub mod Lending
 pub mod Stands
 pub mod Laws
+pub mod Lent
 pub mod Committing
 pub mod Sharing
+pub mod Settling
+pub mod Claimed
 pub mod Ledgers
 pub mod Events
 pub mod Calls
+pub mod Installing
+pub mod Obstacles

@@ -1,7 +1,9 @@
 -- The groups of a list as the book has them, with their rows.
 use Rattle.std.specs.Prelude.{ℕ, List, Bool, true, false, map}
+use Rattle.std.specs.List.{flat_map}
 use Rattle.cs_types.specs.declared.Key.{Key}
 use Rattle.cs_types.specs.declared.Value.{Value}
+use Rattle.row_group.specs.declared.packed.Packed.{Packed}
 use Rattle.group_book.specs.Book as book
 use Rattle.group_book.specs.Book.{Content}
 use Rattle.group_book.specs.Book.Content.{Opened, Closed, Compressed, Invisible, Tombstone}
@@ -9,15 +11,17 @@ use Rattle.group_view.specs.declared.groups.Group.{Group}
 use Rattle.group_view.specs.declared.parts.GroupPart.{GroupPart}
 use Rattle.group_view.specs.Parts.{Rowed, rowed_in}
 use Rattle.group_view.specs.Books.{group_of, rowed_in_content}
-use Rattle.group_view.specs.Lists.{listed}
+use Rattle.group_view.specs.Lists.{listed, packed_of}
 
--- a group of the book with the versions and rows of its list; whether it shares them is not seen
+-- a group of the book with the versions and rows of its list, and as a packed group where it is COMPRESSED; whether it shares
+-- them is not seen
 pub record Seen : Type 0 where
   pub group : book.Group
   pub rows : List Rowed
+  pub packed : List (ℕ × Packed)
 
 abbrev pub seen : Group → Seen
-seen group = record { group = group_of group; rows = rowed_in_content group.content }
+seen group = record { group = group_of group; rows = rowed_in_content group.content; packed = packed_of group }
 
 -- a view shows groups of this kind
 abbrev pub is_shown : Content → Bool
@@ -33,6 +37,10 @@ shows group = let content = group.group in is_shown content.content
 -- its id and its rows
 abbrev pub entry_of : Seen → ℕ × List Rowed
 entry_of group = let content = group.group in (content.id, group.rows)
+
+-- the packed groups among these
+abbrev pub packed_seen : List Seen → List (ℕ × Packed)
+packed_seen groups = flat_map (λ (group : Seen). group.packed) groups
 
 -- the id and the rows of a part of a view
 abbrev pub part_entry : ℕ × GroupPart → ℕ × List Rowed

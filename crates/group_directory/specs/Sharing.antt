@@ -6,15 +6,16 @@ use Rattle.group_view.specs.declared.groups.GroupContent.{GroupContent}
 use Rattle.group_view.specs.declared.groups.GroupList.{GroupList}
 use Rattle.group_view.specs.declared.parts.GroupPart.{GroupPart}
 use Rattle.group_view.specs.declared.view.GroupView.{GroupView}
-use Rattle.group_view.specs.Parts.{rowed_in, IsFitting}
+use Rattle.group_view.specs.Parts.{rowed_in, packed_part, packed_parts, IsFitting}
 use Rattle.group_view.specs.Books.{rowed_in_content}
-use Rattle.group_view.specs.Lists.{is_listed, IsFittingContent}
-use Rattle.group_directory.specs.Rows.{Seen, seen, shows, entry_of, part_entry}
+use Rattle.group_view.specs.Lists.{is_listed, packed_content, IsFittingContent}
+use Rattle.group_directory.specs.Rows.{Seen, seen, shows, entry_of, packed_seen, part_entry}
 
 -- the part is what a view shows of the group, none where it shows nothing of it
 abbrev pub IsPartOf : GroupContent → Option GroupPart → Type 0
 IsPartOf content None = is_listed content ≡ false
 IsPartOf content (Some part) = (is_listed content ≡ true) × (rowed_in part ≡ rowed_in_content content) × (IsFittingContent content → IsFitting part)
+    × ((id : ℕ) → packed_part (id, part) ≡ packed_content id content)
 
 -- the group is one of these sources
 abbrev pub picks : List ℕ → Seen → Bool
@@ -47,6 +48,7 @@ pub record IsSameList (list other : GroupList) : Type 0 where
 -- the view shows the groups that pass the test, and the whole buffer
 pub record IsViewOf (test : Seen → Bool) (list : GroupList) (least last : ℕ) (view : GroupView) : Type 0 where
   pub groups : map part_entry view.groups ≡ map entry_of (filter test (map seen list.groups.items))
+  pub packed : packed_parts view.groups ≡ packed_seen (filter test (map seen list.groups.items))
   pub fitting : All (λ (part : ℕ × GroupPart). IsFitting part.1) view.groups
   pub buffer : view.buffer.value ≡ list.buffer.entries
   pub floor : view.floor ≡ least

@@ -21,11 +21,11 @@ use Rattle.group_book.specs.Stocks.{AreChanges, next_change}
 use Rattle.group_book.specs.Invariant.{IsBookOf}
 use Rattle.group_view.specs.declared.claim.Claim.{Claim}
 use Rattle.group_view.specs.declared.groups.GroupList.{GroupList}
-use Rattle.group_view.specs.Parts.{Rowed}
+use Rattle.group_view.specs.Parts.{Rowed, packed_parts, ArePacked}
 use Rattle.group_view.specs.Views.{endings_of, buffer_of, rowed_of}
-use Rattle.group_view.specs.Books.{versions_of, choice_of, book_of}
+use Rattle.group_view.specs.Books.{versions_of, choice_of, book_of, StandsAsLent}
 use Rattle.group_view.specs.Claims.{lent_entries}
-use Rattle.group_view.specs.Lists.{listed, IsHeld}
+use Rattle.group_view.specs.Lists.{listed, packed_in, IsHeld}
 use Rattle.group_view.specs.Laws.{IsRowOf}
 use Rattle.group_directory.specs.declared.directory.Directory.{Directory}
 use Rattle.group_directory.specs.declared.directory.Sizes.{Sizes}
@@ -48,11 +48,12 @@ abbrev pub IsEndedBy : List Change → List Ending → Version → Type 0
 IsEndedBy changes buffer version = IfSome (buffered_end buffer version) (λ e. next_change changes version.key version.begin ≡ Some e)
 
 -- what a claim of a table keeps: the table's schema; versions with the rows of their changes, which its buffer ends where these
--- change next, whatever came later; and of a flush the entries that end them
+-- change next, whatever came later; packed groups of the table; and of a flush the entries that end the versions
 pub record IsLoanOf (schema : Schema) (changes : List Change) (held : Actor × Claim) : Type 0 where
   pub of_table : held.1.schema.value ≡ schema
   pub rows : All (IsRowOf (length schema.columns) changes) (rowed_of held.1.view)
   pub ends : All (IsEndedBy changes (buffer_of held.1.view)) (versions_of (rowed_of held.1.view))
+  pub packed : ArePacked schema (packed_parts held.1.view.groups)
   pub entries : choice_of held.1.choice ≡ Flush → endings_of held.1.entries ≡ lent_entries held.1
 
 -- ---- newest changes
@@ -86,8 +87,9 @@ pub record AreSizes (sizes : Sizes) : Type 0 where
   pub least_direct : 1 ≤ sizes.direct_rows
   pub most_direct : sizes.direct_rows ≤ 1048576
 
--- the directory stands for the changes: its book is one of them at the floor, the rows are theirs, and what it keeps of open
--- transactions, of newest changes and of claims agrees with them
+-- the directory stands for the changes: its book is one of them at the floor, the rows are theirs, its COMPRESSED groups are
+-- packed ones of the table, what it keeps of open transactions, of newest changes and of claims agrees with the changes, and the
+-- groups of claims stand as they were lent
 pub record Stands (directory : Directory) (changes : List Change) : Type 0 where
   pub sizes : AreSizes directory.sizes
   pub held : IsHeld directory.list
@@ -96,7 +98,9 @@ pub record Stands (directory : Directory) (changes : List Change) : Type 0 where
   pub is_floor : IsFloor (snapshots_in (txn_of directory.txns)) directory.clock floor
   pub book : IsBookOf directory.sizes.group_rows (book_of directory.list) changes floor
   pub rows : All (IsRowOf (width_in directory) changes) (listed_rows directory.list)
+  pub packed : ArePacked directory.schema.value (packed_in directory.list.groups.items)
   pub loans : All (IsLoanOf directory.schema.value changes) directory.list.claims.items
+  pub lent : All (StandsAsLent (book_of directory.list)) directory.list.claims.items
   pub recent : IsRecent directory.pruned directory.recent.changes changes
   pub pruned : directory.pruned ≤ floor
   pub txns : AreTxns (txn_of directory.txns) changes directory.clock

@@ -3,6 +3,8 @@ ghost use Rattle.std.specs.Prelude.{◌≡◌, ℕ, ◌+◌, ◌-◌, ◌<◌, �
 ghost use Rattle.cs_model.specs.Changes.{Change};
 ghost use Rattle.cs_model.specs.Floors.{IsFloor};
 ghost use Rattle.txn_table.specs.Txns.{txn_of, with, opened, deepened, widened, depth_of, own_of, snapshots_in, IsSession};
+ghost use Rattle.group_book.specs.Book.{empty};
+ghost use Rattle.group_view.specs.Books.{book_of};
 ghost use Rattle.group_directory.specs.Laws.{MayStage};
 ghost use Rattle.group_directory.specs.Stands.{AreSizes, Stands};
 
@@ -44,6 +46,7 @@ impl Directory {
         ensures txns { IfOk result (λ directory. (session : ℕ) → txn_of directory.txns session ≡ None) }
         ensures next { IfOk result (λ directory. directory.txns.next ≡ 1) }
         ensures clock { IfOk result (λ directory. directory.clock ≡ 0) }
+        ensures book { IfOk result (λ directory. book_of directory.list ≡ empty) }
     {
         let schema = match Arc::new(alloc, schema) {
             Ok(schema) => schema,

@@ -5,7 +5,7 @@ ghost use Rattle.delete_buffer.specs.Entries.{Ascend};
 ghost use Rattle.group_book.specs.Commits.{ended_by, with_opened, after_ends};
 ghost use Rattle.group_view.specs.Parts.{stored_versions};
 ghost use Rattle.group_view.specs.Books.{versions_of, rowed_in_content, content_of, book_of};
-ghost use Rattle.group_view.specs.Lists.{is_open, IsHeld};
+ghost use Rattle.group_view.specs.Lists.{is_open, packed_in, IsHeld};
 ghost use Rattle.group_directory.specs.Committing.{origin_of, origins, not_live, IsReadyFor, IsRoomy, HasRoom};
 
 use cs_types::Key;
@@ -63,6 +63,7 @@ pub(crate) fn end_replaced(list: &mut GroupList, replaced: &[Key], mut others: V
     ensures held { IsHeld list.new }
     ensures claims { list.new.claims ≡ list.old.claims }
     ensures origins { origins list.new.groups.items ≡ origins list.old.groups.items }
+    ensures packed { packed_in list.new.groups.items ≡ packed_in list.old.groups.items }
     ensures room { (group_rows rows loads : ℕ) (pool : List Store) → HasRoom group_rows rows loads list.old pool → HasRoom group_rows rows loads list.new pool }
 {
     // Its contract says that the entries are in order.

@@ -3,7 +3,8 @@ ghost use Rattle.std.specs.Prelude.{◌≡◌, ◌≤◌, ◌<◌, ◌+◌, ◌^
 ghost use Rattle.std.specs.List.{AllZip};
 ghost use Rattle.delta_store.specs.Versions.{Store};
 ghost use Rattle.group_view.specs.Lists.{IsHeld};
-ghost use Rattle.group_directory.specs.Committing.{loaded, IsUnmarked, IsLoadOf, HasOneBegin, HasRoom};
+ghost use Rattle.group_view.specs.Parcels.{HasOneBegin};
+ghost use Rattle.group_directory.specs.Committing.{loaded, IsUnmarked, IsLoadOf, HasRoom};
 
 use cs_base::{Items, Memory};
 use delete_bitmap::Marks;

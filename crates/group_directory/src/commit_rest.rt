@@ -8,9 +8,10 @@ ghost use Rattle.group_book.specs.Book.{Version, opened};
 ghost use Rattle.group_book.specs.Book.Content.{Closed};
 ghost use Rattle.group_book.specs.Commits.{has_live, new_version, with_version, stored, after_rest};
 ghost use Rattle.group_view.specs.Books.{versions_of, rowed_in_content, content_of, group_of, book_of};
-ghost use Rattle.group_view.specs.Lists.{is_open, IsFittingContent, IsHeld};
+ghost use Rattle.group_view.specs.Lists.{is_open, packed_in, IsFittingContent, IsHeld};
 ghost use Rattle.group_view.specs.declared.groups.GroupContent.TheVariants.{Opened};
-ghost use Rattle.group_directory.specs.Committing.{origin_of, origins, new_origin, keys_in, put_in, places_in, HasRoomFor, IsRoomy, HasRoom, IsReadyToOpen};
+ghost use Rattle.group_view.specs.Parcels.{keys_in};
+ghost use Rattle.group_directory.specs.Committing.{origin_of, origins, new_origin, put_in, places_in, HasRoomFor, IsRoomy, HasRoom, IsReadyToOpen};
 
 use cs_base::Items;
 use cs_types::{Key, Row};
@@ -106,6 +107,7 @@ fn open_place(list: &mut GroupList, pool: &mut Vec<Delta>) -> usize
     ensures book { (group_rows : ℕ) (version : Version) → put_in group_rows version (book_of list.new) ≡ stored group_rows version (book_of list.old) }
     ensures live { (key : Key) → has_live key (opened (book_of list.new).groups) ≡ has_live key (opened (book_of list.old).groups) }
     ensures origins { origins list.new.groups.items ≡ origins list.old.groups.items }
+    ensures packed { packed_in list.new.groups.items ≡ packed_in list.old.groups.items }
     ensures room { (group_rows rows : ℕ) → 1 ≤ group_rows → HasRoom group_rows (suc rows) 0 list.old pool.old.items → HasRoom group_rows (suc rows) 0 list.new pool.new.items }
 {
     match list.opened {
@@ -128,6 +130,7 @@ fn put_row(list: &mut GroupList, at: usize, group_rows: u64, key: Key, row: Row,
     ensures held { IsHeld list.new }
     ensures claims { list.new.claims ≡ list.old.claims }
     ensures origins { IsPermutation (origins list.old.groups.items ++ new_origin begin (key, row) ∷ []) (origins list.new.groups.items) }
+    ensures packed { packed_in list.new.groups.items ≡ packed_in list.old.groups.items }
     ensures room { (pool : List Store) (rows : ℕ) → HasRoom group_rows (suc rows) 0 list.old pool → HasRoom group_rows rows 0 list.new pool }
     ensures live { (other : Key) → same_key other key ≡ false → has_live other (opened (book_of list.old).groups) ≡ false → has_live other (opened (book_of list.new).groups) ≡ false }
 {
@@ -154,6 +157,7 @@ fn store_row(
     ensures held { IsHeld list.new }
     ensures claims { list.new.claims ≡ list.old.claims }
     ensures origins { IsPermutation (origins list.old.groups.items ++ new_origin begin (key, row) ∷ []) (origins list.new.groups.items) }
+    ensures packed { packed_in list.new.groups.items ≡ packed_in list.old.groups.items }
     ensures room { (rows : ℕ) → HasRoom group_rows (suc rows) 0 list.old pool.old.items → HasRoom group_rows rows 0 list.new pool.new.items }
     ensures live { (other : Key) → same_key other key ≡ false → has_live other (opened (book_of list.old).groups) ≡ false → has_live other (opened (book_of list.new).groups) ≡ false }
 {
@@ -179,6 +183,7 @@ pub(crate) fn store_rest(
     ensures held { IsHeld list.new }
     ensures claims { list.new.claims ≡ list.old.claims }
     ensures origins { IsPermutation (origins list.old.groups.items ++ map (new_origin c) rest) (origins list.new.groups.items) }
+    ensures packed { packed_in list.new.groups.items ≡ packed_in list.old.groups.items }
 {
     for (key, row) in rest.into_vec() {
         store_row(list, &mut pool, group_rows, key, row, c);

@@ -2,7 +2,7 @@
 ghost use Rattle.std.specs.Prelude.{◌≡◌, ◌≤◌, ◌<◌, ◌+◌, ◌^◌, ◌&&◌, ℕ, List, [], map, length, nat_lt, All, OnOk, IfOk, vec_capacity};
 ghost use Rattle.delta_store.specs.Versions.{Store};
 ghost use Rattle.group_view.specs.Books.{rowed_in_content, content_of, group_of, book_of};
-ghost use Rattle.group_view.specs.Lists.{is_open, listed, IsHeld};
+ghost use Rattle.group_view.specs.Lists.{is_open, listed, packed_in, IsHeld};
 ghost use Rattle.group_directory.specs.Committing.{places_in, places, stores_opened, IsReadyFor, IsRoomy, HasRoom};
 
 use cs_base::Memory;
@@ -111,6 +111,7 @@ fn make_room_in_open(
     ensures held { IsHeld list.new }
     ensures claims { list.new.claims ≡ list.old.claims }
     ensures listed { listed list.new.groups.items ≡ listed list.old.groups.items }
+    ensures packed { packed_in list.new.groups.items ≡ packed_in list.old.groups.items }
     ensures room { OnOk result (All (λ group. IsRoomy group_rows rows group.content) list.new.groups.items) }
     ensures ready { OnOk result (All (λ group. IsReadyFor replaced.now group.content) list.new.groups.items) }
 {
@@ -138,6 +139,7 @@ pub(crate) fn take_room(
     ensures held { IsHeld list.new }
     ensures claims { list.new.claims ≡ list.old.claims }
     ensures listed { listed list.new.groups.items ≡ listed list.old.groups.items }
+    ensures packed { packed_in list.new.groups.items ≡ packed_in list.old.groups.items }
     ensures room { IfOk result (λ room. HasRoom group_rows rows loads list.new room.pool.items) }
     ensures none { IfOk result (λ room. room.others.items ≡ []) }
     ensures others { IfOk result (λ room. length replaced.now ≤ vec_capacity room.others) }

@@ -4,7 +4,7 @@ ghost use Rattle.std.specs.FinMap as finite;
 ghost use Rattle.std.specs.Option.{ForSome};
 ghost use Rattle.cs_model.specs.Changes.{Change};
 ghost use Rattle.cs_model.specs.Steps.{numbered};
-ghost use Rattle.change_list.specs.Edits.{edits_of};
+ghost use Rattle.edit_laws.specs.Edits.{edits_of};
 ghost use Rattle.delete_buffer.specs.Entries as buffer;
 ghost use Rattle.write_set.specs.Writes.{Ascend};
 ghost use Rattle.txn_table.specs.declared.txn.Txn.{Txn};
@@ -12,11 +12,12 @@ ghost use Rattle.txn_table.specs.Txns.{txn_of, with, own_of, IsSession};
 ghost use Rattle.group_book.specs.Book.{opened};
 ghost use Rattle.group_book.specs.Commits.{is_one_of, has_live, draws_past};
 ghost use Rattle.group_view.specs.Books.{book_of};
-ghost use Rattle.group_view.specs.Lists.{listed, IsHeld};
+ghost use Rattle.group_view.specs.Lists.{listed, packed_in, IsHeld};
 ghost use Rattle.group_directory.specs.declared.committing.CommitRefusal.TheVariants as refusal;
 ghost use Rattle.group_directory.specs.Stands.{Stands};
 ghost use Rattle.group_directory.specs.Laws.{noted_by};
-ghost use Rattle.group_directory.specs.Committing.{origins, new_origin, keys_in, HasOneBegin, parcel_rows, after_parcel};
+ghost use Rattle.group_view.specs.Parcels.{keys_in, HasOneBegin, parcel_rows};
+ghost use Rattle.group_directory.specs.Committing.{origins, new_origin, packed_groups, rebased, after_parcel};
 ghost use Rattle.group_directory.specs.Calls.{written_in, replaced_in, commit_number, IsParcelFor, IsAsBefore};
 
 use crate::commit_room::{is_past, stores_needed};
@@ -107,10 +108,12 @@ fn commit_own(
     ensures held { IsHeld list.new }
     ensures claims { list.new.claims ≡ list.old.claims }
     ensures origins { OnOk result (IsPermutation (origins list.old.groups.items ++ map (new_origin change.commit) (parcel_rows parcel)) (origins list.new.groups.items)) }
+    ensures packed { OnOk result (packed_groups list.new.groups.items ≡ packed_groups list.old.groups.items ++ map (rebased change.commit) parcel.groups) }
     ensures noted { OnOk result (recent.new.changes ≡ noted_by change recent.old.changes (written_in own.now)) }
     ensures full { (result ≡ Err refusal.Full) ↔ (draws_past (book_of list.old) (after_parcel group_rows change.commit (replaced_in own.now) parcel (book_of list.old)) ≡ true) }
     ensures same { OnErr result (book_of list.new ≡ book_of list.old) }
     ensures listed { OnErr result (listed list.new.groups.items ≡ listed list.old.groups.items) }
+    ensures same_packed { OnErr result (packed_in list.new.groups.items ≡ packed_in list.old.groups.items) }
     ensures kept { OnErr result (recent.new.changes ≡ recent.old.changes) }
 {
     if is_full(list, group_rows, &parcel) {

@@ -4,9 +4,10 @@ ghost use Rattle.delete_buffer.specs.Entries.{Ascend};
 ghost use Rattle.group_book.specs.Book.{opened};
 ghost use Rattle.group_book.specs.Commits.{is_one_of, has_live, draws_past};
 ghost use Rattle.group_view.specs.Books.{book_of};
-ghost use Rattle.group_view.specs.Lists.{listed, IsHeld};
+ghost use Rattle.group_view.specs.Lists.{listed, packed_in, IsHeld};
 ghost use Rattle.group_directory.specs.declared.committing.CommitRefusal.TheVariants as refusal;
-ghost use Rattle.group_directory.specs.Committing.{origins, new_origin, keys_in, HasOneBegin, parcel_rows, after_parcel};
+ghost use Rattle.group_view.specs.Parcels.{keys_in, HasOneBegin, parcel_rows};
+ghost use Rattle.group_directory.specs.Committing.{origins, new_origin, packed_groups, rebased, after_parcel};
 
 use crate::commit_ends::end_replaced;
 use crate::commit_loads::{load_groups, loads_of};
@@ -65,9 +66,11 @@ pub fn commit(
     ensures held { IsHeld list.new }
     ensures claims { list.new.claims ≡ list.old.claims }
     ensures origins { OnOk result (IsPermutation (origins list.old.groups.items ++ map (new_origin c) (parcel_rows parcel)) (origins list.new.groups.items)) }
+    ensures packed { OnOk result (packed_groups list.new.groups.items ≡ packed_groups list.old.groups.items ++ map (rebased c) parcel.groups) }
     ensures full { (result ≡ Err refusal.Full) ↔ (draws_past (book_of list.old) (after_parcel group_rows c replaced.now parcel (book_of list.old)) ≡ true) }
     ensures same { OnErr result (book_of list.new ≡ book_of list.old) }
     ensures listed { OnErr result (listed list.new.groups.items ≡ listed list.old.groups.items) }
+    ensures kept { OnErr result (packed_in list.new.groups.items ≡ packed_in list.old.groups.items) }
 {
     let Parcel { groups, rest } = parcel;
     let stores = stores_needed(list, group_rows, rest.len());
@@ -101,7 +104,8 @@ ghost use Rattle.group_book.specs.Orders.{IsReordered};
 ghost use Rattle.group_view.specs.declared.claim.Parcel.{Parcel};
 ghost use Rattle.group_view.specs.declared.groups.Group.{Group};
 ghost use Rattle.group_view.specs.Parts.{Rowed};
-ghost use Rattle.group_directory.specs.Committing.{origin_of, IsParcelOf};
+ghost use Rattle.group_view.specs.Parcels.{IsParcelOf};
+ghost use Rattle.group_directory.specs.Committing.{origin_of};
 
 /// A commit with a parcel of the inserted keys is the commit of the book, but for the order in which direct groups have their
 /// rows; without direct groups it is plainly that commit. What `origins` lists are the rows that a view shows.

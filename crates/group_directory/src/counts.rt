@@ -4,11 +4,12 @@ ghost use Rattle.std.specs.List.{flat_map};
 ghost use Rattle.group_book.specs.Book.{deleted, ended_count, total};
 ghost use Rattle.group_view.specs.Books.{book_of, content_of, group_of, rowed_in_closed, versions_of};
 ghost use Rattle.group_view.specs.Lists.{IsFittingContent, IsHeld};
-ghost use Rattle.group_directory.specs.Ledgers.{holders_of, line_of, state_of};
+ghost use Rattle.group_log.specs.Reports.{line_of, state_of};
+ghost use Rattle.group_directory.specs.Ledgers.{holders_of};
 
-use crate::ledger::{GroupLine, GroupState, Ledger};
+use crate::ledger::Ledger;
 use cs_base::{Items, Memory};
-use cs_model::Actor;
+use cs_model::{Actor, GroupLine, GroupState};
 use group_view::{Claim, ClosedStore, Group, GroupContent, GroupList};
 use std::alloc::Global;
 
@@ -56,7 +57,7 @@ fn state(content: &GroupContent) -> GroupState
     ensures { result ≡ state_of (content_of content.now) }
 {
     match content {
-        GroupContent::Opened(_) => GroupState::Open,
+        GroupContent::Opened(_) => GroupState::Opened,
         GroupContent::Closed(_) => GroupState::Closed,
         GroupContent::Compressed(..) => GroupState::Compressed,
         GroupContent::Invisible => GroupState::Invisible,

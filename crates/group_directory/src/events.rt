@@ -1,11 +1,11 @@
 // Events that take no memory: a release, a clear and a close.
 ghost use Rattle.std.specs.Prelude.{◌≡◌, filter, not, false};
 ghost use Rattle.group_book.specs.Book.{is_opened, is_tombstone};
-ghost use Rattle.group_book.specs.Turns.{claim_by, closed, released, after_clear, after_close};
+ghost use Rattle.group_book.specs.Turns.{claim_by, closed, released, same_actor, after_clear, after_close};
 ghost use Rattle.group_book.specs.Choices.{lowest, tombstone_count};
 ghost use Rattle.group_view.specs.Books.{book_of, content_of, rowed_in_content};
 ghost use Rattle.group_view.specs.Lists as spec;
-ghost use Rattle.group_view.specs.Lists.{listed, IsHeld};
+ghost use Rattle.group_view.specs.Lists.{listed, packed_in, IsHeld};
 ghost use Rattle.group_directory.specs.Events.{MakesHidden};
 
 use crate::lists::{claim_place, drop_claims, drop_fresh, open_place};
@@ -20,7 +20,9 @@ pub(crate) fn release(list: &mut GroupList, actor: Actor)
     requires hidden { MakesHidden actor (book_of list.old) }
     ensures book { book_of list.new ≡ released (claim_by actor (book_of list.old)) (book_of list.old) }
     ensures held { IsHeld list.new }
+    ensures claims { list.new.claims.items ≡ filter (λ held. not (same_actor held.0 actor)) list.old.claims.items }
     ensures listed { listed list.new.groups.items ≡ listed list.old.groups.items }
+    ensures packed { packed_in list.new.groups.items ≡ packed_in list.old.groups.items }
 {
     let Some(place) = claim_place(&list.claims, actor) else {
         return;
@@ -54,7 +56,9 @@ pub(crate) fn clear(list: &mut GroupList) -> u64
     ensures book { book_of list.new ≡ after_clear (book_of list.old) }
     ensures number { result ≡ tombstone_count (book_of list.old) }
     ensures held { IsHeld list.new }
+    ensures claims { list.new.claims ≡ list.old.claims }
     ensures listed { listed list.new.groups.items ≡ listed list.old.groups.items }
+    ensures packed { packed_in list.new.groups.items ≡ packed_in list.old.groups.items }
 {
     let before = list.groups.len();
     drop_tombstones(&mut list.groups);
@@ -88,6 +92,7 @@ pub(crate) fn close(list: &mut GroupList) -> Option<u64>
     ensures held { IsHeld list.new }
     ensures claims { list.new.claims ≡ list.old.claims }
     ensures listed { listed list.new.groups.items ≡ listed list.old.groups.items }
+    ensures packed { packed_in list.new.groups.items ≡ packed_in list.old.groups.items }
 {
     let place = match list.opened {
         Some(place) => place,

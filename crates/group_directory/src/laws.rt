@@ -16,7 +16,7 @@ ghost use Rattle.cs_model.specs.Changes.{Edit, Change, newest};
 ghost use Rattle.cs_model.specs.Floors.{IsFloor};
 ghost use Rattle.cs_model.specs.Obstacles.{keys_of, is_above, IsChange};
 ghost use Rattle.cs_model.specs.Steps.{numbered};
-ghost use Rattle.change_list.specs.Edits.{edits_of};
+ghost use Rattle.edit_laws.specs.Edits.{edits_of};
 ghost use Rattle.write_set.specs.declared.write.Write.{Write};
 ghost use Rattle.write_set.specs.Writes.{Ascend};
 ghost use Rattle.txn_table.specs.declared.txn.Txn.{Txn};
@@ -38,15 +38,16 @@ ghost use Rattle.group_view.specs.declared.groups.Group.{Group};
 ghost use Rattle.group_view.specs.declared.view.GroupView.{GroupView};
 ghost use Rattle.group_view.specs.Laws.{IsRowOf, IsViewOf};
 ghost use Rattle.group_view.specs.Lists.{listed};
-ghost use Rattle.group_view.specs.Parts.{Rowed};
+ghost use Rattle.group_view.specs.Parts.{Rowed, packed_parts};
 ghost use Rattle.group_view.specs.Views.{endings_of, buffer_of, rowed_of};
 ghost use Rattle.group_view.specs.Books.{versions_of, rowed_in_content, choice_of, claim_of, book_of};
 ghost use Rattle.group_view.specs.Claims.{padded_rowed, lent_entries, kept_rowed, rowed_of_packed, IsMadeOf};
 ghost use Rattle.group_directory.specs.declared.directory.Directory.{Directory};
-ghost use Rattle.group_directory.specs.Rows.{Seen, seen, entry_of, part_entry, rooted, rooted_in};
+ghost use Rattle.group_directory.specs.Rows.{Seen, seen, entry_of, packed_seen, part_entry, rooted, rooted_in};
 ghost use Rattle.group_directory.specs.Claiming.{IsShareOf};
 ghost use Rattle.group_directory.specs.Stands.{width_in, rows_in, listed_rows, IsEndedBy, IsLoanOf, IsRecent, SayReplaced, AreTxns, Stands};
-ghost use Rattle.group_directory.specs.Laws.{rooted_at, AreAmong, IsGiven, BeginsBy, width_of, noted_by, MayStage, IsLookAt};
+ghost use Rattle.group_view.specs.Parcels.{IsGiven};
+ghost use Rattle.group_directory.specs.Laws.{rooted_at, AreAmong, BeginsBy, width_of, noted_by, MayStage, IsLookAt};
 
 /// Rows stay those of the changes that their versions stem from: of versions that are among others, up to their ends; of the
 /// same ones in another order; where changes come that are numbered above all begins; and of the versions of a commit, the old
@@ -102,7 +103,8 @@ pub fn directory_keeps_rows()
 /// a flush, the entries that end the lent versions. A share of a claim keeps what the claim keeps.
 pub fn new_claims_keep()
     ensures made { (directory : Directory) (changes : List Change) (actor : Actor) (claim : Claim) (test : Seen → Bool) (sources : List ℕ) → Stands directory changes → claim.schema.value ≡ directory.schema.value
-        → map part_entry claim.view.groups ≡ map entry_of (filter test (map seen directory.list.groups.items)) → claim.view.buffer.value ≡ directory.list.buffer.entries
+        → map part_entry claim.view.groups ≡ map entry_of (filter test (map seen directory.list.groups.items)) → packed_parts claim.view.groups ≡ packed_seen (filter test (map seen directory.list.groups.items))
+        → claim.view.buffer.value ≡ directory.list.buffer.entries
         → versions_of (rowed_of claim.view) ≡ turns.versions_of sources (book_of directory.list).groups → (choice_of claim.choice ≡ Flush → endings_of claim.entries ≡ lent_entries claim)
         → IsLoanOf directory.schema.value changes (actor, claim) }
     ensures share { (schema : Schema) (changes : List Change) (actor : Actor) (claim other : Claim) → IsShareOf claim other → IsLoanOf schema changes (actor, claim) → IsLoanOf schema changes (actor, other) }

@@ -6,6 +6,7 @@
 #![tactic(auto)]
 
 mod calls;
+mod claims;
 mod commit_ends;
 mod commit_loads;
 mod commit_rest;
@@ -15,21 +16,31 @@ mod committing;
 mod counts;
 mod directory;
 mod events;
+mod installs;
 mod laws;
 mod ledger;
+mod lent;
 mod lists;
 mod looks;
+mod movers;
+mod obstacles;
+mod reports;
+mod settles;
 mod share;
 mod standing;
 
 pub use committing::{CommitRefusal, commit, parcel_is_a_commit};
 pub use directory::{Directory, Sizes};
+pub use installs::actors_hold_alike;
 pub use laws::{
     commit_keys_are, commits_may_run, directory_keeps_rows, floor_moves, groups_keep_rows,
     loans_end_alike, looks_are_views, new_claims_keep, newest_changes_agree, newest_changes_judge,
     rows_stay, snapshots_lie_within, transactions_agree, work_keeps_rows,
 };
-pub use ledger::{GroupLine, GroupState, Ledger};
+pub use ledger::Ledger;
+pub use lent::{claimed_groups_stay, lent_groups_stand};
+pub use movers::Claimed;
+pub use reports::looks_show_segments;
 pub use standing::{
     books_follow, commit_keeps_standing, groups_keep_standing, new_stands,
     transactions_keep_standing,

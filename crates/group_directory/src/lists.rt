@@ -61,3 +61,10 @@ pub(crate) fn drop_fresh(groups: &mut Vec<Group>, fresh: Option<u64>)
 {
     groups.retain(|group| !is_fresh(group, fresh));
 }
+
+/// The place of the first group of an id, if there is an id.
+pub(crate) fn fresh_place(groups: &[Group], fresh: Option<u64>) -> Option<usize>
+    ensures { result ≡ position (λ group. is_fresh fresh (group_of group)) groups.now }
+{
+    groups.iter().position(|group| is_fresh(group, fresh))
+}

@@ -10,7 +10,8 @@ ghost use Rattle.group_view.specs.Books.{book_of};
 ghost use Rattle.group_view.specs.Lists.{IsHeld};
 ghost use Rattle.group_view.specs.Views.{IsView, ShowsTables};
 ghost use Rattle.group_directory.specs.Laws.{IsLookAt};
-ghost use Rattle.group_directory.specs.Ledgers.{holders_of, line_of};
+ghost use Rattle.group_log.specs.Reports.{line_of};
+ghost use Rattle.group_directory.specs.Ledgers.{holders_of};
 ghost use Rattle.group_directory.specs.Stands.{width_in, Stands};
 
 use crate::counts::ledger;
@@ -45,6 +46,7 @@ impl Directory {
         requires session { IsSession session }
         requires open { IsSome (txn_of self.old.txns session) }
         ensures own { IfOk result (λ pinned. pinned.own ≡ own_of (txn_of self.old.txns session)) }
+        ensures look { IfOk result (λ pinned. IsLookAt self.old pinned.view) }
         ensures snapshot { IfOk result (λ pinned. snapshots_in (txn_of self.new.txns) session ≡ Some pinned.snapshot) }
         ensures view { IfOk result (λ pinned. (changes : List Change) → Stands self.old changes → IsView pinned.view) }
         ensures shows { IfOk result (λ pinned. (changes : List Change) → Stands self.old changes → ShowsTables (width_in self.old) pinned.view changes) }
@@ -53,6 +55,8 @@ impl Directory {
         ensures next { self.new.txns.next ≡ self.old.txns.next }
         ensures book { book_of self.new.list ≡ book_of self.old.list }
         ensures clock { self.new.clock ≡ self.old.clock }
+        ensures rest { self.new ≡ record self.old { list = self.new.list; txns = self.new.txns } }
+        ensures held { IsHeld self.new.list }
         ensures stands { (changes : List Change) → Stands self.old changes → Stands self.new changes }
     {
         let own = self.txns.own(session)?;

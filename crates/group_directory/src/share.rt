@@ -1,9 +1,9 @@
 // Shares of groups, for views and claims.
-ghost use Rattle.std.specs.Prelude.{◌≡◌, ◌++◌, [], ◌∷◌, map, filter, All, OnOk, IfOk};
+ghost use Rattle.std.specs.Prelude.{◌≡◌, ℕ, ◌++◌, [], ◌∷◌, map, filter, All, OnOk, IfOk};
 ghost use Rattle.group_view.specs.Books.{book_of, content_of, rowed_in_closed, rowed_in_content};
-ghost use Rattle.group_view.specs.Lists.{listed, IsFittingContent, IsHeld};
-ghost use Rattle.group_view.specs.Parts.{stored_versions, IsFitting};
-ghost use Rattle.group_directory.specs.Rows.{entry_of, part_entry, seen, shows};
+ghost use Rattle.group_view.specs.Lists.{listed, packed_content, packed_in, IsFittingContent, IsHeld};
+ghost use Rattle.group_view.specs.Parts.{packed_parts, stored_versions, IsFitting};
+ghost use Rattle.group_directory.specs.Rows.{entry_of, packed_seen, part_entry, seen, shows};
 ghost use Rattle.group_directory.specs.Sharing.{is_next, picks, AreNamed, IsPartOf, IsSameList, IsViewOf};
 
 use cs_base::{Items, Memory};
@@ -66,6 +66,7 @@ fn share_packed(packed: &Arc<Packed>, marks: &Arc<Marks>) -> Result<GroupPart, M
 fn share_part(alloc: Global, content: &mut GroupContent) -> Result<Option<GroupPart>, Memory>
     ensures content { content_of content.new ≡ content_of content.old }
     ensures rows { rowed_in_content content.new ≡ rowed_in_content content.old }
+    ensures packed { (id : ℕ) → packed_content id content.new ≡ packed_content id content.old }
     ensures fitting { IsFittingContent content.old → IsFittingContent content.new }
     ensures part { IfOk result (IsPartOf content.old) }
 {
@@ -96,6 +97,7 @@ fn add_share(
     ensures seen { seen group.new ≡ seen group.old }
     ensures kept { IsFittingContent group.new.content }
     ensures parts { OnOk result (map part_entry parts.new ≡ map part_entry parts.old ++ map entry_of (filter shows (seen group.old ∷ []))) }
+    ensures packed { OnOk result (packed_parts parts.new ≡ packed_parts parts.old ++ packed_seen (filter shows (seen group.old ∷ []))) }
     ensures fitting { All (λ part. IsFitting part.1) parts.old → All (λ part. IsFitting part.1) parts.new }
 {
     if let Some(part) = share_part(alloc, &mut group.content)? {
@@ -110,6 +112,7 @@ fn share_listed(alloc: Global, groups: &mut [Group]) -> Result<Items<(u64, Group
     ensures seen { map seen groups.new ≡ map seen groups.old }
     ensures kept { All (λ group. IsFittingContent group.content) groups.new }
     ensures parts { IfOk result (λ parts. map part_entry parts ≡ map entry_of (filter shows (map seen groups.old))) }
+    ensures packed { IfOk result (λ parts. packed_parts parts ≡ packed_seen (filter shows (map seen groups.old))) }
     ensures fitting { IfOk result (All (λ part. IsFitting part.1)) }
 {
     let mut parts = Items::new(alloc);
@@ -155,8 +158,10 @@ pub(crate) fn view_of(
     ensures book { book_of list.new ≡ book_of list.old }
     ensures held { IsHeld list.new }
     ensures listed { listed list.new.groups.items ≡ listed list.old.groups.items }
+    ensures kept { packed_in list.new.groups.items ≡ packed_in list.old.groups.items }
     ensures view { IfOk result (IsViewOf shows list.old floor clock) }
     ensures shown { IfOk result (λ view. map part_entry view.groups ≡ listed list.old.groups.items) }
+    ensures packed { IfOk result (λ view. packed_parts view.groups ≡ packed_in list.old.groups.items) }
 {
     share_view(alloc, list, floor, clock)
 }
@@ -182,6 +187,7 @@ fn share_sources(
     ensures seen { map seen groups.new ≡ map seen groups.old }
     ensures kept { All (λ group. IsFittingContent group.content) groups.new }
     ensures parts { IfOk result (λ parts. map part_entry parts ≡ map entry_of (filter (picks sources.now) (map seen groups.old))) }
+    ensures packed { IfOk result (λ parts. packed_parts parts ≡ packed_seen (filter (picks sources.now) (map seen groups.old))) }
     ensures fitting { IfOk result (All (λ part. IsFitting part.1)) }
 {
     let mut parts = Items::new(alloc);

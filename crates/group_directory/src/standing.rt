@@ -10,7 +10,7 @@ ghost use Rattle.cs_model.specs.Changes.{Edit, Change};
 ghost use Rattle.cs_model.specs.Floors.{IsFloor};
 ghost use Rattle.cs_model.specs.Obstacles.{keys_of};
 ghost use Rattle.cs_model.specs.Steps.{numbered};
-ghost use Rattle.change_list.specs.Edits.{edits_of};
+ghost use Rattle.edit_laws.specs.Edits.{edits_of};
 ghost use Rattle.write_set.specs.declared.write.Write.{Write};
 ghost use Rattle.txn_table.specs.Txns.{Table, txn_of, with, opened, deepened, fixed, widened, own_of, snapshots_in};
 ghost use Rattle.version_store.specs.Newest.{Newest, KeepsAbove};

@@ -5,3 +5,8 @@ pub mod Counts
 pub mod Tables
 pub mod Listed
 pub mod Looked
+pub mod Walks
+pub mod Chosen
+pub mod Counted
+pub mod EndLemmas
+pub mod PairLemmas

@@ -20,16 +20,16 @@ use Rattle.cs_types.specs.declared.Value.{Value}
 use Rattle.cs_types.specs.Keys.{key_cmp, same_key}
 use Rattle.cs_types.proofs.KeyLemmas.{key_total, one_key}
 use Rattle.cs_model.specs.Changes.{Table, Change, table}
-use Rattle.cs_model.proofs.Tables.{table_ascends}
+use Rattle.edit_laws.proofs.Tables.{laid_ascends}
 use Rattle.group_book.specs.Book.{is_visible, shows}
 use Rattle.group_book.proofs.Keys.{key_here, key_is}
 use Rattle.group_view.specs.declared.parts.GroupPart.{GroupPart}
 use Rattle.group_view.specs.declared.view.GroupView.{GroupView}
 use Rattle.group_view.specs.declared.view.Place.{Place}
 use Rattle.group_view.specs.Parts.{Rowed, padded, rowed_in}
-use Rattle.group_view.specs.Views.{buffer_of, rowed_of, version_at, is_shown, shown, padded_table, HidesEach, IsView, Shows, ShowsTables}
+use Rattle.group_view.specs.Views.{buffer_of, rowed_of, version_at, is_shown, shown, shown_edit, shown_table, padded_table, HidesEach, IsView, Shows, ShowsTables}
 use Rattle.group_view.specs.Laws.{shown_row}
-use Rattle.group_view.proofs.Tables.{padded_ascends, rows_shown}
+use Rattle.group_view.proofs.Tables.{shown_permuted}
 
 -- ---- elements of lists
 
@@ -100,12 +100,12 @@ place_of (part ∷ groups) rowed inside = elim (Contains-append_cases (rowed_in 
 
 -- ---- look-ups
 
-module _ (width : ℕ) (view : GroupView) (changes : List Change) (key : Key) (s : ℕ) (is : IsView view) (shows_tables : ShowsTables width view changes) (reach : view.floor ≤ s) (most : s ≤ view.clock) where
+module _ (width : ℕ) (view : GroupView) (key : Key) (s : ℕ) (is : IsView view) (reach : view.floor ≤ s) (most : s ≤ view.clock) where
   abbrev rows : Table
-  rows = padded_table width (table changes s)
+  rows = shown_table width view s
 
   moved : IsPermutation (map (shown_row width) (shown view s)) rows
-  moved = rows_shown width view changes s is shows_tables reach most
+  moved = shown_permuted width view s is reach most
 
   -- a version that shows the key has the row of the table
   in_table : (rowed : Rowed) → Contains (rowed_of view) rowed → shows (buffer_of view) key s rowed.version ≡ true → lookup (is_at (key_cmp key)) rows ≡ Some (padded width rowed.row)
@@ -119,7 +119,7 @@ module _ (width : ℕ) (view : GroupView) (changes : List Change) (key : Key) (s
         get_or-map (shown_row width) (shown view s) kept.0 rowed (shown_row width rowed) kept.1 ∙ ap (shown_row width) kept.2,
       ) in
       let found = Contains-permutation (map (shown_row width) (shown view s)) rows (shown_row width rowed) moved there in
-      let row = lookup-from_Contains {eq = eq_by_cmp key_cmp} (eq_by_cmp_equiv key_total) rowed.version.key (padded width rowed.row) rows (IsDistinct-from_sorted key_cmp (keys_of rows) (padded_ascends width (table changes s) (table_ascends changes s))) found in
+      let row = lookup-from_Contains {eq = eq_by_cmp key_cmp} (eq_by_cmp_equiv key_total) rowed.version.key (padded width rowed.row) rows (IsDistinct-from_sorted key_cmp (keys_of rows) (laid_ascends (map (shown_edit width) (shown view s)))) found in
       ap (λ (k : Key). lookup (is_at (key_cmp k)) rows) (sym own) ∙ row
 
   found_step : (o : Option Rowed) → ((rowed : Rowed) → o ≡ Some rowed → Contains (rowed_of view) rowed) → option_map (λ (rowed : Rowed). shows (buffer_of view) key s rowed.version) o ≡ Some true
@@ -127,8 +127,8 @@ module _ (width : ℕ) (view : GroupView) (changes : List Change) (key : Key) (s
   found_step None inside there = cc
   found_step (Some rowed) inside there = sym (in_table rowed (inside rowed refl) (same_Some _ _ there))
 
-  pub looked_found : (place : Place) → Shows view key s place → option_map (λ (rowed : Rowed). padded width rowed.row) (version_at view place) ≡ lookup (is_at (key_cmp key)) rows
-  looked_found place there = found_step (version_at view place) (λ rowed at. placed view.groups place.group place.position rowed at) there
+  pub found_shown : (place : Place) → Shows view key s place → option_map (λ (rowed : Rowed). padded width rowed.row) (version_at view place) ≡ lookup (is_at (key_cmp key)) rows
+  found_shown place there = found_step (version_at view place) (λ rowed at. placed view.groups place.group place.position rowed at) there
 
   none_step : HidesEach view key s → (o : Option (List Value)) → lookup (is_at (key_cmp key)) rows ≡ o → o ≡ None
   none_step hidden None at = refl
@@ -143,5 +143,13 @@ module _ (width : ℕ) (view : GroupView) (changes : List Change) (key : Key) (s
       (ap (option_map (λ (rowed : Rowed). shows (buffer_of view) key s rowed.version)) place.2
       ∙ ap Some (and_from (same_key key held.0.version.key) (is_visible (buffer_of view) s held.0.version) (key_here key held.0.version.key own) visible.1)))
 
-  pub looked_none : HidesEach view key s → lookup (is_at (key_cmp key)) rows ≡ None
-  looked_none hidden = none_step hidden (lookup (is_at (key_cmp key)) rows) refl
+  pub none_shown : HidesEach view key s → lookup (is_at (key_cmp key)) rows ≡ None
+  none_shown hidden = none_step hidden (lookup (is_at (key_cmp key)) rows) refl
+
+-- the same in the table of changes that the view shows
+module _ (width : ℕ) (view : GroupView) (changes : List Change) (key : Key) (s : ℕ) (is : IsView view) (shows_tables : ShowsTables width view changes) (reach : view.floor ≤ s) (most : s ≤ view.clock) where
+  pub looked_found : (place : Place) → Shows view key s place → option_map (λ (rowed : Rowed). padded width rowed.row) (version_at view place) ≡ lookup (is_at (key_cmp key)) (padded_table width (table changes s))
+  looked_found place there = found_shown width view key s is reach most place there ∙ ap (lookup (is_at (key_cmp key))) (shows_tables.tables s reach most)
+
+  pub looked_none : HidesEach view key s → lookup (is_at (key_cmp key)) (padded_table width (table changes s)) ≡ None
+  looked_none hidden = sym (ap (lookup (is_at (key_cmp key))) (shows_tables.tables s reach most)) ∙ none_shown width view key s is reach most hidden

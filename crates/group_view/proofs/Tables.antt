@@ -15,7 +15,7 @@ use Rattle.cs_types.specs.declared.Value.{Value}
 use Rattle.cs_types.specs.Keys.{key_cmp, same_key}
 use Rattle.cs_model.specs.Changes.{Edit, Table, Change, laid, until, table, newest, last_change, made}
 use Rattle.cs_model.proofs.Tables.{row_is, table_ascends}
-use Rattle.change_list.proofs.Tables.{Ascends, at, rows_of, rows_whole}
+use Rattle.edit_laws.proofs.Tables.{Ascends, at, rows_of, rows_whole}
 use Rattle.group_book.specs.Book.{Version, Ending, Book, opened, frozen, how_many, is_visible, shows}
 use Rattle.group_book.specs.Stocks.{AreChanges}
 use Rattle.group_book.specs.Invariant.{IsBookOf, has_key, IsSeenAt}
@@ -180,9 +180,13 @@ module _ (width : ℕ) (view : GroupView) (changes later : List Change) (above :
 
 -- ---- the rows that are shown
 
+-- by key they are the view's own table, each key's row once
+pub shown_permuted : (width : ℕ) (view : GroupView) (s : ℕ) → IsView view → view.floor ≤ s → s ≤ view.clock → IsPermutation (map (shown_row width) (shown view s)) (shown_table width view s)
+shown_permuted width view s is reach most =
+    subst (λ (rows : Table). IsPermutation rows (shown_table width view s)) (append-nil (map (shown_row width) (shown view s)))
+    (laid_in width (shown view s) [] (λ key. omega (arith, how_many-filter (λ (rowed : Rowed). same_key key rowed.version.key) (is_shown view s) (rowed_of view), is.once key s reach most)))
+
 pub rows_shown : (width : ℕ) (view : GroupView) (changes : List Change) (s : ℕ) → IsView view → ShowsTables width view changes → view.floor ≤ s → s ≤ view.clock
     → IsPermutation (map (shown_row width) (shown view s)) (padded_table width (table changes s))
 rows_shown width view changes s is shows reach most =
-    subst (λ (rows : Table). IsPermutation (map (shown_row width) (shown view s)) rows) (shows.tables s reach most)
-    (subst (λ (rows : Table). IsPermutation rows (shown_table width view s)) (append-nil (map (shown_row width) (shown view s)))
-    (laid_in width (shown view s) [] (λ key. omega (arith, how_many-filter (λ (rowed : Rowed). same_key key rowed.version.key) (is_shown view s) (rowed_of view), is.once key s reach most))))
+    subst (λ (rows : Table). IsPermutation (map (shown_row width) (shown view s)) rows) (shows.tables s reach most) (shown_permuted width view s is reach most)

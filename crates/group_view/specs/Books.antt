@@ -1,11 +1,11 @@
 -- The book that a list of groups stands for.
-use Rattle.std.specs.Prelude.{◌≡◌, ℕ, List, [], map, All, Option, None, Some}
+use Rattle.std.specs.Prelude.{◌≡◌, ℕ, List, [], map, filter, All, Option, None, Some}
 use Rattle.cs_model.specs.declared.work.Actor.{Actor}
 use Rattle.group_book.specs.Book as book
-use Rattle.group_book.specs.Book.{Version, Content, Book}
+use Rattle.group_book.specs.Book.{Version, Content, Book, frozen_in}
 use Rattle.group_book.specs.Book.Content.{Opened, Closed, Compressed, Invisible, Tombstone}
 use Rattle.group_book.specs.Book.Choice.{Compress, Flush, Rebuild, Merge, Settle, Clear, Idle}
-use Rattle.group_book.specs.Turns.{entries_for}
+use Rattle.group_book.specs.Turns.{entries_for, is_id_of}
 use Rattle.group_view.specs.declared.claim.Choice.{Choice}
 use Rattle.group_view.specs.declared.claim.Choice.TheVariants as made
 use Rattle.group_view.specs.declared.claim.Claim.{Claim}
@@ -15,7 +15,8 @@ use Rattle.group_view.specs.declared.groups.GroupContent.{GroupContent}
 use Rattle.group_view.specs.declared.groups.GroupContent.TheVariants as kept
 use Rattle.group_view.specs.declared.groups.Group.{Group}
 use Rattle.group_view.specs.declared.groups.GroupList.{GroupList}
-use Rattle.group_view.specs.Parts.{Rowed, packed_versions, stored_versions}
+use Rattle.group_view.specs.declared.parts.GroupPart.{GroupPart}
+use Rattle.group_view.specs.Parts.{Rowed, packed_versions, stored_versions, versions_in}
 use Rattle.group_view.specs.Views.{endings_of, buffer_of, rowed_of}
 
 -- versions without their rows
@@ -73,3 +74,15 @@ book_of list = record {
   claims = map claim_of list.claims.items;
   next = list.next;
 }
+
+-- the versions of a group that is lent, and those of a group of the book, with its id
+abbrev pub part_versions : ℕ × GroupPart → ℕ × List Version
+part_versions part = (part.0, versions_in part.1)
+
+abbrev pub group_versions : book.Group → ℕ × List Version
+group_versions group = (group.id, frozen_in group.content)
+
+-- the versions of the claim's groups stand in the book as they were lent, group by group
+abbrev pub StandsAsLent : Book → Actor × Claim → Type 0
+StandsAsLent whole held =
+    map part_versions held.1.view.groups ≡ map group_versions (filter (is_id_of (map (λ (part : ℕ × GroupPart). part.0) held.1.view.groups)) whole.groups)

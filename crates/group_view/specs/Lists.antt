@@ -1,7 +1,9 @@
 -- What is kept true of a list of groups, whatever it stands for, and which of its groups a view shows.
 use Rattle.std.specs.Prelude.{◌≡◌, ◌≢◌, ℕ, List, [], ◌∷◌, ◌++◌, length, slice_get, All, Option, None, Some, Bool, true, false, if◌then◌else◌}
+use Rattle.std.specs.List.{flat_map}
 use Rattle.std.specs.Option.{option_map}
 use Rattle.cs_model.specs.declared.work.Actor.{Actor}
+use Rattle.row_group.specs.Groups as group
 use Rattle.group_view.specs.declared.claim.Claim.{Claim}
 use Rattle.group_view.specs.declared.groups.GroupContent.{GroupContent}
 use Rattle.group_view.specs.declared.groups.GroupContent.TheVariants.{Opened, Closed, Compressed, Invisible, Tombstone}
@@ -38,6 +40,21 @@ abbrev pub listed : List Group → List (ℕ × List Rowed)
 listed [] = []
 listed (group ∷ groups) =
     if is_listed group.content then (group.id, rowed_in_content group.content) ∷ listed groups else listed groups
+
+abbrev pub packed_content : ℕ → GroupContent → List (ℕ × group.Group)
+packed_content id (Opened store) = []
+packed_content id (Closed store) = []
+packed_content id (Compressed packed marks) = (id, packed.value) ∷ []
+packed_content id Invisible = []
+packed_content id (Tombstone total deleted) = []
+
+-- a COMPRESSED group by id, without its bitmap, and nothing of any other
+abbrev pub packed_of : Group → List (ℕ × group.Group)
+packed_of group = packed_content group.id group.content
+
+-- the COMPRESSED groups
+abbrev pub packed_in : List Group → List (ℕ × group.Group)
+packed_in groups = flat_map packed_of groups
 
 -- the open store stands at the place, and nowhere else; without a place there is none
 abbrev pub IsOpenAt : List Group → Option ℕ → Type 0

@@ -1,13 +1,15 @@
 -- The versions of a group with their rows.
-use Rattle.std.specs.Prelude.{◌≡◌, ℕ, List, [], ◌∷◌, map, length, Option, None, Some}
-use Rattle.std.specs.List.{range_with_len}
+use Rattle.std.specs.Prelude.{◌≡◌, ℕ, List, [], ◌∷◌, map, length, All, Option, None, Some}
+use Rattle.std.specs.List.{range_with_len, flat_map}
 use Rattle.std.specs.Option.{option_map}
+use Rattle.cs_types.specs.declared.Schema.{Schema}
 use Rattle.cs_types.specs.declared.Value.{Value}
 use Rattle.cs_types.specs.Rows.{cell_at, key_in}
 use Rattle.delete_bitmap.specs.declared.MarkedEnd.{MarkedEnd}
 use Rattle.delete_bitmap.specs.declared.MarkedEnd.TheVariants as marked
 use Rattle.delta_store.specs.declared.version.KeyedVersion.{KeyedVersion}
-use Rattle.row_group.specs.Rows.{PackedRow}
+use Rattle.row_group.specs.Rows.{PackedRow, AreInOrder}
+use Rattle.row_group.specs.Groups as group
 use Rattle.group_book.specs.Book.{End, Version}
 use Rattle.group_book.specs.Book.End.{At, Plain}
 use Rattle.group_view.specs.declared.parts.GroupPart.{GroupPart}
@@ -76,3 +78,27 @@ IsBorrowed (Packed packed marks) (lent.Packed group ends) = (group.now ≡ packe
 IsBorrowed (Packed packed marks) (lent.Store versions) = ⊥
 IsBorrowed (Store store) (lent.Packed group ends) = ⊥
 IsBorrowed (Store store) (lent.Store versions) = versions.now ≡ store.value
+
+-- ---- packed groups
+
+-- a packed group of a table: its rows in the order that makes them small, in the table's columns, with the table's key
+pub record IsPackedGroup (schema : Schema) (packed : group.Group) : Type 0 where
+  pub order : AreInOrder (length schema.columns) packed.rows
+  pub width : packed.width ≡ length schema.columns
+  pub key : packed.key ≡ schema.key
+
+-- each of these groups, which stand by id, is one of the table
+abbrev pub ArePacked : Schema → List (ℕ × group.Group) → Type 0
+ArePacked schema groups = All (λ (entry : ℕ × group.Group). IsPackedGroup schema entry.1) groups
+
+abbrev pub packed_part : ℕ × GroupPart → List (ℕ × group.Group)
+packed_part (id, Packed packed marks) = (id, packed.value) ∷ []
+packed_part (id, Store store) = []
+
+-- the packed groups of a view by id, without their bitmaps
+abbrev pub packed_parts : List (ℕ × GroupPart) → List (ℕ × group.Group)
+packed_parts parts = flat_map packed_part parts
+
+-- packed groups by id with their rows in order, those of ended versions too
+abbrev pub rows_by_id : List (ℕ × group.Group) → List (ℕ × List PackedRow)
+rows_by_id groups = map (λ (entry : ℕ × group.Group). let packed = entry.1 in (entry.0, packed.rows)) groups

@@ -7,20 +7,33 @@
 #![tactic(auto)]
 
 mod claim;
+mod claimed;
+mod ended;
+mod flushes;
 mod groups;
 mod laws;
 mod lived;
 mod lookups;
+mod lowest;
+mod pairs;
 mod parts;
+mod removable;
 mod rows;
+mod turn;
 mod view;
 
 pub use claim::{Choice, Claim, Parcel, Product};
+pub use claimed::is_claimed;
+pub use flushes::{flush_entries, flush_sources};
 pub use groups::{ClosedStore, Group, GroupContent, GroupList};
 pub use laws::{lookups_find_rows, shown_rows, shows_tables, stays_shown, taken_views};
-pub use lived::Lived;
+pub use lived::{Lived, has_ended, is_buffered, stamp_of};
 pub use parts::{GroupPart, GroupRef};
+pub use removable::settles;
+pub use turn::next_work;
 pub use view::{GroupView, Pinned, Place};
 
+#[cfg(test)]
+mod choice_tests;
 #[cfg(test)]
 mod tests;

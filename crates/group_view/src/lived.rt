@@ -32,7 +32,7 @@ impl Lived {
 }
 
 /// Whether a recorded end is plain or at most `s`.
-fn has_ended(s: u64, end: Option<MarkedEnd>) -> bool
+pub fn has_ended(s: u64, end: Option<MarkedEnd>) -> bool
     ensures { result ≡ has_ended s (end_of_mark end) }
 {
     match end {
@@ -43,7 +43,7 @@ fn has_ended(s: u64, end: Option<MarkedEnd>) -> bool
 }
 
 /// Whether the buffer has an entry of the key above the begin and at most `s`.
-fn is_buffered(buffer: &Ends, key: Key, begin: u64, s: u64) -> bool
+pub fn is_buffered(buffer: &Ends, key: Key, begin: u64, s: u64) -> bool
     ensures { result ≡ is_buffered (endings_of buffer.now) key begin s }
 {
     match buffer.ends(key, begin) {

@@ -11,7 +11,7 @@ use Rattle.group_view.specs.declared.groups.Group.{Group}
 use Rattle.group_view.specs.Lists.{IsOpenAt}
 use Rattle.group_directory.specs.Committing.{not_live, places_in, IsRoomy}
 use Rattle.group_directory.proofs.IdLemmas.{places_ended}
-use Rattle.group_directory.proofs.ChangeLemmas.{book_ended, book_ended_none, held_open, same_origins, same_room, all_here, few_others}
+use Rattle.group_directory.proofs.ChangeLemmas.{book_ended, book_ended_none, held_open, same_origins, same_packed, open_kind_is, same_room, all_here, few_others}
 use Rattle.group_directory.proofs.commit_ends.end_replaced.Goals as goal
 
 pub add_all-requires-clause-room : goal.add_all-requires-clause-room
@@ -51,3 +51,8 @@ pub returns-clause-book : goal.returns-clause-book
 returns-clause-book c =
     book_ended_none c.args.list.now c.add_all-in-None.new.self c.args.replaced.now c.args.c (subst (λ (at : Option ℕ). IsOpenAt c.args.list.now.groups.items at) c.in-None.is c.requires.held.opened)
     c.as_slice-entries.ensures.order c.add_all-in-None.ensures.order c.requires.ascending c.requires.later c.add_all-in-None.ensures.entries
+
+pub returns-in-Some-clause-packed : goal.returns-in-Some-clause-packed
+returns-in-Some-clause-packed c =
+    same_packed c.args.list.now c.in-Some.at c.index_mut.result.now c.end_in_open.new.content c.args.list.now.opened c.add_all.new.self c.requires.held c.in-Some.is c.index_mut.ensures.value
+    (open_kind_is c.end_in_open.new.content c.end_in_open.ensures.state)

@@ -8,7 +8,7 @@ use Rattle.delta_store.specs.Versions.{Store}
 use Rattle.group_view.specs.Lists.{IsOpenAt}
 use Rattle.group_view.specs.Books.{book_of}
 use Rattle.group_directory.proofs.OpenLemmas.{stored-open}
-use Rattle.group_directory.proofs.PutLemmas.{opens_there, last_of, held_new, put_new, live_none, no_origin, room_new}
+use Rattle.group_directory.proofs.PutLemmas.{opens_there, last_of, held_new, put_new, live_none, no_origin, packed_new, room_new}
 use Rattle.group_directory.proofs.ChangeLemmas.{split_at}
 use Rattle.group_directory.proofs.commit_rest.open_place.Goals as goal
 
@@ -45,3 +45,9 @@ returns-in-Some-pop-clause-room c = λ group_rows rows some room.
     let shut = subst (λ (at : Option ℕ). IsOpenAt c.args.list.now.groups.items at) c.in-None.is c.requires.held.opened in
     let empty = last_of (λ (store : Store). store.versions ≡ []) c.args.pool.now.items c.pop.new.self.items c.in-Some-pop.store c.in-Some-pop.ensures.items c.requires.empty in
     room_new c.args.list.now c.open_store.new.list c.in-Some-pop.store shut empty c.open_store.ensures.groups group_rows rows c.args.pool.now.items c.pop.new.self.items some c.in-Some-pop.ensures.items c.open_store.ensures.len c.open_store.ensures.capacity c.open_store.ensures.next room
+
+pub returns-in-Some-pop-clause-packed : goal.returns-in-Some-pop-clause-packed
+returns-in-Some-pop-clause-packed c =
+    let shut = subst (λ (at : Option ℕ). IsOpenAt c.args.list.now.groups.items at) c.in-None.is c.requires.held.opened in
+    let empty = last_of (λ (store : Store). store.versions ≡ []) c.args.pool.now.items c.pop.new.self.items c.in-Some-pop.store c.in-Some-pop.ensures.items c.requires.empty in
+    packed_new c.args.list.now c.open_store.new.list c.in-Some-pop.store shut empty c.open_store.ensures.groups

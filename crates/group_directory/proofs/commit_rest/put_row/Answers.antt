@@ -5,7 +5,7 @@ use Rattle.group_view.specs.Parts.{Rowed}
 use Rattle.group_view.specs.Books.{versions_of, rowed_in_content}
 use Rattle.group_directory.specs.Committing.{IsRoomy}
 use Rattle.std.proofs.lemmas.List.{map-append}
-use Rattle.group_directory.proofs.ChangeLemmas.{live_here, all_here, book_put, held_open, held_shut, origins_more, less_room, opened_open, opened_shut, live_more}
+use Rattle.group_directory.proofs.ChangeLemmas.{live_here, all_here, book_put, held_open, held_shut, origins_more, put_packed, less_room, opened_open, opened_shut, live_more}
 use Rattle.group_directory.proofs.commit_rest.put_row.Goals as goal
 
 pub put_version-requires-clause-dead : goal.put_version-requires-clause-dead
@@ -63,3 +63,13 @@ returns-else-not-put_version-clause-live c = λ other apart dead.
     ap (has_live other) (opened_open c.args.list.now c.args.at c.index_mut.result.now c.put_version.new.content c.args.list.now.opened c.args.list.now.buffer c.requires.held c.requires.opened c.index_mut.ensures.value (sym c.put_version.ensures.state ∙ c.if-not-put_version.false)
     ∙ ap versions_of c.put_version.ensures.rows ∙ map-append (λ (rowed : Rowed). rowed.version) (rowed_in_content c.index_mut.result.now.content) _)
     ∙ live_more c.args.key other c.args.begin (versions_of (rowed_in_content c.index_mut.result.now.content)) apart was
+
+pub returns-then-not-put_version-clause-packed : goal.returns-then-not-put_version-clause-packed
+returns-then-not-put_version-clause-packed c =
+    put_packed c.args.list.now c.args.at c.index_mut.result.now c.put_version.new.content None c.args.list.now.buffer c.requires.held c.requires.opened c.index_mut.ensures.value
+    c.args.group_rows (new_version c.args.begin c.args.key) c.put_version.ensures.content
+
+pub returns-else-not-put_version-clause-packed : goal.returns-else-not-put_version-clause-packed
+returns-else-not-put_version-clause-packed c =
+    put_packed c.args.list.now c.args.at c.index_mut.result.now c.put_version.new.content c.args.list.now.opened c.args.list.now.buffer c.requires.held c.requires.opened c.index_mut.ensures.value
+    c.args.group_rows (new_version c.args.begin c.args.key) c.put_version.ensures.content

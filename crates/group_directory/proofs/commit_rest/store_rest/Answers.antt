@@ -6,7 +6,8 @@ use Rattle.delete_buffer.specs.Entries.{Ascend}
 use Rattle.group_book.specs.Book.{Book, opened}
 use Rattle.group_book.specs.Commits.{has_live, after_rest}
 use Rattle.group_view.specs.Books.{group_of, book_of}
-use Rattle.group_directory.specs.Committing.{origins, new_origin, keys_in, HasRoom}
+use Rattle.group_view.specs.Parcels.{keys_in}
+use Rattle.group_directory.specs.Committing.{origins, new_origin, HasRoom}
 use Rattle.group_directory.proofs.PutLemmas.{keys_up, dead_rest, origins_step}
 use Rattle.group_directory.proofs.commit_rest.store_rest.Goals as goal
 
@@ -27,6 +28,7 @@ loop-key-preserved c =
     record {
       held = c.store_row.ensures.held;
       claims = c.store_row.ensures.claims ∙ kept.claims;
+      packed = c.store_row.ensures.packed ∙ kept.packed;
       ascending = keys_up c.in-Some.key (keys_in rest) up;
       dead = dead_rest c.in-Some.key (keys_in rest) (opened (map group_of c.loop-key.list.groups.items)) (opened (map group_of c.store_row.new.list.groups.items)) up dead c.store_row.ensures.live;
       room = c.store_row.ensures.room (length rest) room;

@@ -3,7 +3,7 @@ use Rattle.delta_store.proofs.ChunkLemmas.{on_ok}
 use Rattle.group_view.specs.declared.groups.Group.{Group}
 use Rattle.group_directory.specs.Committing.{IsReadyFor, IsRoomy}
 use Rattle.group_directory.proofs.OpenLemmas.{roomy-shut}
-use Rattle.group_directory.proofs.ChangeLemmas.{book_same, held_open, same_listed, all_changed, open_here, ready-shut}
+use Rattle.group_directory.proofs.ChangeLemmas.{book_same, held_open, same_listed, same_packed, open_kind_is, all_changed, open_here, ready-shut}
 use Rattle.group_directory.proofs.commit_room.make_room_in_open.Goals as goal
 
 pub returns-in-Some-clause-book : goal.returns-in-Some-clause-book
@@ -31,3 +31,8 @@ returns-in-Some-clause-ready c =
     on_ok c.make_room_in.result
     (λ ready. all_changed c.args.list.now c.in-Some.at c.index_mut.result.now c.make_room_in.new.content c.args.list.now.opened c.args.list.now.buffer c.requires c.in-Some.is c.index_mut.ensures.value
     (λ (group : Group). IsReadyFor c.args.replaced.now group.content) (λ group shut. ready-shut c.args.replaced.now group.content shut) ready) c.make_room_in.ensures.ready
+
+pub returns-in-Some-clause-packed : goal.returns-in-Some-clause-packed
+returns-in-Some-clause-packed c =
+    same_packed c.args.list.now c.in-Some.at c.index_mut.result.now c.make_room_in.new.content c.args.list.now.opened c.args.list.now.buffer c.requires c.in-Some.is c.index_mut.ensures.value
+    (open_kind_is c.make_room_in.new.content (c.make_room_in.ensures.state ∙ open_here c.args.list.now c.in-Some.at c.index_mut.result.now c.requires c.in-Some.is c.index_mut.ensures.value))

@@ -8,10 +8,12 @@ use Rattle.group_book.specs.Commits.{has_live, after_ends, after_loads, after_re
 use Rattle.group_view.specs.declared.claim.Claim.{Claim}
 use Rattle.group_view.specs.declared.groups.Group.{Group}
 use Rattle.group_view.specs.Books.{group_of}
-use Rattle.group_directory.specs.Committing.{keys_in, packed_keys, IsUnmarked, HasRoom}
+use Rattle.group_view.specs.Parcels.{keys_in, packed_keys}
+use Rattle.group_directory.specs.Committing.{IsUnmarked, HasRoom}
 use Rattle.group_directory.proofs.LoadLemmas.{unmarked_loaded}
 use Rattle.group_directory.proofs.CommitLemmas.{dead_commit, room_loaded}
 use Rattle.group_directory.proofs.WholeLemmas.{later_kept, origins_commit, book_loads, past_is, neither, memory_not_full, ok_not_full}
+use Rattle.group_directory.proofs.PackedLaws.{packed_commit}
 use Rattle.group_directory.proofs.committing.commit.Goals as goal
 
 pub returns-then-is_past-clause-full : goal.returns-then-is_past-clause-full
@@ -72,3 +74,8 @@ pub returns-clause-full : goal.returns-clause-full
 returns-clause-full c =
     let past = past_is c.args.group_rows c.args.c c.args.replaced.now c.args.parcel c.args.list.now c.requires.rows c.requires.held c.len-2.result c.stores_needed-stores.result c.len.result c.is_past.result c.is_past.ensures c.len-2.ensures c.len.ensures c.stores_needed-stores.ensures in
     neither _ _ (ok_not_full tt) (sym past ∙ c.if-is_past.false)
+
+pub returns-clause-packed : goal.returns-clause-packed
+returns-clause-packed c =
+    packed_commit c.args.c c.args.list.now.groups.items c.take_room.new.list.groups.items c.end_replaced.new.list.groups.items c.load_groups.new.list.groups.items c.store_rest.new.list.groups.items c.end_replaced.new.list.next
+    c.args.parcel.groups c.in_ok-loads.loads.items c.in_ok-room.ensures.packed c.end_replaced.ensures.packed c.load_groups.ensures.groups c.in_ok-loads.ensures c.store_rest.ensures.packed

@@ -1,6 +1,6 @@
 use Rattle.std.proofs.Common.{◌≡◌, map, take}
 use Rattle.group_view.specs.Books.{group_of}
-use Rattle.group_directory.specs.Ledgers.{line_of}
+use Rattle.group_log.specs.Reports.{line_of}
 use Rattle.group_directory.proofs.counts.lines.Given as goal
 
 abbrev pub invariant-loop-group : goal.invariant-loop-group

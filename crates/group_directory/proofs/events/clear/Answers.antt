@@ -3,8 +3,8 @@ use Rattle.std.specs.Prelude.{◌-◌, position}
 use Rattle.group_book.specs.Book.{is_tombstone}
 use Rattle.group_view.specs.declared.groups.Group.{Group}
 use Rattle.group_view.specs.Books.{content_of}
-use Rattle.group_view.specs.Lists.{listed}
-use Rattle.group_directory.proofs.Held.{clear_book, clear_listed, clear_number, held_kept}
+use Rattle.group_view.specs.Lists.{listed, packed_in}
+use Rattle.group_directory.proofs.Held.{clear_book, clear_listed, clear_packed, clear_number, held_kept}
 use Rattle.group_directory.proofs.Mapped.{how_many-gone}
 use Rattle.group_directory.proofs.Opened.{opens}
 use Rattle.group_directory.proofs.events.clear.Goals as goal
@@ -29,3 +29,6 @@ returns-clause-held c = held_kept c.args.list.now (record { groups = c.drop_tomb
 
 pub returns-clause-listed : goal.returns-clause-listed
 returns-clause-listed c = ap listed c.drop_tombstones.ensures ∙ clear_listed c.args.list.now.groups.items
+
+pub returns-clause-packed : goal.returns-clause-packed
+returns-clause-packed c = ap packed_in c.drop_tombstones.ensures ∙ clear_packed c.args.list.now.groups.items

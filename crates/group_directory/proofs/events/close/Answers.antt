@@ -7,7 +7,7 @@ use Rattle.group_view.specs.Lists.{IsOpenAt}
 use Rattle.group_book.specs.Turns.{after_close}
 use Rattle.group_directory.proofs.Books.{book_is}
 use Rattle.group_directory.proofs.Held.{Fits}
-use Rattle.group_directory.proofs.Closed.{none_closed, none_lowest, open_within, closed_book, closed_lowest, closed_open, listed-set}
+use Rattle.group_directory.proofs.Closed.{none_closed, none_lowest, open_within, closed_book, closed_lowest, closed_open, closed_packed, listed-set}
 use Rattle.group_directory.proofs.events.close.Goals as goal
 
 pub returns-in-None-clause-book : goal.returns-in-None-clause-book
@@ -45,3 +45,8 @@ returns-clause-held c =
 
 pub returns-clause-listed : goal.returns-clause-listed
 returns-clause-listed c = listed-set c.args.list.now.groups.items c.in-Some.place c.index_mut.result.now c.close_group.new.group c.index_mut.ensures.value c.close_group.ensures.id c.close_group.ensures.shown c.close_group.ensures.rows
+
+pub returns-clause-packed : goal.returns-clause-packed
+returns-clause-packed c =
+    let here = subst (IsOpenAt c.args.list.now.groups.items) c.in-Some.is c.requires.held.opened in
+    closed_packed c.args.list.now.groups.items c.in-Some.place c.index_mut.result.now c.close_group.new.group here c.index_mut.ensures.value c.close_group.ensures.content

@@ -7,13 +7,19 @@ use Rattle.group_view.specs.declared.claim.Claim.{Claim}
 use Rattle.group_view.specs.declared.groups.Group.{Group}
 use Rattle.group_view.specs.Books.{book_of, group_of}
 use Rattle.group_directory.proofs.Books.{holds_it, no_claim}
-use Rattle.group_directory.proofs.Held.{held_gone, release_book, release_listed}
-use Rattle.group_directory.proofs.Opened.{opens}
+use Rattle.group_directory.proofs.Held.{held_gone, release_book, release_listed, release_packed}
+use Rattle.group_directory.proofs.Mapped.{filter-stays}
+use Rattle.group_directory.proofs.Opened.{opens, none_found}
 use Rattle.group_directory.proofs.events.release.Goals as goal
 
 pub returns-in_default-clause-book : goal.returns-in_default-clause-book
 returns-in_default-clause-book c =
     ap (λ (claim : Option BookClaim). released claim (book_of c.args.list.now)) (sym (no_claim c.args.actor c.args.list.now.claims.items (sym (c.claim_place.ensures ∙ ap (position (holds_it c.args.actor)) c.deref.ensures.value) ∙ c.in_default.is)))
+
+pub returns-in_default-clause-claims : goal.returns-in_default-clause-claims
+returns-in_default-clause-claims c =
+    let none = sym (c.claim_place.ensures ∙ ap (position (holds_it c.args.actor)) c.deref.ensures.value) ∙ c.in_default.is in
+    sym (filter-stays (holds_it c.args.actor) c.args.list.now.claims.items (λ k d inside. none_found (holds_it c.args.actor) c.args.list.now.claims.items none k d inside))
 
 pub returns-clause-book : goal.returns-clause-book
 returns-clause-book c =
@@ -27,3 +33,7 @@ returns-clause-held c =
 pub returns-clause-listed : goal.returns-clause-listed
 returns-clause-listed c =
     release_listed c.args.list.now (record { groups = c.drop_fresh.new.groups; opened = c.open_place-list.result; buffer = c.args.list.now.buffer; claims = c.drop_claims.new.claims; next = c.args.list.now.next }) c.args.actor c.in-Some.place c.index.result.now (sym (c.claim_place.ensures ∙ ap (position (holds_it c.args.actor)) c.deref.ensures.value) ∙ c.in-Some.is) c.index.ensures c.drop_fresh.ensures c.requires.hidden
+
+pub returns-clause-packed : goal.returns-clause-packed
+returns-clause-packed c =
+    release_packed c.args.list.now (record { groups = c.drop_fresh.new.groups; opened = c.open_place-list.result; buffer = c.args.list.now.buffer; claims = c.drop_claims.new.claims; next = c.args.list.now.next }) c.args.actor c.in-Some.place c.index.result.now (sym (c.claim_place.ensures ∙ ap (position (holds_it c.args.actor)) c.deref.ensures.value) ∙ c.in-Some.is) c.index.ensures c.drop_fresh.ensures c.requires.hidden

@@ -1,7 +1,9 @@
 use Rattle.std.proofs.Common.{◌<◌, map, length, get_or, ◌∙◌, arith}
-use Rattle.std.proofs.lemmas.List.{get_or_default}
+use Rattle.std.proofs.lemmas.List.{get_or_default, map-append}
+use Rattle.std.proofs.lemmas.Grind.{flat_map-append}
 use Rattle.std.proofs.lemmas.List.Elements.{All-set}
-use Rattle.group_directory.specs.Rows.{part_entry, seen, shows}
+use Rattle.group_directory.specs.Rows.{Seen, entry_of, packed_seen, part_entry, seen, shows}
+use Rattle.group_view.specs.Parts.{packed_parts}
 use Rattle.group_directory.proofs.Held.{Fits}
 use Rattle.group_directory.proofs.Mapped.{map-set_alike}
 use Rattle.group_directory.proofs.Shared.{picked_more}
@@ -20,6 +22,7 @@ loop-group-preserved c =
     record {
       alike = map-set_alike seen gs i c.group-item.result c.add_share.new.group c.in_ok-add_share.ensures.seen ∙ c.loop-group.invariant.alike;
       kept = All-set Fits gs i c.add_share.new.group c.in_ok-add_share.ensures.kept c.loop-group.invariant.kept;
-      parts = c.in_ok-add_share.ensures.parts ∙ picked_more shows (map seen c.args.groups.now) gs i g (map part_entry c.loop-group.parts) c.loop-group.invariant.alike inside (get_or_default gs i c.group-item.result g inside) c.loop-group.invariant.parts;
+      parts = c.in_ok-add_share.ensures.parts ∙ picked_more (map entry_of) (map-append entry_of) shows (map seen c.args.groups.now) gs i g (map part_entry c.loop-group.parts) c.loop-group.invariant.alike inside (get_or_default gs i c.group-item.result g inside) c.loop-group.invariant.parts;
+      packed = c.in_ok-add_share.ensures.packed ∙ picked_more packed_seen (flat_map-append (λ (s : Seen). s.packed)) shows (map seen c.args.groups.now) gs i g (packed_parts c.loop-group.parts) c.loop-group.invariant.alike inside (get_or_default gs i c.group-item.result g inside) c.loop-group.invariant.packed;
       fitting = c.in_ok-add_share.ensures.fitting c.loop-group.invariant.fitting;
     }

@@ -1,7 +1,7 @@
 use Rattle.std.proofs.Common.{◌≡◌, map, filter, take, All}
 use Rattle.group_view.specs.Lists.{IsFittingContent}
-use Rattle.group_view.specs.Parts.{IsFitting}
-use Rattle.group_directory.specs.Rows.{entry_of, part_entry, seen, shows}
+use Rattle.group_view.specs.Parts.{packed_parts, IsFitting}
+use Rattle.group_directory.specs.Rows.{entry_of, packed_seen, part_entry, seen, shows}
 use Rattle.group_directory.proofs.share.share_listed.Given as goal
 
 abbrev pub invariant-loop-group : goal.invariant-loop-group
@@ -9,5 +9,6 @@ invariant-loop-group l = record {
   alike : map seen l.groups ≡ map seen l.initial.groups;
   kept : All (λ group. IsFittingContent group.content) l.groups;
   parts : map part_entry l.parts ≡ map entry_of (filter shows (take l.group-index (map seen l.initial.groups)));
+  packed : packed_parts l.parts ≡ packed_seen (filter shows (take l.group-index (map seen l.initial.groups)));
   fitting : All (λ part. IsFitting part.1) l.parts;
 }

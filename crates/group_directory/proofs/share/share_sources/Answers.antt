@@ -1,10 +1,11 @@
 use Rattle.std.proofs.Common.{◌≡◌, ℕ, ◌<◌, ◌++◌, List, map, length, get_or, true, false, sym, ap, subst, ◌∙◌, arith}
 use Rattle.std.specs.List.{All}
-use Rattle.std.proofs.lemmas.List.{append-nil, get_or_default, set-get_or}
+use Rattle.std.proofs.lemmas.List.{append-nil, get_or_default, map-append, set-get_or}
+use Rattle.std.proofs.lemmas.Grind.{flat_map-append}
 use Rattle.std.proofs.lemmas.List.Elements.{All-set}
 use Rattle.group_view.specs.declared.parts.GroupPart.{GroupPart}
-use Rattle.group_view.specs.Parts.{IsFitting}
-use Rattle.group_directory.specs.Rows.{Seen, entry_of, part_entry, seen}
+use Rattle.group_view.specs.Parts.{packed_parts, IsFitting}
+use Rattle.group_directory.specs.Rows.{Seen, entry_of, packed_seen, part_entry, seen}
 use Rattle.group_directory.specs.Sharing.{picks}
 use Rattle.group_directory.proofs.Held.{Fits}
 use Rattle.group_directory.proofs.Mapped.{map-set_alike}
@@ -40,7 +41,11 @@ loop-group-preserved c =
             parts =
                 ap (map part_entry) w.parts-is ∙ w.in_ok-add_share.ensures.parts
                 ∙ ap (λ (l : List Seen). map part_entry parts ++ map entry_of l) (picked_shown sources all i (seen g) c.requires.named next.1 next.2 picked)
-                ∙ picked_more (picks sources) all gs i g (map part_entry parts) held.alike inside here held.parts;
+                ∙ picked_more (map entry_of) (map-append entry_of) (picks sources) all gs i g (map part_entry parts) held.alike inside here held.parts;
+            packed =
+                ap packed_parts w.parts-is ∙ w.in_ok-add_share.ensures.packed
+                ∙ ap (λ (l : List Seen). packed_parts parts ++ packed_seen l) (picked_shown sources all i (seen g) c.requires.named next.1 next.2 picked)
+                ∙ picked_more packed_seen (flat_map-append (λ (s : Seen). s.packed)) (picks sources) all gs i g (packed_parts parts) held.alike inside here held.packed;
             fitting = subst (All FitsPart) (sym w.parts-is) (w.in_ok-add_share.ensures.fitting held.fitting);
           }
       | else-is_next w ↦
@@ -51,7 +56,11 @@ loop-group-preserved c =
             parts =
                 ap (map part_entry) w.parts-is ∙ sym (append-nil (map part_entry parts))
                 ∙ ap (λ (l : List Seen). map part_entry parts ++ map entry_of l) (sym (not_picked sources (seen g) picked))
-                ∙ picked_more (picks sources) all gs i g (map part_entry parts) held.alike inside here held.parts;
+                ∙ picked_more (map entry_of) (map-append entry_of) (picks sources) all gs i g (map part_entry parts) held.alike inside here held.parts;
+            packed =
+                ap packed_parts w.parts-is ∙ sym (append-nil (packed_parts parts))
+                ∙ ap (λ (l : List Seen). packed_parts parts ++ packed_seen l) (sym (not_picked sources (seen g) picked))
+                ∙ picked_more packed_seen (flat_map-append (λ (s : Seen). s.packed)) (picks sources) all gs i g (packed_parts parts) held.alike inside here held.packed;
             fitting = subst (All FitsPart) (sym w.parts-is) held.fitting;
           }
     ]

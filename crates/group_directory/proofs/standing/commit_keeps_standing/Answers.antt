@@ -1,6 +1,6 @@
 use Rattle.std.proofs.Common.{◌++◌, ◌+◌, subst}
 use Rattle.cs_model.specs.Steps.{numbered}
-use Rattle.change_list.specs.Edits.{edits_of}
+use Rattle.edit_laws.specs.Edits.{edits_of}
 use Rattle.txn_table.specs.Txns.{txn_of, own_of}
 use Rattle.group_book.specs.Invariant.{IsBookOf}
 use Rattle.group_view.specs.Books.{book_of}

@@ -36,7 +36,7 @@ commit_own-requires-clause-older c = notes_older c.args.self.now c.requires.stan
 pub returns-in_err-commit_own-clause-refused : goal.returns-in_err-commit_own-clause-refused
 returns-in_err-commit_own-clause-refused c = λ changes j.
     let kept = c.in_err-commit_own.ensures in
-    on_err _ c.from_residual.result (stands_kept c.args.self.now changes j c.commit_own.new.list c.commit_own.new.recent kept.held kept.claims kept.same kept.listed kept.kept)
+    on_err _ c.from_residual.result (stands_kept c.args.self.now changes j c.commit_own.new.list c.commit_own.new.recent kept.held kept.claims kept.same kept.listed kept.same_packed kept.kept)
 
 pub returns-clause-stands : goal.returns-clause-stands
 returns-clause-stands c = λ changes txn j is.
@@ -45,4 +45,4 @@ returns-clause-stands c = λ changes txn j is.
     retold _ changes (c.args.self.now.clock + 1) c.as_slice.result.now c.in-Some.txn txn c.as_slice.ensures.value (sym here ∙ is)
     (stands_done c.args.self.now changes j c.args.session c.as_slice.result.now (ap own_of here ∙ sym c.as_slice.ensures.value)
     (subst (λ (own : List Write). Ascend own) (sym c.as_slice.ensures.value) c.as_slice.ensures.order) c.args.parcel c.requires.parcel
-    c.in-Some.txn.number c.commit_own.new.list c.remove-2.new.self c.commit_own.new.recent done.held done.claims done.book done.origins c.remove-2.ensures.txns done.noted)
+    c.in-Some.txn.number c.commit_own.new.list c.remove-2.new.self c.commit_own.new.recent done.held done.claims done.book done.origins done.packed c.remove-2.ensures.txns done.noted)

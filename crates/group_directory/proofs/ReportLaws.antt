@@ -1,0 +1,176 @@
+-- The segment lines of a view's packed groups are those that its book shows.
+use Rattle.std.proofs.Common.{◌≡◌, ℕ, ◌<◌, List, [], ◌∷◌, map, filter, length, get_or, Option, None, Some, refl, sym, ap, subst, ◌∙◌, arith}
+use Rattle.std.specs.Prelude.{unwrap_or}
+use Rattle.std.specs.List.{All, AllByRecursion, AllZip, flat_map, range_with_len}
+use Rattle.std.specs.List.Sorted.{IsPermutation}
+use Rattle.std.specs.Option.{option_map}
+use Rattle.std.specs.declared.cmp.Ordering.{Ordering}
+use Rattle.std.specs.Ordering.{nat_cmp, ordering_then}
+use Rattle.std.proofs.lemmas.List.{get_or-map, length-map}
+use Rattle.std.proofs.lemmas.List.Elements.{recursion_from_All}
+use Rattle.std.proofs.lemmas.List.FromFn.{get_or-range_with_len, length-range_with_len, get_or-map-range_with_len}
+use Rattle.std.proofs.lemmas.List.Sorted.{IsPermutation-refl, All-permutation}
+use Rattle.std.proofs.lemmas.Option.{none-some, same_Some}
+use Rattle.cs_types.specs.declared.Value.{Value}
+use Rattle.cs_types.specs.declared.Value.TheVariants.{Null}
+use Rattle.cs_types.specs.Rows.{cell_at}
+use Rattle.cs_types.specs.Values.{value_cmp}
+use Rattle.cs_model.specs.Changes.{Change, last_change, made}
+use Rattle.cs_model.specs.declared.report.SegmentLine.{SegmentLine}
+use Rattle.delete_bitmap.specs.declared.MarkedEnd.{MarkedEnd}
+use Rattle.row_group.specs.Orders.{by_rank}
+use Rattle.row_group.specs.Rows.{PackedRow, padded, column_of, column_cmp, row_cmp, distinct_cells, AreInOrder}
+use Rattle.row_group.proofs.ShownLemmas.{cell_at-get_or}
+use Rattle.group_book.specs.Book as book
+use Rattle.group_book.specs.Book.{is_compressed}
+use Rattle.group_book.proofs.Lists.{all-left, all-right}
+use Rattle.group_log.specs.Segments.{IsSegmentLine, AreGroupLines, AreSegmentLines, packed_row, AreRowsOf, ShowsSegments}
+use Rattle.group_view.specs.declared.groups.Group.{Group}
+use Rattle.group_view.specs.declared.groups.GroupContent.{GroupContent}
+use Rattle.group_view.specs.declared.groups.GroupContent.TheVariants.{Opened, Closed, Compressed, Invisible, Tombstone}
+use Rattle.group_view.specs.declared.view.GroupView.{GroupView}
+use Rattle.group_view.specs.Parts.{Rowed, packed_versions, packed_parts, rows_by_id}
+use Rattle.group_view.specs.Parts as part
+use Rattle.group_view.specs.Books.{versions_of, rowed_in_content, group_of, book_of}
+use Rattle.group_view.specs.Lists.{IsFittingContent, packed_in}
+use Rattle.group_view.specs.Laws.{IsRowOf}
+use Rattle.group_directory.specs.declared.directory.Directory.{Directory}
+use Rattle.group_directory.specs.Laws.{IsLookAt}
+use Rattle.group_directory.specs.Stands.{width_in, Stands}
+use Rattle.group_directory.proofs.GroupLaws.{listed_whole}
+
+module _ (width : ℕ) where
+  -- ---- rows in so many cells
+
+  abbrev filled : PackedRow → PackedRow
+  filled row = padded width row.cells row.begin
+
+  abbrev filled_rows : ℕ × List PackedRow → ℕ × List PackedRow
+  filled_rows group = (group.0, map filled group.1)
+
+  cell_kept : (row : PackedRow) (c : ℕ) → c < width → cell_at (filled row).cells c ≡ cell_at row.cells c
+  cell_kept row c l = cell_at-get_or (filled row).cells c ∙ get_or-map-range_with_len (cell_at row.cells) 0 width c c Null l (omega arith)
+
+  column_kept : (rows : List PackedRow) (c : ℕ) → c < width → column_of (map filled rows) c ≡ column_of rows c
+  column_kept [] c l = refl
+  column_kept (row ∷ rows) c l = ap (λ (cell : Value). cell ∷ column_of (map filled rows) c) (cell_kept row c l) ∙ ap (λ (cells : List Value). cell_at row.cells c ∷ cells) (column_kept rows c l)
+
+  rank_kept : (x y : PackedRow) (rank : List ℕ) → AllByRecursion (λ c. c < width) rank
+      → by_rank (λ c. value_cmp (cell_at (filled x).cells c) (cell_at (filled y).cells c)) rank ≡ by_rank (λ c. value_cmp (cell_at x.cells c) (cell_at y.cells c)) rank
+  rank_kept x y [] low = refl
+  rank_kept x y (c ∷ rank) low =
+      ap (λ (cell : Value). ordering_then (value_cmp cell (cell_at (filled y).cells c)) (by_rank (λ k. value_cmp (cell_at (filled x).cells k) (cell_at (filled y).cells k)) rank)) (cell_kept x c low.0)
+      ∙ ap (λ (cell : Value). ordering_then (value_cmp (cell_at x.cells c) cell) (by_rank (λ k. value_cmp (cell_at (filled x).cells k) (cell_at (filled y).cells k)) rank)) (cell_kept y c low.0)
+      ∙ ap (λ (rest : Ordering). ordering_then (value_cmp (cell_at x.cells c) (cell_at y.cells c)) rest) (rank_kept x y rank low.1)
+
+  columns_kept : (rows : List PackedRow) (a b : ℕ) → a < width → b < width → column_cmp (map filled rows) a b ≡ column_cmp rows a b
+  columns_kept rows a b a_low b_low =
+      ap (λ (cells : List Value). ordering_then (nat_cmp (distinct_cells cells) (distinct_cells (column_of (map filled rows) b))) (nat_cmp a b)) (column_kept rows a a_low)
+      ∙ ap (λ (cells : List Value). ordering_then (nat_cmp (distinct_cells (column_of rows a)) (distinct_cells cells)) (nat_cmp a b)) (column_kept rows b b_low)
+
+  range_low : All (λ c. c < width) (range_with_len 0 width)
+  range_low k d inside =
+      let within : k < width = omega (arith, inside, length-range_with_len 0 width) in
+      let is = get_or-range_with_len 0 width k d within in
+      omega (arith, within, is)
+
+  order_kept : (rows : List PackedRow) → AreInOrder width rows → AreInOrder width (map filled rows)
+  order_kept rows is = record {
+    rank = is.rank;
+    of_columns = is.of_columns;
+    ranked = λ i j d before inside. columns_kept rows (get_or is.rank i d) (get_or is.rank j d) (low i d (omega (arith, before, inside))) (low j d inside) ∙ is.ranked i j d before inside;
+    ascending = λ i j d before inside greater.
+        let within : j < length rows = omega (arith, inside, length-map rows filled) in
+        let first = get_or-map filled rows i d d (omega (arith, before, within)) in
+        let second = get_or-map filled rows j d d within in
+        let x = get_or rows i d in
+        let y = get_or rows j d in
+        is.ascending i j d before within
+        (sym (ap (λ (cells : Ordering). ordering_then cells (nat_cmp x.begin y.begin)) (rank_kept x y is.rank (recursion_from_All (λ c. c < width) is.rank low)))
+        ∙ ap (λ (row : PackedRow). row_cmp is.rank row (filled y)) (sym first)
+        ∙ ap (row_cmp is.rank (get_or (map filled rows) i d)) (sym second) ∙ greater);
+  }
+    where
+      low : All (λ c. c < width) is.rank
+      low = All-permutation (λ c. c < width) (range_with_len 0 width) is.rank is.of_columns range_low
+
+  -- ---- lines
+
+  zip_kept : {X Y : Type 0} (P : X → Type 0) (R S : X → Y → Type 0) → ((x : X) (y : Y) → P x → R x y → S x y) → (xs : List X) (ys : List Y) → AllByRecursion P xs → AllZip R xs ys → AllZip S xs ys
+  zip_kept P R S step [] [] all zip = tt
+  zip_kept P R S step [] (y ∷ ys) all zip = absurd zip
+  zip_kept P R S step (x ∷ xs) [] all zip = absurd zip
+  zip_kept P R S step (x ∷ xs) (y ∷ ys) all zip = (step x y all.0 zip.0, zip_kept P R S step xs ys all.1 zip.1)
+
+  group_kept : (group : ℕ × List PackedRow) (lines : List SegmentLine) → AreGroupLines width group lines → AreGroupLines width (filled_rows group) lines
+  group_kept group lines are = record {
+    order = order_kept group.1 are.order;
+    columns = zip_kept (λ c. c < width) (λ c line. IsSegmentLine group.0 c (column_of group.1 c) line) (λ c line. IsSegmentLine group.0 c (column_of (map filled group.1) c) line)
+        (λ c line l is. subst (λ (cells : List Value). IsSegmentLine group.0 c cells line) (sym (column_kept group.1 c l)) is)
+        (range_with_len 0 width) lines (recursion_from_All (λ c. c < width) (range_with_len 0 width) range_low) are.columns;
+  }
+
+  groups_kept : (groups : List (ℕ × List PackedRow)) (parts : List (List SegmentLine)) → AllZip (AreGroupLines width) groups parts → AllZip (AreGroupLines width) (map filled_rows groups) parts
+  groups_kept [] [] zip = tt
+  groups_kept [] (part ∷ parts) zip = absurd zip
+  groups_kept (group ∷ groups) [] zip = absurd zip
+  groups_kept (group ∷ groups) (lines ∷ parts) zip = (group_kept group lines zip.0, groups_kept groups parts zip.1)
+
+  -- ---- the rows of the book's groups
+
+  module _ (changes : List Change) where
+    cells_are : (row : List Value) (o : Option (List Value)) → option_map (part.padded width) o ≡ Some (part.padded width row) → part.padded width (unwrap_or o []) ≡ part.padded width row
+    cells_are row None is = absurd (none-some (part.padded width row) is)
+    cells_are row (Some other) is = same_Some (part.padded width other) (part.padded width row) is
+
+    rows_are : (key : ℕ) (rows : List PackedRow) (marks : List (Option MarkedEnd)) → length marks ≡ length rows → AllByRecursion (IsRowOf width changes) (packed_versions key rows marks)
+        → map (packed_row width changes) (versions_of (packed_versions key rows marks)) ≡ map filled rows
+    rows_are key [] marks long all = refl
+    rows_are key (row ∷ rows) [] long all = absurd (omega (arith, long))
+    rows_are key (row ∷ rows) (mark ∷ marks) long all =
+        let version = (part.packed_version key row mark).version in
+        ap (λ (cells : List Value). (let first : PackedRow = record { cells = cells; begin = row.begin } in first) ∷ map (packed_row width changes) (versions_of (packed_versions key rows marks)))
+        (cells_are row.cells (made (last_change version.key version.begin changes)) all.0)
+        ∙ ap (λ (more : List PackedRow). filled row ∷ more) (rows_are key rows marks (omega (arith, long)) all.1)
+
+    abbrev compressed : List Group → List book.Group
+    compressed groups = filter (λ (group : book.Group). is_compressed group.content) (map group_of groups)
+
+    abbrev rows_in_all : List Group → List Rowed
+    rows_in_all groups = flat_map (λ (group : Group). rowed_in_content group.content) groups
+
+    of_book : (groups : List Group) → AllByRecursion (λ (group : Group). IsFittingContent group.content) groups → AllByRecursion (IsRowOf width changes) (rows_in_all groups)
+        → AllZip (AreRowsOf width changes) (compressed groups) (map filled_rows (rows_by_id (packed_in groups)))
+    of_book [] fits all = tt
+    of_book (group ∷ groups) fits all =
+        step group.content fits.0 (all-left (IsRowOf width changes) (rowed_in_content group.content) (rows_in_all groups) all)
+        (of_book groups fits.1 (all-right (IsRowOf width changes) (rowed_in_content group.content) (rows_in_all groups) all))
+      where
+        step : (content : GroupContent) → IsFittingContent content → AllByRecursion (IsRowOf width changes) (rowed_in_content content) → AllZip (AreRowsOf width changes) (compressed groups) (map filled_rows (rows_by_id (packed_in groups)))
+            → AllZip (AreRowsOf width changes) (compressed (record group { content = content } ∷ groups)) (map filled_rows (rows_by_id (packed_in (record group { content = content } ∷ groups))))
+        step (Opened store) fit here rest = rest
+        step (Closed store) fit here rest = rest
+        step (Compressed packed marks) fit here rest = (
+          record {
+            of_group = refl;
+            of_versions = subst (λ (rows : List PackedRow). IsPermutation rows (map filled packed.value.rows)) (sym (rows_are packed.value.key packed.value.rows marks.value fit here)) (IsPermutation-refl (map filled packed.value.rows));
+          },
+          rest,
+        )
+        step Invisible fit here rest = rest
+        step (Tombstone total deleted) fit here rest = rest
+
+-- ---- the law
+
+pub segments_shown : (directory : Directory) (view : GroupView) (changes : List Change) (lines : List SegmentLine) → Stands directory changes → IsLookAt directory view
+    → AreSegmentLines directory.schema.value (rows_by_id (packed_parts view.groups)) lines → ShowsSegments directory.schema.value changes (book_of directory.list) lines
+segments_shown directory view changes lines j look are =
+    let width = width_in directory in
+    let groups = directory.list.groups.items in
+    let here = subst (λ entries. AreSegmentLines directory.schema.value (rows_by_id entries) lines) look.packed are in
+    record {
+      groups = map (filled_rows width) (rows_by_id (packed_in groups));
+      of_book = of_book width changes groups (recursion_from_All (λ (group : Group). IsFittingContent group.content) groups j.held.fitting)
+          (subst (AllByRecursion (IsRowOf width changes)) (listed_whole groups) (recursion_from_All (IsRowOf width changes) _ j.rows));
+      of_groups = record { parts = here.parts; of_groups = groups_kept width (rows_by_id (packed_in groups)) here.parts here.of_groups; joined = here.joined };
+    }

@@ -1,0 +1,9 @@
+use Rattle.std.proofs.Common.{◌≡◌, false, take}
+use Rattle.std.specs.List.{list_any}
+use Rattle.group_book.specs.Choices.{is_thin}
+use Rattle.group_view.specs.Books.{book_of, group_of}
+use Rattle.group_view.proofs.Chosen.{takes_packed}
+use Rattle.group_view.proofs.lowest.lowest_thin.Given as goal
+
+abbrev pub invariant-loop-group : goal.invariant-loop-group
+invariant-loop-group l = list_any (λ group. takes_packed (book_of l.list).claims (is_thin l.floor) (group_of group)) (take l.group-index l.list.groups.items) ≡ false

@@ -1,0 +1,88 @@
+// Which entries of the delete buffer end versions of a group.
+ghost use Rattle.std.specs.Prelude.{◌≡◌, ◌<◌, ◌&&◌, length, slice_get, Some};
+ghost use Rattle.std.specs.List.{list_any};
+ghost use Rattle.std.specs.Option.{option_map};
+ghost use Rattle.group_book.specs.Book.{Version, is_compressed};
+ghost use Rattle.group_book.specs.Turns.{ends, is_number};
+ghost use Rattle.group_view.specs.Books.{group_of, versions_of};
+ghost use Rattle.group_view.specs.Lists.{IsFittingContent};
+ghost use Rattle.group_view.specs.Parts.{packed_versions};
+ghost use Rattle.group_view.specs.Views.{endings_of};
+ghost use Rattle.group_view.specs.Walks.{ends_in};
+
+use crate::groups::{Group, GroupContent};
+use cs_types::Key;
+use delete_bitmap::Marks;
+use delete_buffer::Buffer;
+use row_group::Packed;
+
+/// Whether the end that was looked for is this one.
+fn is_found(found: Option<u64>, end: u64) -> bool
+    ensures { result ≡ is_number end found }
+{
+    match found {
+        Some(other) => other == end,
+        None => false,
+    }
+}
+
+/// Whether the entry of this key and end is the end of the version at a position, which is one of the key: no end is recorded
+/// beside the version, and the entry is the least of the key above its begin.
+fn is_end_of(
+    packed: &Packed,
+    marks: &Marks,
+    buffer: &Buffer,
+    position: usize,
+    key: Key,
+    end: u64,
+) -> bool
+    requires { position < length packed.now.rows }
+    ensures { (version : Version) → slice_get (versions_of (packed_versions packed.now.key packed.now.rows marks.now)) position ≡ Some version → version.key ≡ key → result ≡ ends (endings_of buffer.now.entries) (record { key = key; end = end }) version }
+{
+    match marks.end(position) {
+        Some(_) => false,
+        None => is_found(buffer.ends(key, packed.begin(position)), end),
+    }
+}
+
+/// Whether the entry of this key and end ends a version of a packed group, by its positions of the key.
+fn ends_version(packed: &Packed, marks: &Marks, buffer: &Buffer, key: Key, end: u64) -> bool
+    requires { length marks.now ≡ length packed.now.rows }
+    ensures { result ≡ list_any (ends (endings_of buffer.now.entries) (record { key = key; end = end })) (versions_of (packed_versions packed.now.key packed.now.rows marks.now)) }
+{
+    let places = packed.find(key);
+    for place in places.from..places.to {
+        let position = packed.place(place);
+        if is_end_of(packed, marks, buffer, position, key, end) {
+            return true;
+        }
+    }
+    false
+}
+
+/// Whether the group is COMPRESSED, and the entry of this key and end ends a version of it.
+pub fn ends_one(group: &Group, buffer: &Buffer, key: Key, end: u64) -> bool
+    requires { IsFittingContent group.now.content }
+    ensures { result ≡ (is_compressed (group_of group.now).content && ends_in (endings_of buffer.now.entries) (group_of group.now) (record { key = key; end = end })) }
+{
+    match &group.content {
+        GroupContent::Compressed(packed, marks) => ends_version(packed, marks, buffer, key, end),
+        GroupContent::Opened(_)
+        | GroupContent::Closed(_)
+        | GroupContent::Invisible
+        | GroupContent::Tombstone { .. } => false,
+    }
+}
+
+/// Whether the group is COMPRESSED, and some entry of the buffer ends a version of it.
+pub fn has_entry(group: &Group, buffer: &Buffer) -> bool
+    requires { IsFittingContent group.now.content }
+    ensures { result ≡ (is_compressed (group_of group.now).content && list_any (ends_in (endings_of buffer.now.entries) (group_of group.now)) (endings_of buffer.now.entries)) }
+{
+    for entry in buffer.as_slice() {
+        if ends_one(group, buffer, entry.0, entry.1) {
+            return true;
+        }
+    }
+    false
+}

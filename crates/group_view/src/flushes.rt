@@ -1,0 +1,74 @@
+// What a flush lends and claims.
+ghost use Rattle.std.specs.Prelude.{◌≡◌, nat_le, length, All, IfOk};
+ghost use Rattle.std.specs.List.{list_any};
+ghost use Rattle.delete_buffer.specs.Entries.{AreInOrder};
+ghost use Rattle.group_book.specs.Book.{frozen};
+ghost use Rattle.group_book.specs.Choices.{flush_sources, flushable, free_packed};
+ghost use Rattle.group_book.specs.Turns.{ends};
+ghost use Rattle.group_view.specs.Books.{book_of};
+ghost use Rattle.group_view.specs.Lists.{IsFittingContent, IsHeld};
+ghost use Rattle.group_view.specs.Views.{endings_of};
+
+use crate::claimed::is_claimed;
+use crate::ended::{ends_one, has_entry};
+use crate::groups::GroupList;
+use cs_base::{Items, Memory};
+use cs_types::Key;
+use std::alloc::Global;
+
+/// Whether the entry of this key and end ends a version of a COMPRESSED group that no claim has. Claims are asked only of a
+/// group in which it does.
+fn is_flushable(list: &GroupList, key: Key, end: u64) -> bool
+    requires { All (λ group. IsFittingContent group.content) list.now.groups.items }
+    ensures { result ≡ list_any (ends (book_of list.now).buffer (record { key = key; end = end })) (frozen (free_packed (book_of list.now))) }
+{
+    for group in &list.groups {
+        if ends_one(group, &list.buffer, key, end) && !is_claimed(&list.claims, group.id) {
+            return true;
+        }
+    }
+    false
+}
+
+/// Whether a flush has an entry to write. It stops at the first.
+pub fn has_flushable(list: &GroupList) -> bool
+    requires { All (λ group. IsFittingContent group.content) list.now.groups.items }
+    ensures { result ≡ nat_le 1 (length (flushable (book_of list.now))) }
+{
+    for entry in list.buffer.as_slice() {
+        if is_flushable(list, entry.0, entry.1) {
+            return true;
+        }
+    }
+    false
+}
+
+/// The ids of the groups that a flush claims, in order: those in which versions of its entries lie.
+pub fn flush_sources(alloc: Global, list: &GroupList) -> Result<Items<u64>, Memory>
+    requires { IsHeld list.now }
+    ensures { IfOk result (λ ids. ids ≡ flush_sources (book_of list.now)) }
+{
+    let mut sources = Items::new(alloc);
+    for group in &list.groups {
+        if has_entry(group, &list.buffer) && !is_claimed(&list.claims, group.id) {
+            sources.push(group.id)?;
+        }
+    }
+    Ok(sources)
+}
+
+/// The entries that a flush writes, in the buffer's order: those whose versions lie in COMPRESSED groups that no claim has,
+/// whatever their numbers.
+pub fn flush_entries(alloc: Global, list: &GroupList) -> Result<Items<(Key, u64)>, Memory>
+    requires { IsHeld list.now }
+    ensures entries { IfOk result (λ entries. endings_of entries ≡ flushable (book_of list.now)) }
+    ensures order { IfOk result AreInOrder }
+{
+    let mut entries = Items::new(alloc);
+    for entry in list.buffer.as_slice() {
+        if is_flushable(list, entry.0, entry.1) {
+            entries.push(*entry)?;
+        }
+    }
+    Ok(entries)
+}
