@@ -1,0 +1,222 @@
+-- The new group is made of the versions that are kept.
+use Rattle.std.proofs.Common.{◌≡◌, ◌≢◌, ℕ, zero, suc, ◌+◌, ◌<◌, ◌≤◌, Bool, true, false, cond, not, nat_le, leb, List, [], ◌∷◌, map, get_or, length, Option, Some, None, inl, inr, refl, sym, ap, subst, ◌∙◌, arith}
+use Rattle.std.specs.Prelude.{max, slice_get, is_some}
+use Rattle.std.specs.List.{All, AllByRecursion, AllPairs, filter}
+use Rattle.std.specs.List.Sorted.{IsPermutation}
+use Rattle.std.specs.Option.{unwrap_or}
+use Rattle.std.proofs.lemmas.Bool.{cases_lt, lt-leb, le-leb}
+use Rattle.std.proofs.lemmas.List.{length-map, get_or-map, get_or_default, same_lists}
+use Rattle.std.proofs.lemmas.List.Elements.{All-map, All-weaker, All-filter}
+use Rattle.std.proofs.lemmas.List.Sorted.{IsPermutation-sym, length_permutation}
+use Rattle.std.proofs.lemmas.Option.{unwrap_or-slice_get}
+use Rattle.cs_types.specs.declared.Key.{Key}
+use Rattle.cs_types.specs.declared.Schema.{Schema}
+use Rattle.cs_types.specs.declared.Value.{Value}
+use Rattle.cs_types.specs.Rows.{key_in, number_in}
+use Rattle.cs_types.specs.Schemas.{IsSchema, IsRowOf}
+use Rattle.delete_bitmap.specs.declared.MarkedEnd.{MarkedEnd}
+use Rattle.delete_bitmap.specs.Marks.{end_at}
+use Rattle.row_group.specs.Rows.{PackedRow, begin_above, begun_above}
+use Rattle.row_group.specs.Groups.{Group, row_at, HoldsRows}
+use Rattle.row_group.specs.Packings.{StandAt}
+use Rattle.row_group.proofs.PackerLemmas.{padded-fits}
+use Rattle.row_group.proofs.ShownLemmas.{map-map}
+use Rattle.group_book.specs.Book.{End, Version}
+use Rattle.group_book.specs.Book.End.{At, Plain}
+use Rattle.group_book.specs.Turns.{raised}
+use Rattle.group_view.specs.Parts.{Rowed, padded, end_of_mark, packed_version, packed_versions}
+use Rattle.group_view.specs.declared.claim.Claim.{Claim}
+use Rattle.group_view.specs.Views.{buffer_of, rowed_of}
+use Rattle.group_view.specs.Claims.{padded_rowed, kept_rowed, IsLentRow, IsMendable, IsPackedFor}
+use Rattle.group_view.proofs.Versions.{length-packed_versions, packed_read}
+use Rattle.tuple_mover.specs.declared.kept.Kept.{Kept}
+use Rattle.tuple_mover.specs.Kept.{is_left_out, kept_of, HasKept, rowed_at, packed_row, number_of, numbers_of, mark_of, ArePlaced}
+use Rattle.tuple_mover.proofs.InsertLemmas.{padded-cell}
+use Rattle.tuple_mover.proofs.KeptLemmas.{rowed-read}
+use Rattle.tuple_mover.proofs.GroupLemmas.{all-taken}
+use Rattle.tuple_mover.proofs.EntryLemmas.{kept-is, kept-numbered}
+
+-- a kept version: its row is the table's, and its end, if it has one, has a number
+pub record IsKeptRow (schema : Schema) (rowed : Rowed) : Type 0 where
+  pub lent : IsLentRow schema rowed
+  pub numbered : rowed.version.end ≢ Some Plain
+
+abbrev pub raised_rowed : ℕ → Rowed → Rowed
+raised_rowed floor rowed = record rowed { version = raised floor rowed.version }
+
+begin_raised : (floor begin : ℕ) → begin_above floor begin ≡ max floor begin
+begin_raised floor begin = elim (cases_lt floor begin) [
+  | inl above ↦ let is : max floor begin ≡ begin = omega (arith, above) in ap (λ (t : Bool). cond t floor begin) (lt-leb begin floor above) ∙ sym is
+  | inr low ↦ let is : max floor begin ≡ floor = omega (arith, low) in ap (λ (t : Bool). cond t floor begin) (le-leb begin floor low) ∙ sym is
+]
+
+end_marked : (end : Option End) → end ≢ Some Plain → end_of_mark (mark_of (number_of end)) ≡ end
+end_marked None numbered = refl
+end_marked (Some (At e)) numbered = refl
+end_marked (Some Plain) numbered = absurd (numbered refl)
+
+-- one version in the new group
+one_made : (schema : Schema) → IsSchema schema → (floor : ℕ) (rowed : Rowed) → IsKeptRow schema rowed
+    → packed_version schema.key (begun_above floor (packed_row (length schema.columns) rowed)) (mark_of (number_of rowed.version.end)) ≡ padded_rowed (length schema.columns) (raised_rowed floor rowed)
+one_made schema is_schema floor rowed kept =
+    let width = length schema.columns in
+    let key : key_in schema.key (padded width rowed.row) ≡ rowed.version.key =
+    ap (λ (cell : Value). let key : Key = record { 0 = number_in cell } in key) (padded-cell width rowed.row schema.key is_schema.key_there) ∙ kept.lent.key in
+    (λ i. record {
+      version = record { key = key i; begin = begin_raised floor rowed.version.begin i; end = end_marked rowed.version.end kept.numbered i };
+      row = padded width rowed.row;
+    })
+
+module _ (schema : Schema) (is_schema : IsSchema schema) (floor : ℕ) (rowed : List Rowed) (kept : All (IsKeptRow schema) rowed) where
+  abbrev width : ℕ
+  width = length schema.columns
+
+  pub rows-fit : All (λ (row : PackedRow). IsRowOf schema row.cells) (map (packed_row width) rowed)
+  rows-fit =
+      All-map (λ (row : PackedRow). IsRowOf schema row.cells) (packed_row width) rowed
+      (All-weaker (IsKeptRow schema) (λ (version : Rowed). IsRowOf schema (padded width version.row)) (λ version is. padded-fits schema version.row version.version.begin is.lent.row) rowed kept)
+
+  abbrev given : List PackedRow
+  given = map (begun_above floor) (map (packed_row width) rowed)
+
+  module _ (group : Group) (holds : HoldsRows schema given floor group) (positions : List ℕ) (stand : StandAt given group positions) where
+    as_given : length given ≡ length rowed
+    as_given = length-map (map (packed_row width) rowed) (begun_above floor) ∙ length-map rowed (packed_row width)
+
+    as_many : length positions ≡ length rowed
+    as_many = sym (length-map positions (row_at group)) ∙ ap length stand.own ∙ as_given
+
+    as_rows : length group.rows ≡ length rowed
+    as_rows = length_permutation given group.rows holds.rows ∙ as_given
+
+    pub places-within : All (λ (position : ℕ). position < length positions) positions
+    places-within =
+        All-weaker (λ (position : ℕ). position < length group.rows) (λ (position : ℕ). position < length positions) (λ position there. omega (arith, there, as_many, as_rows)) positions stand.within
+
+    row_placed : (k : ℕ) (d : Rowed) → k < length positions → row_at group (get_or positions k 0) ≡ begun_above floor (packed_row width (get_or rowed k d))
+    row_placed k d there =
+        let e : PackedRow = record { cells = []; begin = 0 } in
+        sym (get_or-map (row_at group) positions k 0 e there)
+        ∙ ap (λ (rows : List PackedRow). get_or rows k e) stand.own
+        ∙ get_or-map (begun_above floor) (map (packed_row width) rowed) k e e (omega (arith, there, as_many, length-map rowed (packed_row width)))
+        ∙ ap (begun_above floor) (get_or-map (packed_row width) rowed k d e (omega (arith, there, as_many)))
+
+    module _ (placed : List (Option ℕ)) (are : ArePlaced (numbers_of rowed) positions placed) where
+      abbrev marks : List (Option MarkedEnd)
+      marks = map mark_of placed
+
+      as_marks : length marks ≡ length group.rows
+      as_marks = length-map placed mark_of ∙ are.counted ∙ as_many ∙ sym as_rows
+
+      mark_placed : (k : ℕ) (d : Rowed) → k < length positions → end_at marks (get_or positions k 0) ≡ mark_of (number_of (let version : Rowed = get_or rowed k d in version.version.end))
+      mark_placed k d there =
+          let p = get_or positions k 0 in
+          let within : p < length placed = omega (arith, places-within k 0 there, are.counted) in
+          unwrap_or-slice_get marks p None
+          ∙ get_or-map mark_of placed p None None within
+          ∙ ap mark_of (are.own k there ∙ get_or-map (λ (version : Rowed). number_of version.version.end) rowed k d None (omega (arith, there, as_many)))
+
+      made_at : (k : ℕ) (d : Rowed) → k < length positions → rowed_at (packed_versions group.key group.rows marks) (get_or positions k 0) ≡ padded_rowed width (raised_rowed floor (get_or rowed k d))
+      made_at k d there =
+          let p = get_or positions k 0 in
+          let version : Rowed = get_or rowed k d in
+          let long = length-packed_versions group.key group.rows marks as_marks in
+          let within : p < length (packed_versions group.key group.rows marks) = omega (arith, long, stand.within k 0 there) in
+          rowed-read (packed_versions group.key group.rows marks) p (packed_version group.key (row_at group p) (end_at marks p)) (packed_read group marks p within)
+          ∙ (λ i. packed_version (holds.key i) (row_placed k d there i) (mark_placed k d there i))
+          ∙ one_made schema is_schema floor version (kept k d (omega (arith, there, as_many)))
+
+      pub made-of : IsPermutation (map (padded_rowed width) (map (raised_rowed floor) rowed)) (packed_versions group.key group.rows marks)
+      made-of =
+          let versions = packed_versions group.key group.rows marks in
+          let wanted = map (padded_rowed width) (map (raised_rowed floor) rowed) in
+          let long : length versions ≡ length positions = length-packed_versions group.key group.rows marks as_marks ∙ as_rows ∙ sym as_many in
+          let all : length wanted ≡ length rowed = length-map (map (raised_rowed floor) rowed) (padded_rowed width) ∙ length-map rowed (raised_rowed floor) in
+          let same : map (rowed_at versions) positions ≡ wanted =
+          same_lists (map (rowed_at versions) positions) wanted (length-map positions (rowed_at versions) ∙ as_many ∙ sym all)
+          (λ k e l.
+          let there : k < length positions = omega (arith, l, length-map positions (rowed_at versions)) in
+          let m : k < length rowed = omega (arith, there, as_many) in
+          get_or-map (rowed_at versions) positions k 0 e there ∙ made_at k e there
+          ∙ sym (get_or-map (padded_rowed width) (map (raised_rowed floor) rowed) k e e (omega (arith, m, length-map rowed (raised_rowed floor))) ∙ ap (padded_rowed width) (get_or-map (raised_rowed floor) rowed k e e m))) in
+          subst (λ (made : List Rowed). IsPermutation made versions) same
+          (IsPermutation-sym versions (map (rowed_at versions) positions)
+          (all-taken (rowed_at [] 0) (length positions) versions positions refl long places-within stand.apart))
+
+-- ---- the group of a claim
+
+some-kept : {X : Type 0} (xs : List X) → (xs ≡ [] → ⊥) → 0 < length xs
+some-kept [] some = absurd (some refl)
+some-kept (x ∷ xs) some = omega arith
+
+-- the group and its bitmap are made of what the claim keeps
+abbrev pub IsMade : Claim → Group → List (Option MarkedEnd) → Type 0
+IsMade claim group marks =
+    IsPermutation (map (padded_rowed (length claim.schema.value.columns)) (kept_rowed claim)) (packed_versions group.key group.rows marks)
+    × (0 < length (kept_rowed claim))
+    × IsPackedFor claim.schema.value group marks
+
+module _ (claim : Claim) (is : IsMendable claim) where
+  abbrev table : Schema
+  table = claim.schema.value
+
+  abbrev all : List Rowed
+  all = rowed_of claim.view
+
+  abbrev left : List Rowed
+  left = kept_of claim.floor (buffer_of claim.view) all
+
+  pub left-rows : All (IsKeptRow table) left
+  left-rows = λ k d l. record {
+    lent = All-filter (λ (version : Rowed). not (is_left_out claim.floor (buffer_of claim.view) version.version)) (IsLentRow table) all is.rows k d l;
+    numbered = kept-numbered claim.floor (buffer_of claim.view) all k d l;
+  }
+
+  pub left-is : map (raised_rowed claim.floor) left ≡ kept_rowed claim
+  left-is = ap (map (raised_rowed claim.floor)) (kept-is claim.floor (buffer_of claim.view) all is.ends)
+
+  module _ (kept : Kept) (had : HasKept (length table.columns) left kept) where
+    pub left-fit : All (λ (row : PackedRow). IsRowOf table row.cells) kept.packer.rows
+    left-fit = subst (λ (rows : List PackedRow). All (λ (row : PackedRow). IsRowOf table row.cells) rows) (sym had.rows) (rows-fit table is.schema claim.floor left left-rows)
+
+    pub none-left : kept.packer.rows ≡ [] → kept_rowed claim ≡ []
+    none-left none = sym left-is ∙ ap (map (raised_rowed claim.floor)) (unmapped left (sym had.rows ∙ none))
+      where
+        unmapped : (rowed : List Rowed) → map (packed_row (length table.columns)) rowed ≡ [] → rowed ≡ []
+        unmapped [] empty = refl
+        unmapped (first ∷ rowed) empty = cc
+
+    pub some-left : (kept.packer.rows ≡ [] → ⊥) → 0 < length (kept_rowed claim)
+    some-left some =
+        let one = some-kept kept.packer.rows some in
+        omega (arith, one, ap length had.rows, length-map left (packed_row (length table.columns)), ap length left-is, length-map left (raised_rowed claim.floor))
+
+    module _ (group : Group) (positions : List ℕ) (holds : HoldsRows table (map (begun_above claim.floor) kept.packer.rows) claim.floor group) (stand : StandAt (map (begun_above claim.floor) kept.packer.rows) group positions) where
+      holds_left : HoldsRows table (map (begun_above claim.floor) (map (packed_row (length table.columns)) left)) claim.floor group
+      holds_left = subst (λ (rows : List PackedRow). HoldsRows table (map (begun_above claim.floor) rows) claim.floor group) had.rows holds
+
+      stand_left : StandAt (map (begun_above claim.floor) (map (packed_row (length table.columns)) left)) group positions
+      stand_left = subst (λ (rows : List PackedRow). StandAt (map (begun_above claim.floor) rows) group positions) had.rows stand
+
+      pub left-counted : length kept.ends.items ≡ length positions
+      left-counted =
+          ap length had.ends ∙ length-map left (λ (version : Rowed). number_of version.version.end)
+          ∙ sym (sym (length-map positions (row_at group)) ∙ ap length stand.own ∙ length-map kept.packer.rows (begun_above claim.floor) ∙ ap length had.rows ∙ length-map left (packed_row (length table.columns)))
+
+      pub left-within : All (λ (position : ℕ). position < length positions) positions
+      left-within = places-within table is.schema claim.floor left left-rows group holds_left positions stand_left
+
+      pub made-group : (placed : List (Option ℕ)) (marks : List (Option MarkedEnd)) → ArePlaced kept.ends.items positions placed → marks ≡ map mark_of placed → (kept.packer.rows ≡ [] → ⊥)
+          → IsMade claim group marks
+      made-group placed bits are marked some =
+          let placed_left = subst (λ (ends : List (Option ℕ)). ArePlaced ends positions placed) had.ends are in
+          let made = made-of table is.schema claim.floor left left-rows group holds_left positions stand_left placed placed_left in
+          let rows = length_permutation (map (begun_above claim.floor) kept.packer.rows) group.rows holds.rows in (
+            subst (λ (ms : List (Option MarkedEnd)). IsPermutation (map (padded_rowed (length table.columns)) (kept_rowed claim)) (packed_versions group.key group.rows ms)) (sym marked)
+                (subst (λ (kept : List Rowed). IsPermutation (map (padded_rowed (length table.columns)) kept) (packed_versions group.key group.rows (map mark_of placed))) left-is made),
+            some-left some,
+            record {
+              packed = record { order = holds.order; width = holds.width; key = holds.key };
+              fitting = ap length marked ∙ length-map placed mark_of ∙ are.counted ∙ sym (length-map positions (row_at group)) ∙ ap length stand.own ∙ sym rows;
+            },
+          )

@@ -1,0 +1,12 @@
+use Rattle.std.proofs.Common.{◌≡◌, ◌∙◌, ◌<◌, Bool, false, List, map, get_or, length, ap, arith}
+use Rattle.group_book.specs.Book.{Ending}
+use Rattle.group_view.specs.Views.{endings_of}
+use Rattle.tuple_mover.proofs.SpentLemmas.{mark-at, marked-more}
+use Rattle.tuple_mover.proofs.spent.marked.Goals as goal
+
+pub loop-i-preserved : goal.loop-i-preserved
+loop-i-preserved c = λ (p : Ending → Bool) (are : c.args.marks.now ≡ map p (endings_of c.args.entries.now)).
+    let entries = c.args.entries.now in
+    let i = c.loop-i.i in
+    let there : i < length entries = omega arith in
+    ap endings_of c.in_ok-add_marked.ensures ∙ marked-more p entries i _ c.loop-i.some.items (get_or c.args.marks.now i false) there (c.loop-i.invariant p are) (mark-at p entries c.args.marks.now i _ there are)

@@ -1,0 +1,52 @@
+use Rattle.std.proofs.Common.{◌≡◌, ◌∙◌, ◌++◌, ◌<◌, ◌≤◌, ℕ, Bool, false, leb, List, Vec, map, take, get_or, length, replicate, sym, ap, subst, arith}
+use Rattle.std.specs.List.{filter, flat_map}
+use Rattle.std.specs.declared.alloc.Global.{Global}
+use Rattle.std.proofs.lemmas.List.{take_all}
+use Rattle.std.proofs.lemmas.Result.{IfOk-weaker}
+use Rattle.delete_buffer.specs.Entries.{Entry}
+use Rattle.group_book.specs.Book.{Version, Ending}
+use Rattle.group_view.specs.declared.parts.GroupPart.{GroupPart}
+use Rattle.group_view.specs.Parts.{versions_in}
+use Rattle.group_view.specs.Views.{endings_of, buffer_of, rowed_of}
+use Rattle.group_view.specs.Books.{versions_of}
+use Rattle.group_view.specs.Claims.{lent_entries}
+use Rattle.tuple_mover.specs.Spent.{is_spent, spent_by}
+use Rattle.tuple_mover.proofs.SpentLemmas.{none-spent, spent-filter, versions-groups, versions-all}
+use Rattle.tuple_mover.proofs.spent.spent.Goals as goal
+
+pub loop-part-init : goal.loop-part-init
+loop-part-init c =
+    let claim = c.args.claim.now in
+    c.in_ok-spent.ensures.items_if_clones_equal (λ y same. same)
+    ∙ ap (λ (entries : List Entry). replicate (length entries) false) (c.as_slice-entries.ensures.value ∙ c.deref.ensures)
+    ∙ none-spent claim.floor (buffer_of claim.view) claim.view.buffer.value
+
+pub loop-part-preserved : goal.loop-part-preserved
+loop-part-preserved c =
+    let claim = c.args.claim.now in
+    let groups = claim.view.groups in
+    let i = c.loop-part.part-index in
+    let there : i < length groups = omega (arith, ap length c.as_slice-part-items.ensures) in
+    let item : ℕ × GroupPart = c.part-item.result in
+    let before = flat_map (λ (group : ℕ × GroupPart). versions_in group.1) (take i groups) in
+    let step = subst (λ (entries : List Entry). (versions : List Version) → c.loop-part.spent.items ≡ spent_by claim.floor (endings_of entries) versions → c.spend_part.new.spent.items ≡ spent_by claim.floor (endings_of entries) (versions ++ versions_in item.1)) c.deref-in-loop-part.ensures c.spend_part.ensures in
+    step before c.loop-part.invariant
+    ∙ ap (spent_by claim.floor (buffer_of claim.view)) (ap (λ (group : ℕ × GroupPart). before ++ versions_in group.1) (c.part-item.is ∙ ap (λ (all : List (ℕ × GroupPart)). get_or all i item) c.as_slice-part-items.ensures) ∙ versions-groups groups i item there)
+
+pub returns : goal.returns
+returns c =
+    let claim = c.args.claim.now in
+    let groups = claim.view.groups in
+    let buffer = buffer_of claim.view in
+    let versions = versions_of (rowed_of claim.view) in
+    let all : length groups ≤ c.loop-part.part-index = omega (arith, ap length c.as_slice-part-items.ensures) in
+    let entries : c.as_slice-entries.result.now ≡ claim.view.buffer.value = c.as_slice-entries.ensures.value ∙ c.deref.ensures in
+    let marks : c.deref-2.result.now ≡ map (is_spent claim.floor buffer versions) (endings_of c.as_slice-entries.result.now) =
+    c.deref-2.ensures.value ∙ c.loop-part.invariant
+    ∙ ap (λ (some : List (ℕ × GroupPart)). spent_by claim.floor buffer (flat_map (λ (group : ℕ × GroupPart). versions_in group.1) some)) (take_all c.loop-part.part-index groups all)
+    ∙ ap (spent_by claim.floor buffer) (versions-all groups)
+    ∙ ap (λ (some : List Entry). map (is_spent claim.floor buffer versions) (endings_of some)) (sym entries) in
+    IfOk-weaker c.marked.result (λ (some : Vec Entry Global). endings_of some.items ≡ filter (is_spent claim.floor buffer versions) (endings_of c.as_slice-entries.result.now))
+    (λ (some : Vec Entry Global). endings_of some.items ≡ filter (λ (entry : Ending). leb entry.end claim.floor) (lent_entries claim))
+    (λ some is. is ∙ ap (λ (some : List Entry). filter (is_spent claim.floor buffer versions) (endings_of some)) entries ∙ spent-filter claim.floor buffer versions buffer)
+    (c.marked.ensures (is_spent claim.floor buffer versions) marks)

@@ -1,0 +1,34 @@
+-- The rows that own writes insert.
+use Rattle.std.specs.Prelude.{◌≡◌, ℕ, List, map, length, Some, IfSome}
+use Rattle.std.specs.List.{flat_map}
+use Rattle.std.specs.Option.{option_map, option_to_list}
+use Rattle.cs_types.specs.declared.Key.{Key}
+use Rattle.cs_types.specs.declared.Schema.{Schema}
+use Rattle.cs_types.specs.declared.Value.{Value}
+use Rattle.cs_types.specs.Rows.{key_in}
+use Rattle.cs_types.specs.Schemas.{IsRowOf}
+use Rattle.cs_model.specs.Changes.{Edit}
+use Rattle.row_group.specs.declared.packed.Packed.{Packed}
+use Rattle.row_group.specs.Rows.{PackedRow, padded}
+use Rattle.row_group.specs.Groups.{HoldsRows}
+
+-- the rows that edits give, with their keys
+abbrev pub rows_given : List Edit → List (Key × List Value)
+rows_given edits = flat_map (λ (edit : Edit). option_to_list (option_map (λ (row : List Value). (edit.0, row)) edit.1)) edits
+
+-- a row of the schema, with its key in the key's column
+pub record IsEntryOf (schema : Schema) (entry : Key × List Value) : Type 0 where
+  pub row : IsRowOf schema entry.1
+  pub key : key_in schema.key entry.1 ≡ entry.0
+
+-- where the edit gives its key a row, this is one of the schema
+abbrev pub FitsIn : Schema → Edit → Type 0
+FitsIn schema edit = IfSome edit.1 (λ (row : List Value). IsEntryOf schema (edit.0, row))
+
+-- a row of a direct group: its cells in so many columns, with begin 0
+abbrev pub direct_row : ℕ → Key × List Value → PackedRow
+direct_row width entry = padded width entry.1 0
+
+-- the group has the rows that the edits give, with base 0
+abbrev pub IsDirectOf : Schema → List Edit → Packed → Type 0
+IsDirectOf schema own group = HoldsRows schema (map (direct_row (length schema.columns)) (rows_given own)) 0 group

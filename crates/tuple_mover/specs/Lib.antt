@@ -1,0 +1,4 @@
+pub mod Inserts
+pub mod Kept
+pub mod Spent
+pub mod Flushed
