@@ -15,18 +15,16 @@ use Rattle.cs_model.specs.declared.entry.Refusal.TheVariants as refusal
 use Rattle.cs_model.specs.declared.entry.Reply.{Reply}
 use Rattle.cs_model.specs.declared.entry.Reply.TheVariants as reply
 use Rattle.cs_types.specs.Keys.{key_cmp}
-use Rattle.cs_model.specs.Changes.{Edit, Table, Change, table}
-use Rattle.cs_model.specs.Held.{MayStand, IsFit, IsFitEntry, IsFitTable, AreFit}
+use Rattle.cs_model.specs.Changes.{Edit, Change}
+use Rattle.cs_model.specs.Held.{IsFit}
 use Rattle.cs_model.specs.Ready.{IsOfReading, IsReady}
 use Rattle.cs_types.proofs.KeyLemmas.{exact_key}
-use Rattle.cs_model.specs.State.{State, Txn, Half, with, txn_set, half_set, seen, seen_at}
+use Rattle.cs_model.specs.State.{State, Txn, Half, with, txn_set, half_set}
 use Rattle.cs_model.specs.Kinds.{is_of_table}
-use Rattle.cs_model.specs.Obstacles.{keys_of, is_present, IsObstacle}
-use Rattle.cs_model.specs.Steps.{IsReply, began, unwound, settled, commits, wrote, gone, refused, replied, accepted, ends_txn, staged, is_empty, numbered, begin_reply, done_in, pinned, started, fixed, txn_opened}
+use Rattle.cs_model.specs.Obstacles.{keys_of, IsObstacle, IsJudged}
+use Rattle.cs_model.specs.Steps.{IsReply, IsGroups, began, unwound, settled, commits, wrote, writes_in, gone, refused, replied, accepted, ends_txn, staged, is_empty, numbered, begin_reply, done_in, pinned, started, txn_opened}
 use Rattle.cs_model.specs.Text.{IsPrintableKey, IsPrintableRefusal, IsPrintableReply}
-use Rattle.change_list.proofs.Rows.{table_all, laid_all}
-use Rattle.statement_core.specs.Fit.{IsFitTxn, IsReadyHalf, IsFitState}
-use Rattle.statement_core.specs.Settled.{wrote_or, IsWrittenIn, IsRead}
+use Rattle.statement_core.specs.Fit.{IsFitting, AreFitting, IsFitTxn, IsReadyHalf, IsFitState}
 
 module _ (schema : Schema) where
   -- ---- one session's part
@@ -38,7 +36,7 @@ module _ (schema : Schema) where
       at true = p
       at false = h s
 
-  pub fit_txn : (m : State) (i : ℕ) (o : Option Txn) → IsFitState schema m → IsFitTxn schema o → IsFitState schema (txn_set m i o)
+  fit_txn : (m : State) (i : ℕ) (o : Option Txn) → IsFitState schema m → IsFitTxn schema o → IsFitState schema (txn_set m i o)
   fit_txn m i o fit p = record { changes = fit.changes; txns = set_fits (IsFitTxn schema) m.txns i o p fit.txns; halves = fit.halves }
 
   pub fit_half : (m : State) (i : ℕ) (h : Option Half) → IsFitState schema m → IsReadyHalf schema h → IsFitState schema (half_set m i h)
@@ -49,61 +47,53 @@ module _ (schema : Schema) where
 
   -- ---- edits and changes
 
-  fit_numbered : (commit txn : ℕ) (edits : List Edit) → All (IsFit schema) edits → AreFit schema (numbered commit txn edits)
-  fit_numbered commit txn edits fit = All-map (λ (change : Change). IsFit schema change.edit) (λ edit. record { commit = commit; txn = txn; edit = edit }) edits fit
+  fit_numbered : (commit txn : ℕ) (edits : List Edit) → All (IsFitting schema) edits → AreFitting schema (numbered commit txn edits)
+  fit_numbered commit txn edits fit = All-map (λ (change : Change). IsFitting schema change.edit) (λ edit. record { commit = commit; txn = txn; edit = edit }) edits fit
 
-  fit_commits : (m : State) (i : ℕ) (txn : Txn) → IsFitState schema m → All (IsFit schema) txn.own → IsFitState schema (commits m i txn)
+  fit_commits : (m : State) (i : ℕ) (txn : Txn) → IsFitState schema m → All (IsFitting schema) txn.own → IsFitState schema (commits m i txn)
   fit_commits m i txn fit own = at (is_empty txn.own)
     where
       at : (t : Bool) → IsFitState schema (cond t (gone m i) (record (gone m i) { changes = m.changes ++ numbered (m.clock + 1) txn.number txn.own; clock = m.clock + 1 }))
       at true = fit_gone m i fit
       at false = record {
-        changes = All-append (λ (change : Change). IsFit schema change.edit) m.changes (numbered (m.clock + 1) txn.number txn.own) fit.changes (fit_numbered (m.clock + 1) txn.number txn.own own);
+        changes = All-append (λ (change : Change). IsFitting schema change.edit) m.changes (numbered (m.clock + 1) txn.number txn.own) fit.changes (fit_numbered (m.clock + 1) txn.number txn.own own);
         txns = (fit_gone m i fit).txns;
         halves = fit.halves;
       }
 
-  insert_fits : (own : List Edit) (edit : Edit) → IsFit schema edit → All (IsFit schema) own → All (IsFit schema) (insert_entry key_cmp own edit.0 edit.1)
-  insert_fits [] edit p all = All-cons (IsFit schema) edit [] p all
-  insert_fits (e ∷ es) edit p all = at (key_cmp edit.0 e.0) refl (insert_fits es edit p (All-tail (IsFit schema) e es all))
+  insert_fits : (own : List Edit) (edit : Edit) → IsFitting schema edit → All (IsFitting schema) own → All (IsFitting schema) (insert_entry key_cmp own edit.0 edit.1)
+  insert_fits [] edit p all = All-cons (IsFitting schema) edit [] p all
+  insert_fits (e ∷ es) edit p all = at (key_cmp edit.0 e.0) refl (insert_fits es edit p (All-tail (IsFitting schema) e es all))
     where
-      at : (r : Ordering) → key_cmp edit.0 e.0 ≡ r → All (IsFit schema) (insert_entry key_cmp es edit.0 edit.1) → All (IsFit schema) (match_ordering r ((edit.0, edit.1) ∷ e ∷ es) ((e.0, edit.1) ∷ es) (e ∷ insert_entry key_cmp es edit.0 edit.1))
-      at Less is rest = All-cons (IsFit schema) edit (e ∷ es) p all
-      at Equal is rest = All-cons (IsFit schema) (e.0, edit.1) es ((All-head (IsFit schema) e es all).0, subst (λ key. MayStand schema key edit.1) (exact_key edit.0 e.0 is) p.1) (All-tail (IsFit schema) e es all)
-      at Greater is rest = All-cons (IsFit schema) e (insert_entry key_cmp es edit.0 edit.1) (All-head (IsFit schema) e es all) rest
+      at : (r : Ordering) → key_cmp edit.0 e.0 ≡ r → All (IsFitting schema) (insert_entry key_cmp es edit.0 edit.1) → All (IsFitting schema) (match_ordering r ((edit.0, edit.1) ∷ e ∷ es) ((e.0, edit.1) ∷ es) (e ∷ insert_entry key_cmp es edit.0 edit.1))
+      at Less is rest = All-cons (IsFitting schema) edit (e ∷ es) p all
+      at Equal is rest = All-cons (IsFitting schema) (e.0, edit.1) es (subst (λ (key : Key). IsFitting schema (key, edit.1)) (exact_key edit.0 e.0 is) p) (All-tail (IsFitting schema) e es all)
+      at Greater is rest = All-cons (IsFitting schema) e (insert_entry key_cmp es edit.0 edit.1) (All-head (IsFitting schema) e es all) rest
 
-  fit_staged : (own edits : List Edit) → All (IsFit schema) own → All (IsFit schema) edits → All (IsFit schema) (staged own edits)
+  fit_staged : (own edits : List Edit) → All (IsFitting schema) own → All (IsFitting schema) edits → All (IsFitting schema) (staged own edits)
   fit_staged own [] a b = a
-  fit_staged own (edit ∷ edits) a b = fit_staged (insert_entry key_cmp own edit.0 edit.1) edits (insert_fits own edit (All-head (IsFit schema) edit edits b) a) (All-tail (IsFit schema) edit edits b)
+  fit_staged own (edit ∷ edits) a b = fit_staged (insert_entry key_cmp own edit.0 edit.1) edits (insert_fits own edit (All-head (IsFitting schema) edit edits b) a) (All-tail (IsFitting schema) edit edits b)
 
-  fit_settled : (m : State) (i : ℕ) (txn : Txn) → IsFitState schema m → All (IsFit schema) txn.own → IsFitState schema (settled m i txn)
+  fit_settled : (m : State) (i : ℕ) (txn : Txn) → IsFitState schema m → All (IsFitting schema) txn.own → IsFitState schema (settled m i txn)
   fit_settled m i txn fit own = at (txn.depth == 0)
     where
       at : (t : Bool) → IsFitState schema (cond t (commits m i txn) (txn_set m i (Some txn)))
       at true = fit_commits m i txn fit own
       at false = fit_txn m i (Some txn) fit own
 
-  fit_wrote : (m : State) (i : ℕ) (o : Option Txn) (edits : List Edit) → IsFitState schema m → IsFitTxn schema o → All (IsFit schema) edits → IsFitState schema (wrote m i o edits)
+  fit_wrote : (m : State) (i : ℕ) (o : Option Txn) (edits : List Edit) → IsFitState schema m → IsFitTxn schema o → All (IsFitting schema) edits → IsFitState schema (wrote m i o edits)
   fit_wrote m i None edits fit p e = fit
   fit_wrote m i (Some txn) edits fit p e = fit_settled m i (record txn { own = staged txn.own edits }) fit (fit_staged txn.own edits p e)
 
-  pub fit_refused : (m : State) (i : ℕ) (refusal : Refusal) → IsFitState schema m → IsFitState schema (refused m i refusal)
+  fit_refused : (m : State) (i : ℕ) (refusal : Refusal) → IsFitState schema m → IsFitState schema (refused m i refusal)
   fit_refused m i refusal fit = at (ends_txn (m.txns i) refusal)
     where
       at : (t : Bool) → IsFitState schema (cond t (gone m i) m)
       at true = fit_gone m i fit
       at false = fit
 
-  pub fit_wrote_or : (m : State) (i : ℕ) (edits : List Edit) (r : Reply) → IsFitState schema m → All (IsFit schema) edits → IsFitState schema (wrote_or m i edits r)
-  fit_wrote_or m i edits reply.Done fit e = fit_wrote m i (m.txns i) edits fit (fit.txns i) e
-  fit_wrote_or m i edits (reply.Affected count) fit e = fit_wrote m i (m.txns i) edits fit (fit.txns i) e
-  fit_wrote_or m i edits (reply.Rows rows segments) fit e = fit_wrote m i (m.txns i) edits fit (fit.txns i) e
-  fit_wrote_or m i edits (reply.Refused refusal) fit e = fit_refused m i refusal fit
-
-  -- ---- statements that are none of the table
-
   fit_began : (m : State) (i : ℕ) (o : Option Txn) → IsFitState schema m → IsFitTxn schema o → IsFitState schema (began m i o)
-  fit_began m i None fit p = record { changes = fit.changes; txns = set_fits (IsFitTxn schema) m.txns i _ (All-nil (IsFit schema)) fit.txns; halves = fit.halves }
+  fit_began m i None fit p = record { changes = fit.changes; txns = set_fits (IsFitTxn schema) m.txns i _ (All-nil (IsFitting schema)) fit.txns; halves = fit.halves }
   fit_began m i (Some txn) fit p = fit_txn m i _ fit p
 
   fit_unwound : (m : State) (i : ℕ) (o : Option Txn) → IsFitState schema m → IsFitTxn schema o → IsFitState schema (unwound m i o)
@@ -114,26 +104,32 @@ module _ (schema : Schema) where
       at true = fit_commits m i txn fit p
       at false = fit_txn m i _ fit p
 
-  fit_accepted : (m : State) (i : ℕ) (b : Bound) → is_of_table b ≡ false → IsFitState schema m → IsFitState schema (accepted schema m i b)
-  fit_accepted m i bound.Begin e fit = fit_began m i (m.txns i) fit (fit.txns i)
-  fit_accepted m i bound.Commit e fit = fit_unwound m i (m.txns i) fit (fit.txns i)
-  fit_accepted m i bound.Rollback e fit = fit_gone m i fit
-  fit_accepted m i bound.Nothing e fit = fit
-  fit_accepted m i (bound.Insert plan) e fit = absurd (cc e)
-  fit_accepted m i (bound.Update plan) e fit = absurd (cc e)
-  fit_accepted m i (bound.Delete condition) e fit = absurd (cc e)
-  fit_accepted m i (bound.Select query) e fit = absurd (cc e)
-  fit_accepted m i (bound.Refused refusal) e fit = fit
+  fit_accepted : (m : State) (i : ℕ) (b : Bound) → IsFitState schema m → All (IsFitting schema) (writes_in schema m.changes (m.txns i) b) → IsFitState schema (accepted schema m i b)
+  fit_accepted m i bound.Begin fit e = fit_began m i (m.txns i) fit (fit.txns i)
+  fit_accepted m i bound.Commit fit e = fit_unwound m i (m.txns i) fit (fit.txns i)
+  fit_accepted m i bound.Rollback fit e = fit_gone m i fit
+  fit_accepted m i bound.Nothing fit e = fit
+  fit_accepted m i (bound.Insert plan) fit e = fit_wrote m i (m.txns i) _ fit (fit.txns i) e
+  fit_accepted m i (bound.Update plan) fit e = fit_wrote m i (m.txns i) _ fit (fit.txns i) e
+  fit_accepted m i (bound.Delete condition) fit e = fit_wrote m i (m.txns i) _ fit (fit.txns i) e
+  fit_accepted m i (bound.Select query) fit e = fit_wrote m i (m.txns i) [] fit (fit.txns i) (All-nil (IsFitting schema))
+  fit_accepted m i bound.GroupReport fit e = fit
+  fit_accepted m i bound.SegmentReport fit e = fit
+  fit_accepted m i (bound.Refused refusal) fit e = fit
 
-  pub fit_replied : (m : State) (i : ℕ) (b : Bound) (r : Reply) → is_of_table b ≡ false → IsFitState schema m → IsFitState schema (replied schema m i b r)
-  fit_replied m i b reply.Done e fit = fit_accepted m i b e fit
-  fit_replied m i b (reply.Affected count) e fit = fit_accepted m i b e fit
-  fit_replied m i b (reply.Rows rows segments) e fit = fit_accepted m i b e fit
-  fit_replied m i b (reply.Refused refusal) e fit = fit_refused m i refusal fit
+  -- what the statement writes fits the table, where it is not refused
+  pub fit_replied : (m : State) (i : ℕ) (b : Bound) (r : Reply) → IsFitState schema m → ((found : Refusal) × (r ≡ reply.Refused found)) ⊎ All (IsFitting schema) (writes_in schema m.changes (m.txns i) b) → IsFitState schema (replied schema m i b r)
+  fit_replied m i b r fit (inl e) = subst (λ x. IsFitState schema (replied schema m i b x)) (sym e.1) (fit_refused m i e.0 fit)
+  fit_replied m i b reply.Done fit (inr e) = fit_accepted m i b fit e
+  fit_replied m i b (reply.Affected count) fit (inr e) = fit_accepted m i b fit e
+  fit_replied m i b (reply.Rows rows segments) fit (inr e) = fit_accepted m i b fit e
+  fit_replied m i b (reply.Groups lines buffered) fit (inr e) = fit_accepted m i b fit e
+  fit_replied m i b (reply.Segments lines) fit (inr e) = fit_accepted m i b fit e
+  fit_replied m i b (reply.Refused refusal) fit (inr e) = fit_refused m i refusal fit
 
   -- ---- replies
 
-  refused_prints : (r : Reply) (refusal : Refusal) → r ≡ reply.Refused refusal → IsPrintableRefusal schema refusal → IsPrintableReply schema r
+  pub refused_prints : (r : Reply) (refusal : Refusal) → r ≡ reply.Refused refusal → IsPrintableRefusal schema refusal → IsPrintableReply schema r
   refused_prints r refusal e p = subst (IsPrintableReply schema) (sym e) p
 
   reading_prints : (found : Refusal) → IsOfReading found → IsPrintableRefusal schema found
@@ -157,24 +153,27 @@ module _ (schema : Schema) where
   done_prints None number = tt
   done_prints (Some txn) number = tt
 
-  plain_prints_at : (m : State) (i : ℕ) (b : Bound) (r : Reply) → is_of_table b ≡ false → IsReady schema b → IsReply schema m i b r → IsPrintableReply schema r
-  plain_prints_at m i bound.Begin r e p h = subst (IsPrintableReply schema) (sym h) (begin_prints (m.txns i))
-  plain_prints_at m i bound.Commit r e p h = subst (IsPrintableReply schema) (sym h) (done_prints (m.txns i) 3902)
-  plain_prints_at m i bound.Rollback r e p h = subst (IsPrintableReply schema) (sym h) (done_prints (m.txns i) 3903)
-  plain_prints_at m i bound.Nothing r e p h = subst (IsPrintableReply schema) (sym h) tt
-  plain_prints_at m i (bound.Insert plan) r e p h = absurd (cc e)
-  plain_prints_at m i (bound.Update plan) r e p h = absurd (cc e)
-  plain_prints_at m i (bound.Delete condition) r e p h = absurd (cc e)
-  plain_prints_at m i (bound.Select query) r e p h = absurd (cc e)
-  plain_prints_at m i (bound.Refused refusal) r e p h = refused_prints r refusal h (reading_prints refusal p)
+  groups_print : (r : Reply) → IsGroups r → IsPrintableReply schema r
+  groups_print reply.Done h = tt
+  groups_print (reply.Affected count) h = tt
+  groups_print (reply.Rows rows segments) h = absurd h
+  groups_print (reply.Groups lines buffered) h = tt
+  groups_print (reply.Segments lines) h = absurd h
+  groups_print (reply.Refused refusal) h = absurd h
 
-  pub plain_prints : (m : State) (i : ℕ) (b : Bound) (r : Reply) (short : Bool) → is_of_table b ≡ false → IsReady schema b → (r ≡ reply.Refused refusal.Memory) ⊎ ((short ≡ false) × IsReply schema m i b r) → IsPrintableReply schema r
-  plain_prints m i b r short e p (inl h) = refused_prints r refusal.Memory h tt
-  plain_prints m i b r short e p (inr h) = plain_prints_at m i b r e p h.1
-
-  pub given_prints : (given r : Reply) → IsPrintableReply schema given → (r ≡ reply.Refused refusal.Memory) ⊎ (r ≡ given) → IsPrintableReply schema r
-  given_prints given r p (inl h) = refused_prints r refusal.Memory h tt
-  given_prints given r p (inr h) = subst (IsPrintableReply schema) (sym h) p
+  -- the reply to a statement that is none of the table, where a report on segments prints
+  pub plain_prints : (m : State) (i : ℕ) (b : Bound) (r : Reply) → is_of_table b ≡ false → IsReady schema b → (b ≡ bound.SegmentReport → IsPrintableReply schema r) → IsReply schema m i b r → IsPrintableReply schema r
+  plain_prints m i bound.Begin r e p k h = subst (IsPrintableReply schema) (sym h) (begin_prints (m.txns i))
+  plain_prints m i bound.Commit r e p k h = subst (IsPrintableReply schema) (sym h) (done_prints (m.txns i) 3902)
+  plain_prints m i bound.Rollback r e p k h = subst (IsPrintableReply schema) (sym h) (done_prints (m.txns i) 3903)
+  plain_prints m i bound.Nothing r e p k h = subst (IsPrintableReply schema) (sym h) tt
+  plain_prints m i (bound.Insert plan) r e p k h = absurd (cc e)
+  plain_prints m i (bound.Update plan) r e p k h = absurd (cc e)
+  plain_prints m i (bound.Delete condition) r e p k h = absurd (cc e)
+  plain_prints m i (bound.Select query) r e p k h = absurd (cc e)
+  plain_prints m i bound.GroupReport r e p k h = groups_print r h
+  plain_prints m i bound.SegmentReport r e p k h = k refl
+  plain_prints m i (bound.Refused refusal) r e p k h = refused_prints r refusal h (reading_prints refusal p)
 
   keys_fit : (edits : List Edit) → All (IsFit schema) edits → All (IsPrintableKey schema) (keys_of edits)
   keys_fit [] all = All-nil (IsPrintableKey schema)
@@ -189,42 +188,22 @@ module _ (schema : Schema) where
   obstacle_prints m i snapshot present key (refusal.NoTxn number) p h = tt
   obstacle_prints m i snapshot present key refusal.Memory p h = tt
 
-  written_prints_at : (m : State) (i : ℕ) (o : Option Txn) (b : Bound) (edits : List Edit) (r : Reply) → All (IsFit schema) edits → IsWrittenIn m i o b edits r → IsPrintableReply schema r
-  written_prints_at m i None b edits r fit h = absurd h
-  written_prints_at m i (Some txn) b edits reply.Done fit h = tt
-  written_prints_at m i (Some txn) b edits (reply.Affected count) fit h = tt
-  written_prints_at m i (Some txn) b edits (reply.Rows rows segments) fit h = absurd h
-  written_prints_at m i (Some txn) b edits (reply.Refused found) fit h =
-      obstacle_prints m i txn.snapshot (is_present b edits (seen m.changes txn)) h.key found (All-contains (IsPrintableKey schema) (keys_of edits) h.key (keys_fit edits fit) h.listed) h.is
-
-  pub written_prints : (m : State) (i : ℕ) (b : Bound) (edits : List Edit) (r : Reply) → All (IsFit schema) edits → (r ≡ reply.Refused refusal.Memory) ⊎ IsWrittenIn m i (m.txns i) b edits r → IsPrintableReply schema r
-  written_prints m i b edits r fit (inl h) = refused_prints r refusal.Memory h tt
-  written_prints m i b edits r fit (inr h) = written_prints_at m i (m.txns i) b edits r fit h
-
-  -- ---- the rows that a statement reads
-
-  pub seen_fits : (changes : List Change) (txn : Txn) → AreFit schema changes → All (IsFit schema) txn.own → IsFitTable schema (seen changes txn)
-  seen_fits changes txn all own = at txn.snapshot
-    where
-      at : (s : Option ℕ) → IsFitTable schema (seen_at changes s txn.own)
-      at None = laid_all (IsFit schema) [] txn.own (All-nil (IsFitEntry schema)) own
-      at (Some s) = laid_all (IsFit schema) (table changes s) txn.own (table_all (IsFit schema) changes s all) own
-
-  opened_fits : (o : Option Txn) (next : ℕ) → IsFitTxn schema o → All (IsFit schema) (txn_opened o next).own
-  opened_fits None next p = All-nil (IsFit schema)
-  opened_fits (Some txn) next p = p
-
-  pub read_fits : (m : State) (i : ℕ) (rows : Table) → IsFitState schema m → IsRead m i rows → IsFitTable schema rows
-  read_fits m i rows fit (inl e) = subst (IsFitTable schema) (sym e) (All-nil (IsFitEntry schema))
-  read_fits m i rows fit (inr e) = subst (IsFitTable schema) (sym e) (seen_fits m.changes (fixed (txn_opened (m.txns i) m.next) false m.clock) fit.changes (opened_fits (m.txns i) m.next (fit.txns i)))
+  -- the obstacle of a write whose edits fit the table
+  pub judged_prints : (m : State) (i : ℕ) (snapshot : Option ℕ) (present : Key → Bool) (edits : List Edit) (found : Refusal) → All (IsFit schema) edits → IsJudged (IsObstacle m i snapshot present) (keys_of edits) (Some found) → IsPrintableRefusal schema found
+  judged_prints m i snapshot present edits found fit h =
+      obstacle_prints m i snapshot present h.key found (All-contains (IsPrintableKey schema) (keys_of edits) h.key (keys_fit edits fit) h.listed) h.is
 
   -- ---- a Start
+
+  opened_fits : (o : Option Txn) (next : ℕ) → IsFitTxn schema o → All (IsFitting schema) (txn_opened o next).own
+  opened_fits None next p = All-nil (IsFitting schema)
+  opened_fits (Some txn) next p = p
 
   pinned_fits : (m : State) (i : ℕ) (short : Bool) → IsFitState schema m → IsFitState schema (pinned m i short)
   pinned_fits m i short fit = record { changes = fit.changes; txns = set_fits (IsFitTxn schema) m.txns i _ (opened_fits (m.txns i) m.next (fit.txns i)) fit.txns; halves = fit.halves }
 
-  pub started_fits : (m : State) (i : ℕ) (b : Bound) (short : Bool) → IsFitState schema m → IsReady schema b → IsFitState schema (started m i b short)
-  started_fits m i b short fit ready = fit_half _ i (Some (record { bound = b; short = short })) (at (is_of_table b)) ready
+  pub started_fits : (m : State) (i : ℕ) (b : Bound) (short : Bool) → IsFitState schema m → IsReady schema b → (short ≡ true → is_of_table b ≡ true) → IsFitState schema (started m i b short)
+  started_fits m i b short fit ready why = fit_half _ i (Some (record { bound = b; short = short })) (at (is_of_table b)) (ready, why)
     where
       at : (t : Bool) → IsFitState schema (cond t (pinned m i short) m)
       at true = pinned_fits m i short fit

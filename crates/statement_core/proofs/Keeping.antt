@@ -1,83 +1,132 @@
 -- An event keeps what the core's type keeps.
-use Rattle.std.proofs.Common.{◌≡◌, ℕ, ◌+◌, ◌^◌, ◌<◌, ◌≤◌, List, [], ◌∷◌, ◌++◌, length, sym, subst, arith, All, Contains, None, false}
+use Rattle.std.proofs.Common.{◌≡◌, ℕ, ◌+◌, ◌^◌, ◌<◌, ◌≤◌, List, [], ◌∷◌, ◌++◌, length, sym, ap, subst, ◌∙◌, arith, All, Contains, None, Some, true, false}
+use Rattle.std.specs.declared.alloc.Global.{Global}
+use Rattle.std.specs.declared.sync.Arc.{Arc}
 use Rattle.std.proofs.lemmas.List.{length-append}
 use Rattle.std.proofs.lemmas.List.Elements.{All-contains, All-nil, All-push}
 use Rattle.cs_types.specs.declared.Schema.{Schema}
+use Rattle.cs_types.specs.Schemas.{IsSchema}
 use Rattle.cs_model.specs.declared.entry.Entry.{Entry}
 use Rattle.cs_model.specs.Actors.{owed}
-use Rattle.cs_model.specs.State.{State, Begin, start, begin_of}
+use Rattle.cs_model.specs.Changes.{Change}
+use Rattle.cs_model.specs.Kinds.{is_of_table}
+use Rattle.cs_model.specs.State.{Half, start, begin_of}
 use Rattle.cs_model.specs.Steps.{Legal, IsStep}
 use Rattle.cs_model.specs.Text.{IsPrintableEntry}
-use Rattle.cs_model.specs.Changes.{Change}
-use Rattle.cs_model.specs.Held.{IsFit}
-use Rattle.log_laws.specs.Laws.{AreDistinct}
+use Rattle.log_laws.specs.Laws.{AreDistinct, IsSound}
 use Rattle.log_laws.proofs.Beginnings.{may_begin}
-use Rattle.log_laws.proofs.Logs.{legal_push}
 use Rattle.log_laws.proofs.Numbers.{small}
 use Rattle.log_laws.proofs.Room.{owed_first}
-use Rattle.txn_table.specs.Txns.{txn_of}
+use Rattle.log_laws.proofs.Sound.{sound_from}
+use Rattle.group_book.specs.Book.{empty}
+use Rattle.group_book.specs.Commits.{Sizes}
+use Rattle.group_log.specs.Followed.{ground_of, IsBookStep}
+use Rattle.group_log.proofs.Follow.{follows_leads, followed_on}
+use Rattle.group_directory.specs.Obstacles.{txn_in}
+use Rattle.group_directory.specs.Stands.{Stands}
 use Rattle.statement_core.specs.declared.core_state.CoreState.{CoreState}
 use Rattle.statement_core.specs.declared.started.Outcome.{Outcome}
+use Rattle.statement_core.specs.declared.started.Terms.{Terms}
 use Rattle.statement_core.specs.Seats.{seat}
-use Rattle.statement_core.specs.CoreState.{state_of, txn_in, half_in, IsWithin}
-use Rattle.statement_core.specs.Replaced.{AllSayReplaced, AreReplaced}
-use Rattle.statement_core.specs.Fit.{IsFitState}
+use Rattle.statement_core.specs.CoreState.{state_of, groups_of, half_in, IsWithin, IsBare}
+use Rattle.statement_core.specs.Fit.{IsFitting, IsReadyHalf, IsFitState}
+use Rattle.statement_core.specs.NewTable.{IsNewTable}
+use Rattle.statement_core.specs.Outcomes.{GivesOn}
+use Rattle.statement_core.specs.Settled.{IsReadyAt}
+use Rattle.statement_core.specs.Terms.{sizes_of, AreTermsOf}
 use Rattle.statement_core.specs.Cores.{IsCore, IsDone}
-use Rattle.statement_core.specs.Settled.{IsDoneAt}
+use Rattle.statement_core.proofs.Bare.{bare_step}
+use Rattle.statement_core.proofs.Stills.{sizes_as}
 
-pub within : (schema : Schema) (held : CoreState) (log : List Entry) (cap : ℕ) (sessions : List ℕ) (s : ℕ) → IsCore (begin_of schema) held log cap sessions → cap < 2 ^ 63 → Contains sessions s → IsWithin held s
-within schema held log cap sessions s i fits has =
-    let n = small (begin_of schema) log (state_of held) i.legal in
-    let long : length log ≤ cap = let r = i.room in omega (arith, r) in
-    record {
-      seat = All-contains (λ x. x < 65) sessions s i.numbers has;
-      clock = let c = n.1 in omega (arith, c, long, fits);
-      next = let c = n.0 in omega (arith, c, long, fits);
-    }
+-- ---- what is known of a core
 
--- one entry more
-pub core_push : (begin : Begin) (held after : CoreState) (log : List Entry) (cap new : ℕ) (sessions : List ℕ) (e : Entry) → IsCore begin held log cap sessions → IsStep begin (state_of held) e (state_of after)
-    → AreReplaced after → IsFitState begin.schema (state_of after) → IsPrintableEntry begin.schema e → length log + 1 + owed (log ++ e ∷ []) sessions ≤ new → IsCore begin after (log ++ e ∷ []) new sessions
-core_push begin held after log cap new sessions e i step replaced fit prints len = record {
-  may = i.may;
-  legal = legal_push begin log (state_of held) (state_of after) e i.legal step;
-  replaced = replaced;
+module _ (made : Terms) (held : CoreState) (log : List Entry) (cap : ℕ) (sessions : List ℕ) (i : IsCore made held log cap sessions) where
+  pub core_legal : Legal (begin_of made.schema.value) log (state_of i.changes held)
+  core_legal = follows_leads (ground_of made.schema.value (sizes_of made)) start (state_of i.changes held) empty (groups_of held) log i.followed
+
+  pub core_sound : IsSound (state_of i.changes held)
+  core_sound = let may = may_begin made.schema.value in sound_from (begin_of made.schema.value) start (state_of i.changes held) log core_legal may.sound
+
+  pub within : (s : ℕ) → cap < 2 ^ 63 → Contains sessions s → IsWithin held s
+  within s fits has =
+      let n = small (begin_of made.schema.value) log (state_of i.changes held) core_legal in
+      let long : length log ≤ cap = let r = i.room in omega (arith, r) in
+      record {
+        seat = All-contains (λ x. x < 65) sessions s i.numbers has;
+        clock = let c = n.1 in omega (arith, c, long, fits);
+        next = let c = n.0 in omega (arith, c, long, fits);
+      }
+
+  why_of : (s : ℕ) (half : Half) → (state_of i.changes held).half s ≡ Some half → half.short ≡ true → is_of_table half.bound ≡ true
+  why_of s half is = let fit = i.fit in (subst (IsReadyHalf made.schema.value) is (fit.halves s)).1
+
+  pub ready_at : (s : ℕ) (o : Outcome) → IsDone (begin_of made.schema.value) (sizes_of made) log s o → IsReadyAt (begin_of made.schema.value) i.changes held s o
+  ready_at s o d =
+      let shows = d.started (state_of i.changes held) core_legal in
+      let sound = core_sound in
+      record {
+        stands = i.stands;
+        schema = i.schema;
+        bare = i.bare s;
+        by_key = sound.by_key s;
+        begun = d.begun;
+        why = why_of s (record { bound = d.begun.bound; short = d.begun.short }) shows.half;
+        shows = shows;
+        gives = subst (λ (sizes : Sizes). GivesOn sizes d.begun o) (sym i.sizes) d.gives;
+      }
+
+-- ---- one entry more
+
+pub core_push : (made : Terms) (held after : CoreState) (log : List Entry) (cap new : ℕ) (sessions : List ℕ) (e : Entry) → (i : IsCore made held log cap sessions) → (later : List Change) → Stands after.directory later
+    → after.directory.sizes ≡ held.directory.sizes → after.directory.schema ≡ held.directory.schema → IsStep (begin_of made.schema.value) (state_of i.changes held) e (state_of later after)
+    → IsBookStep (ground_of made.schema.value (sizes_of made)) (state_of i.changes held) (groups_of held) e (state_of later after) (groups_of after)
+    → IsFitState made.schema.value (state_of later after) → IsPrintableEntry made.schema.value e → length log + 1 + owed (log ++ e ∷ []) sessions ≤ new → IsCore made after (log ++ e ∷ []) new sessions
+core_push made held after log cap new sessions e i later stands sizes schema step moves fit prints len = record {
+  terms = i.terms;
+  table = i.table;
+  schema = ap (λ (s : Arc Schema Global). s.value) schema ∙ i.schema;
+  sizes = ap sizes_as sizes ∙ i.sizes;
+  changes = later;
+  stands = stands;
+  followed = followed_on (ground_of made.schema.value (sizes_of made)) log e (state_of i.changes held) (state_of later after) (groups_of held) (groups_of after) i.followed step moves;
+  bare = bare_step (begin_of made.schema.value) (state_of i.changes held) e (state_of later after) step i.bare;
+  fit = fit;
   room = let l = length-append log (e ∷ []) in omega (arith, l, len);
   numbers = i.numbers;
   few = i.few;
   distinct = i.distinct;
-  fit = fit;
-  printable = All-push (IsPrintableEntry begin.schema) log e i.printable prints;
+  printable = All-push (IsPrintableEntry made.schema.value) log e i.printable prints;
 }
-
-pub done_at : (begin : Begin) (log : List Entry) (m : State) (s : ℕ) (o : Outcome) → Legal begin log m → IsDone begin log s o → IsDoneAt begin.schema m s o
-done_at begin log m s o l d = record { bound = d.bound; short = d.short; rows = d.rows; shows = d.started m l; gives = d.gives }
 
 -- ---- a new core
 
 fit_start : (schema : Schema) → IsFitState schema start
-fit_start schema = record { changes = All-nil (λ (change : Change). IsFit schema change.edit); txns = λ s. tt; halves = λ s. tt }
+fit_start schema = record { changes = All-nil (λ (change : Change). IsFitting schema change.edit); txns = λ s. tt; halves = λ s. tt }
 
-pub core_new : (schema : Schema) (held : CoreState) (cap : ℕ) (sessions : List ℕ) → held.changes ≡ [] → held.clock ≡ 0 → held.txns.next ≡ 1
-    → ((s : ℕ) → txn_of held.txns s ≡ None) → ((s : ℕ) → seat held.halves s ≡ None)
-    → 64 ≤ cap → All (λ s. s < 65) sessions → length sessions ≤ 64 → AreDistinct sessions → IsCore (begin_of schema) held [] cap sessions
-core_new schema held cap sessions c k n txns halves room numbers few distinct =
-    let first : state_of held ≡ start = λ i. record {
-      changes = c i;
-      clock = k i;
-      txns = λ s. txn_in (txns s i);
+pub core_new : (schema : Schema) (most least : ℕ) (held : CoreState) (made : Terms) (cap : ℕ) (sessions : List ℕ) → IsNewTable schema most least held.directory made → IsSchema schema → AreTermsOf most least
+    → ((s : ℕ) → seat held.halves s ≡ None) → 64 ≤ cap → All (λ s. s < 65) sessions → length sessions ≤ 64 → AreDistinct sessions → IsCore made held [] cap sessions
+core_new schema most least held made cap sessions n table terms halves room numbers few distinct =
+    let first : state_of [] held ≡ start = λ i. record {
+      changes = [];
+      clock = n.clock i;
+      txns = λ s. txn_in (n.txns s i);
       half = λ s. half_in (halves s i);
       statistics = λ s. false;
-      next = n i;
+      next = n.next i;
     } in
     record {
-      legal = first;
-      may = may_begin schema;
-      replaced = record { each = λ s. subst (AllSayReplaced held.changes held.clock) (sym (txns s)) tt };
+      terms = subst (λ (a : ℕ). AreTermsOf a made.direct_rows) (sym n.group_rows) (subst (AreTermsOf most) (sym n.direct_rows) terms);
+      table = subst IsSchema (sym n.schema) table;
+      schema = n.same;
+      sizes = n.sizes;
+      changes = [];
+      stands = n.stands;
+      followed = (first, n.groups);
+      bare = λ s. subst IsBare (sym (ap txn_in (n.txns s))) tt;
+      fit = subst (IsFitState made.schema.value) (sym first) (fit_start made.schema.value);
       room = let o = owed_first sessions in omega (arith, o, room, few);
       numbers = numbers;
       few = few;
       distinct = distinct;
-      fit = subst (IsFitState schema) (sym first) (fit_start schema);
-      printable = All-nil (IsPrintableEntry schema);
+      printable = All-nil (IsPrintableEntry made.schema.value);
     }

@@ -1,45 +1,56 @@
--- The state of the row model that the core's fields stand for.
-use Rattle.std.specs.Prelude.{◌<◌, ◌+◌, ◌^◌, ℕ, List, false, Option, None, Some}
-use Rattle.txn_table.specs.declared.txn.Txn.{Txn}
-use Rattle.txn_table.specs.Txns.{Table, txn_of}
-use Rattle.change_list.specs.Edits.{edits_of}
-use Rattle.cs_model.specs.State as model
-use Rattle.cs_model.specs.State.{Half, State}
+-- The state of the row model that the core's fields stand for, beside the committed changes.
+use Rattle.std.specs.Prelude.{◌≡◌, ◌<◌, ◌+◌, ◌^◌, ℕ, List, [], ◌==◌, true, false, Option, None, Some}
+use Rattle.cs_model.specs.Changes.{Change}
+use Rattle.cs_model.specs.State.{Txn, Half, State}
+use Rattle.group_book.specs.Book.{Book}
+use Rattle.group_view.specs.Books.{book_of}
+use Rattle.group_directory.specs.Obstacles.{txns_of}
+use Rattle.group_directory.specs.Stands.{Stands}
 use Rattle.statement_core.specs.Seats.{seat}
 use Rattle.statement_core.specs.declared.core_state.HalfDone.{HalfDone}
 use Rattle.statement_core.specs.declared.core_state.CoreState.{CoreState}
-
--- the model's transaction
-abbrev pub txn_as : Txn → model.Txn
-txn_as txn = record { number = txn.number; depth = txn.depth; snapshot = txn.snapshot; own = edits_of txn.own }
-
-abbrev pub txn_in : Option Txn → Option model.Txn
-txn_in None = None
-txn_in (Some txn) = Some (txn_as txn)
 
 abbrev pub half_in : Option HalfDone → Option Half
 half_in None = None
 half_in (Some half) = Some (record { bound = half.bound.value; short = half.short })
 
-abbrev pub txns_of : Table → ℕ → Option model.Txn
-txns_of table session = txn_in (txn_of table session)
-
 abbrev pub halves_of : List (Option HalfDone) → ℕ → Option Half
 halves_of seats session = half_in (seat seats session)
 
 -- no statement sets a session's STATISTICS IO so far
-abbrev pub state_of : CoreState → State
-state_of held = record {
-  changes = held.changes;
-  clock = held.clock;
-  txns = txns_of held.txns;
+abbrev pub state_of : List Change → CoreState → State
+state_of changes held = let directory = held.directory in record {
+  changes = changes;
+  clock = directory.clock;
+  txns = txns_of directory.txns;
   half = halves_of held.halves;
   statistics = λ _. false;
-  next = held.txns.next;
+  next = directory.txns.next;
 }
+
+-- the book of its row groups
+abbrev pub groups_of : CoreState → Book
+groups_of held = let directory = held.directory in book_of directory.list
 
 -- the session has a seat, and no number runs over
 pub record IsWithin (held : CoreState) (session : ℕ) : Type 0 where
   pub seat : session < 65
-  pub clock : held.clock + 1 < 2 ^ 64
-  pub next : held.txns.next + 1 < 2 ^ 64
+  pub clock : held.directory.clock + 1 < 2 ^ 64
+  pub next : held.directory.txns.next + 1 < 2 ^ 64
+
+-- the groups, what the core was made with and the clock are as before
+pub record IsSame (old new : CoreState) : Type 0 where
+  pub groups : groups_of new ≡ groups_of old
+  pub sizes : new.directory.sizes ≡ old.directory.sizes
+  pub schema : new.directory.schema ≡ old.directory.schema
+  pub clock : new.directory.clock ≡ old.directory.clock
+
+-- and the core stands for the same changes
+pub record IsStill (old new : CoreState) : Type 0 where
+  pub stands : (changes : List Change) → Stands old.directory changes → Stands new.directory changes
+  pub same : IsSame old new
+
+-- a transaction that ends with its statement has written nothing before it
+abbrev pub IsBare : Option Txn → Type 0
+IsBare None = Unit {0}
+IsBare (Some txn) = (txn.depth == 0) ≡ true → txn.own ≡ []

@@ -1,9 +1,12 @@
 pub mod Seats
 pub mod CoreState
-pub mod Replaced
-pub mod Least
+pub mod Leaves
+pub mod Terms
 pub mod Outcomes
+pub mod Begun
 pub mod Settled
+pub mod Taken
 pub mod Fit
 pub mod CoreValue
+pub mod NewTable
 pub mod Cores

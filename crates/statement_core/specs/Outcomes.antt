@@ -1,7 +1,10 @@
 -- What the work of a statement gives on what was started.
-use Rattle.std.specs.Prelude.{◌≡◌, List, Bool, true, false, All, Result, Ok, Err}
+use Rattle.std.specs.Prelude.{◌≡◌, ◌≢◌, ℕ, List, [], map, filter, length, Bool, true, false, All, Contains, Result, Ok, Err, Option, None, Some}
 use Rattle.std.specs.Map.{values_of}
+use Rattle.cs_types.specs.declared.Key.{Key}
 use Rattle.cs_types.specs.declared.Schema.{Schema}
+use Rattle.write_set.specs.declared.write.Write.{Write}
+use Rattle.write_set.specs.Writes.{Ascend}
 use Rattle.cs_model.specs.Queries.{answer}
 use Rattle.cs_model.specs.declared.entry.Bound.{Bound}
 use Rattle.cs_model.specs.declared.entry.Bound.TheVariants as bound
@@ -9,13 +12,21 @@ use Rattle.cs_model.specs.declared.entry.Refusal.{Refusal}
 use Rattle.cs_model.specs.declared.entry.Reply.{Reply}
 use Rattle.cs_model.specs.declared.entry.Reply.TheVariants as reply
 use Rattle.cs_model.specs.Changes.{Edit, Table}
-use Rattle.cs_model.specs.Kinds.{is_of_table, is_write}
+use Rattle.cs_model.specs.Kinds.{is_write}
 use Rattle.cs_model.specs.Answers.{writes}
-use Rattle.cs_model.specs.Held.{IsFit}
+use Rattle.cs_model.specs.Held.{IsFit, IsWhole}
+use Rattle.cs_model.specs.Obstacles.{has_row, is_present}
 use Rattle.cs_model.specs.Steps.{IsAnswer}
 use Rattle.cs_model.specs.Text.{IsPrintableReply}
+use Rattle.log_laws.specs.Started.{Begun, snapshot_table, seen_by}
+use Rattle.group_book.specs.Commits.{Sizes}
+use Rattle.group_view.specs.declared.claim.Parcel.{Parcel}
+use Rattle.group_view.specs.Parcels.{IsParcelFor}
+use Rattle.edit_laws.specs.Edits.{edits_of}
 use Rattle.statement_core.specs.declared.started.Outcome.{Outcome}
 use Rattle.statement_core.specs.declared.started.Outcome.TheVariants as outcome
+
+-- ---- replies
 
 -- the reply is a write's first value refusal
 abbrev pub IsValued : Result (List Edit) Refusal → Reply → Type 0
@@ -32,11 +43,65 @@ IsDecided schema (bound.Insert plan) table r = IsValued (writes schema table (bo
 IsDecided schema (bound.Update plan) table r = IsValued (writes schema table (bound.Update plan)) r
 IsDecided schema (bound.Delete condition) table r = IsValued (writes schema table (bound.Delete condition)) r
 IsDecided schema (bound.Select query) table r = IsAnswer false (answer schema query (values_of table)) r
+IsDecided schema bound.GroupReport table r = ⊥
+IsDecided schema bound.SegmentReport table r = ⊥
 IsDecided schema (bound.Refused refusal) table r = ⊥
 
--- the outcome is what the definitions give of a statement over what it reads, or Short
-abbrev pub GivesOn : Schema → Bound → Bool → Table → Outcome → Type 0
-GivesOn schema b short table outcome.Short = Unit {0}
-GivesOn schema b short table outcome.Nothing = (short ≡ false) × (is_of_table b ≡ false)
-GivesOn schema b short table (outcome.Answer r) = (short ≡ false) × IsDecided schema b table r × IsPrintableReply schema r
-GivesOn schema b short table (outcome.Writes edits) = (short ≡ false) × (is_write b ≡ true) × (writes schema table b ≡ Ok edits) × All (IsFit schema) edits
+-- ---- writes
+
+-- the keys of writes
+abbrev pub keys_in : List Write → List Key
+keys_in list = map (λ (write : Write). write.key) list
+
+-- the cells of a row
+abbrev pub width_of : Begun → ℕ
+width_of begun = length begun.schema.columns
+
+-- there is a parcel of the writes exactly where the transaction ends with the statement and no key is there twice
+abbrev pub IsParcelled : Sizes → Begun → List Write → List Key → Option Parcel → Type 0
+IsParcelled sizes begun list present None = begun.implicit ≡ true → present ≢ []
+IsParcelled sizes begun list present (Some parcel) = (begun.implicit ≡ true) × (present ≡ []) × IsParcelFor begun.schema sizes (edits_of list) parcel
+
+-- edits as writes by key, one for each: each is one of the edits, and says whether its key is in the table of the snapshot. Present
+-- are the keys that an INSERT would make stand twice
+pub record AreWritesOf (sizes : Sizes) (begun : Begun) (edits : List Edit) (list : List Write) (present : List Key) (affected : ℕ) (parcel : Option Parcel) : Type 0 where
+  pub order : Ascend list
+  pub each : All (Contains edits) (edits_of list)
+  pub every : All (λ (edit : Edit). Contains (keys_in list) edit.0) edits
+  pub replaces : All (λ (write : Write). write.replaces ≡ has_row (snapshot_table begun) write.key) list
+  pub twice : present ≡ filter (is_present begun.bound edits (seen_by begun)) (keys_in list)
+  pub count : affected ≡ length edits
+  pub parcelled : IsParcelled sizes begun list present parcel
+
+-- the outcome of a write of these edits
+pub record GivesWrites (sizes : Sizes) (begun : Begun) (list : List Write) (present : List Key) (affected : ℕ) (parcel : Option Parcel) : Type 0 where
+  pub edits : List Edit
+  pub defined : writes begun.schema (seen_by begun) begun.bound ≡ Ok edits
+  pub fit : All (IsFit begun.schema) edits
+  pub whole : All (IsWhole begun.schema) edits
+  pub are : AreWritesOf sizes begun edits list present affected parcel
+
+-- ---- outcomes
+
+-- the statement needs no work before its Finish
+abbrev pub needs_none : Bound → Bool
+needs_none bound.Begin = true
+needs_none bound.Commit = false
+needs_none bound.Rollback = true
+needs_none bound.Nothing = true
+needs_none (bound.Insert plan) = false
+needs_none (bound.Update plan) = false
+needs_none (bound.Delete condition) = false
+needs_none (bound.Select query) = false
+needs_none bound.GroupReport = true
+needs_none bound.SegmentReport = true
+needs_none (bound.Refused refusal) = true
+
+-- the outcome is what the definitions give of a statement on what was begun, or Short
+abbrev pub GivesOn : Sizes → Begun → Outcome → Type 0
+GivesOn sizes begun outcome.Short = Unit {0}
+GivesOn sizes begun outcome.Nothing = needs_none begun.bound ≡ true
+GivesOn sizes begun (outcome.Answer r) = (begun.short ≡ false) × IsDecided begun.schema begun.bound (seen_by begun) r × IsPrintableReply begun.schema r
+GivesOn sizes begun (outcome.Writes list present affected parcel) =
+    (begun.short ≡ false) × (is_write begun.bound ≡ true) × GivesWrites sizes begun list.items present.items affected parcel
+GivesOn sizes begun (outcome.Commit parcel) = (begun.bound ≡ bound.Commit) × IsParcelFor begun.schema sizes begun.own parcel

@@ -1,99 +1,155 @@
--- What a Finish leaves, once the statement is no longer half done.
-use Rattle.std.specs.Prelude.{◌≡◌, ◌⊎◌, ℕ, ◌+◌, ◌++◌, List, [], count_by, Bool, true, false, if◌then◌else◌, Option, None, Some}
-use Rattle.std.specs.BTreeMap.{BTreeMap}
+-- What a Finish replies and leaves, once the statement is no longer half done.
+use Rattle.std.specs.Prelude.{◌≡◌, ◌≢◌, ◌⊎◌, ◌<◌, ℕ, List, [], Bool, true, false, Option}
 use Rattle.cs_types.specs.declared.Key.{Key}
 use Rattle.cs_types.specs.declared.Schema.{Schema}
 use Rattle.write_set.specs.declared.write.Write.{Write}
 use Rattle.cs_model.specs.declared.entry.Bound.{Bound}
+use Rattle.cs_model.specs.declared.entry.Entry.TheVariants.{Finish}
 use Rattle.cs_model.specs.declared.entry.Refusal.{Refusal}
-use Rattle.cs_model.specs.declared.entry.Refusal.TheVariants.{Memory}
+use Rattle.cs_model.specs.declared.entry.Refusal.TheVariants.{Reading, Memory}
 use Rattle.cs_model.specs.declared.entry.Reply.{Reply}
 use Rattle.cs_model.specs.declared.entry.Reply.TheVariants as reply
-use Rattle.cs_model.specs.Changes.{Edit, Table}
-use Rattle.cs_types.specs.Keys.{same_key}
-use Rattle.cs_model.specs.State.{Txn, State, seen}
-use Rattle.cs_model.specs.Kinds.{is_of_table, is_insert}
-use Rattle.cs_model.specs.Obstacles.{has_row, keys_of, is_present, IsObstacle, IsJudged}
-use Rattle.cs_model.specs.Steps.{IsReply, IsWritten, is_empty, numbered, replied, wrote, refused, commits, fixed, txn_opened}
-use Rattle.log_laws.specs.Frames.{IsPinned}
-use Rattle.log_laws.specs.Started.{Shows, seen_in}
+use Rattle.cs_model.specs.Changes.{Edit, Change}
+use Rattle.cs_model.specs.Kinds.{is_of_table, is_write}
+use Rattle.cs_model.specs.State.{State, Begin}
+use Rattle.cs_model.specs.Steps.{IsReply, IsStep, refused, replied, wrote}
+use Rattle.log_laws.specs.Laws.{IsByKey}
+use Rattle.log_laws.specs.Started.{Begun, own_in, is_implicit, Sees, Shows}
+use Rattle.edit_laws.specs.Edits.{edits_of}
+use Rattle.txn_table.specs.Txns.{txn_of, own_of}
+use Rattle.group_book.specs.Book.{Book}
+use Rattle.group_book.specs.Commits.{Sizes, draws_past}
+use Rattle.group_log.specs.Followed.{book_with, committed_edits, ShowsBook, Finishes}
+use Rattle.group_view.specs.declared.claim.Parcel.{Parcel}
+use Rattle.group_directory.specs.Laws.{sizes_of}
+use Rattle.group_directory.specs.Stands.{Stands}
+use Rattle.statement_core.specs.declared.core_state.CoreState.{CoreState}
 use Rattle.statement_core.specs.declared.started.Outcome.{Outcome}
-use Rattle.statement_core.specs.declared.started.Outcome.TheVariants as outcome
-use Rattle.statement_core.specs.Least.{count_in}
-use Rattle.statement_core.specs.Outcomes.{GivesOn}
+use Rattle.statement_core.specs.CoreState.{state_of, groups_of, IsStill, IsBare}
+use Rattle.statement_core.specs.Leaves.{committed_in, Leaves}
+use Rattle.statement_core.specs.Outcomes.{GivesWrites, GivesOn}
+
+-- ---- replies
 
 -- the reply is the defined one or want of memory, and the state after is what it leaves
-pub record Settles (schema : Schema) (m : State) (session : ℕ) (b : Bound) (short : Bool) (r : Reply) (after : State) : Type 0 where
-  pub reply : (r ≡ reply.Refused Memory) ⊎ ((short ≡ false) × IsReply schema m session b r)
+pub record Settles (schema : Schema) (m : State) (session : ℕ) (b : Bound) (r : Reply) (after : State) : Type 0 where
+  pub reply : (r ≡ reply.Refused Memory) ⊎ IsReply schema m session b r
   pub state : after ≡ replied schema m session b r
 
+-- after writes of the session's transaction, or a refusal
 abbrev pub wrote_or : State → ℕ → List Edit → Reply → State
 wrote_or m session edits reply.Done = wrote m session (m.txns session) edits
 wrote_or m session edits (reply.Affected count) = wrote m session (m.txns session) edits
 wrote_or m session edits (reply.Rows rows segments) = wrote m session (m.txns session) edits
+wrote_or m session edits (reply.Groups lines buffered) = wrote m session (m.txns session) edits
+wrote_or m session edits (reply.Segments lines) = wrote m session (m.txns session) edits
 wrote_or m session edits (reply.Refused refusal) = refused m session refusal
 
--- the reply to a write of these edits in the session's transaction
-abbrev pub IsWrittenIn : State → ℕ → Option Txn → Bound → List Edit → Reply → Type 0
-IsWrittenIn m session None b edits r = ⊥
-IsWrittenIn m session (Some txn) b edits r =
-    IsWritten (IsJudged (IsObstacle m session txn.snapshot (is_present b edits (seen m.changes txn))) (keys_of edits)) edits r
+-- in the place of a reply after which something would be committed, error 50001 at 1
+pub record WantsIds (schema : Schema) (m : State) (session : ℕ) (b : Bound) (r : Reply) : Type 0 where
+  pub given : Reply
+  pub is_reply : IsReply schema m session b given
+  pub commits : m.clock < (replied schema m session b given).clock
+  pub refuses : r ≡ reply.Refused (Reading 50001 1)
 
--- the same for a write of these edits
-pub record WriteSettles (m : State) (session : ℕ) (b : Bound) (edits : List Edit) (r : Reply) (after : State) : Type 0 where
-  pub reply : (r ≡ reply.Refused Memory) ⊎ IsWrittenIn m session (m.txns session) b edits r
-  pub state : after ≡ wrote_or m session edits r
+-- what is said of a reply: it is the defined one, or want of memory or of a group id; want of an id has its cause; and a report shows
+-- the book
+pub record IsSaid (schema : Schema) (sizes : Sizes) (m : State) (book : Book) (session : ℕ) (b : Bound) (short : Bool) (r : Reply) : Type 0 where
+  pub reply : (r ≡ reply.Refused Memory) ⊎ ((short ≡ false) × (IsReply schema m session b r ⊎ WantsIds schema m session b r))
+  pub full : (wants : WantsIds schema m session b r) → draws_past book (book_with sizes m (committed_edits m (replied schema m session b wants.given)) book) ≡ true
+  pub shows : ShowsBook schema m.changes book r
 
--- an edit as a write over a table
-abbrev pub write_on : Table → Edit → Write
-write_on table edit = record { key = edit.0; row = edit.1; replaces = has_row table edit.0 }
+-- the reply, and what the core leaves after it
+pub record Ends (schema : Schema) (changes : List Change) (old : CoreState) (session : ℕ) (b : Bound) (short : Bool) (r : Reply) (new : CoreState) : Type 0 where
+  pub said : IsSaid schema (sizes_of old.directory) (state_of changes old) (groups_of old) session b short r
+  pub leaves : Leaves changes old new (replied schema (state_of changes old) session b r)
 
--- these edits are committed under the next number, if there are any
-abbrev pub recorded : State → ℕ → List Edit → State
-recorded m txn edits =
-    if is_empty edits then m
-    else record m { changes = m.changes ++ numbered (m.clock + 1) txn edits; clock = m.clock + 1 }
+-- ---- what was begun
 
--- the session's transaction is committed, if it has one
-abbrev pub committed_in : State → ℕ → Option Txn → State
-committed_in m session None = m
-committed_in m session (Some txn) = commits m session txn
+-- what the session's statement stands on, in this state
+pub record Holds (begin : Begin) (m : State) (session : ℕ) (begun : Begun) : Type 0 where
+  pub schema : begun.schema ≡ begin.schema
+  pub implicit : begun.implicit ≡ is_implicit (m.txns session)
+  pub own : begun.own ≡ own_in (m.txns session)
+  pub sees : is_of_table begun.bound ≡ true → begun.short ≡ false → Sees m session begun
 
--- a reply that was given is replied, or want of memory in its place
-pub record Replies (m : State) (session : ℕ) (given r : Reply) (after : State) : Type 0 where
-  pub reply : (r ≡ reply.Refused Memory) ⊎ (r ≡ given)
-  pub state : after ≡ wrote_or m session [] r
+-- the outcome of what was begun, over changes that the core stands for: the statement is no longer half done
+pub record IsDoneAt (begin : Begin) (changes : List Change) (held : CoreState) (session : ℕ) (b : Bound) (short : Bool) (outcome : Outcome) : Type 0 where
+  pub stands : Stands held.directory changes
+  pub schema : held.directory.schema.value ≡ begin.schema
+  pub bare : IsBare ((state_of changes held).txns session)
+  pub by_key : IsByKey ((state_of changes held).txns session)
+  pub begun : Begun
+  pub bound : begun.bound ≡ b
+  pub short_is : begun.short ≡ short
+  pub why : short ≡ true → is_of_table b ≡ true
+  pub holds : Holds begin (state_of changes held) session begun
+  pub gives : GivesOn (sizes_of held.directory) begun outcome
 
--- the counts of the keys of an INSERT, and none for another write
-abbrev pub AreCountsFor : Bound → List Key → Option (BTreeMap Key ℕ) → Type 0
-AreCountsFor b keys None = is_insert b ≡ false
-AreCountsFor b keys (Some counts) = (is_insert b ≡ true) × ((key : Key) → count_in counts key ≡ count_by (λ other. same_key key other) keys)
+-- the same where the statement is still half done
+pub record IsReadyAt (begin : Begin) (changes : List Change) (held : CoreState) (session : ℕ) (outcome : Outcome) : Type 0 where
+  pub stands : Stands held.directory changes
+  pub schema : held.directory.schema.value ≡ begin.schema
+  pub bare : IsBare ((state_of changes held).txns session)
+  pub by_key : IsByKey ((state_of changes held).txns session)
+  pub begun : Begun
+  pub why : begun.short ≡ true → is_of_table begun.bound ≡ true
+  pub shows : Shows begin (state_of changes held) session begun
+  pub gives : GivesOn (sizes_of held.directory) begun outcome
 
--- how a write of these edits in a transaction is judged
-abbrev pub IsJudgedIn : State → ℕ → Option Txn → Bound → List Edit → Option Refusal → Type 0
-IsJudgedIn m session None b edits found = ⊥
-IsJudgedIn m session (Some txn) b edits found = IsJudged (IsObstacle m session txn.snapshot (is_present b edits (seen m.changes txn))) (keys_of edits) found
+-- a Finish from the changes that the core stood for: it stands for later ones, by the steps of the row model and of the book
+pub record IsFinished (begin : Begin) (changes : List Change) (old : CoreState) (session : ℕ) (r : Reply) (new : CoreState) : Type 0 where
+  pub later : List Change
+  pub stands : Stands new.directory later
+  pub step : IsStep begin (state_of changes old) (Finish session r) (state_of later new)
+  pub moves : (book : Book) → Finishes (record { begin = begin; sizes = sizes_of old.directory; book = book }) (state_of changes old) (groups_of old) session r (state_of later new) (groups_of new)
+  pub sizes : new.directory.sizes ≡ old.directory.sizes
+  pub schema : new.directory.schema ≡ old.directory.schema
 
--- what a session that has begun a statement has, with the outcome of its work
-pub record IsDoneAt (schema : Schema) (m : State) (session : ℕ) (outcome : Outcome) : Type 0 where
+-- ---- writes
+
+-- the writes that a statement gave, over changes that the core stands for
+pub record IsWritingAt (begin : Begin) (changes : List Change) (held : CoreState) (session : ℕ) (b : Bound) (short : Bool) (list : List Write) (present : List Key) (affected : ℕ) (parcel : Option Parcel) : Type 0 where
+  pub stands : Stands held.directory changes
+  pub schema : held.directory.schema.value ≡ begin.schema
+  pub bare : IsBare ((state_of changes held).txns session)
+  pub by_key : IsByKey ((state_of changes held).txns session)
+  pub begun : Begun
+  pub bound : begun.bound ≡ b
+  pub short_is : begun.short ≡ short
+  pub found : short ≡ false
+  pub writes : is_write b ≡ true
+  pub holds : Holds begin (state_of changes held) session begun
+  pub gives : GivesWrites (sizes_of held.directory) begun list present affected parcel
+
+-- there are such changes
+pub record MayWrite (held : CoreState) (session : ℕ) (list : List Write) (present : List Key) (affected : ℕ) (parcel : Option Parcel) : Type 0 where
+  pub begin : Begin
+  pub changes : List Change
   pub bound : Bound
   pub short : Bool
-  pub rows : Table
-  pub shows : Shows m session bound short rows
-  pub gives : GivesOn schema bound short rows outcome
+  pub is : IsWritingAt begin changes held session bound short list present affected parcel
 
--- the outcome is what the definitions give over what the session's transaction sees
-pub record GivesIn (schema : Schema) (m : State) (session : ℕ) (b : Bound) (short : Bool) (outcome : Outcome) : Type 0 where
-  pub gives : GivesOn schema b short (seen_in m.changes (m.txns session)) outcome
-  pub pinned : is_of_table b ≡ true → short ≡ false → IsPinned (m.txns session) m.clock
+-- ---- commits
 
--- what an outcome says of its statement: one without work is none of the table, and a write has its snapshot
-abbrev pub Suits : State → ℕ → Bound → Outcome → Type 0
-Suits m session b outcome.Nothing = is_of_table b ≡ false
-Suits m session b (outcome.Answer r) = Unit {0}
-Suits m session b (outcome.Writes edits) = IsPinned (m.txns session) m.clock
-Suits m session b outcome.Short = Unit {0}
+-- the refusal is replied, and leaves what it leaves
+pub record IsRefusedFor (changes : List Change) (old : CoreState) (session : ℕ) (refusal : Refusal) (r : Reply) (new : CoreState) : Type 0 where
+  pub reply : r ≡ reply.Refused refusal
+  pub state : state_of changes new ≡ refused (state_of changes old) session refusal
+  pub still : IsStill old new
 
--- the rows that a Start gave: none, or those that the session's transaction sees once its snapshot is taken
-abbrev pub IsRead : State → ℕ → Table → Type 0
-IsRead m session rows = (rows ≡ []) ⊎ (rows ≡ seen m.changes (fixed (txn_opened (m.txns session) m.next) false m.clock))
+-- the commit is made, with the given reply
+pub record IsCommittedFor (changes : List Change) (old : CoreState) (session : ℕ) (given r : Reply) (new : CoreState) : Type 0 where
+  pub reply : r ≡ given
+  pub leaves : Leaves changes old new (committed_in (state_of changes old) session)
+
+-- there are own writes, and their commit would draw a group id above 2^62
+pub record IsPast (changes : List Change) (held : CoreState) (session : ℕ) : Type 0 where
+  pub some : own_of (txn_of held.directory.txns session) ≢ []
+  pub past : draws_past (groups_of held) (book_with (sizes_of held.directory) (state_of changes held) (edits_of (own_of (txn_of held.directory.txns session))) (groups_of held)) ≡ true
+
+-- the commit is made, or want of memory or of an id stands in the place of its reply
+abbrev pub CommitGives : List Change → CoreState → ℕ → Reply → Reply → CoreState → Type 0
+CommitGives changes old session given r new =
+    IsCommittedFor changes old session given r new
+    ⊎ (IsRefusedFor changes old session Memory r new ⊎ (IsRefusedFor changes old session (Reading 50001 1) r new × IsPast changes old session))

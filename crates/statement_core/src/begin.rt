@@ -1,103 +1,105 @@
 // What a Start does.
-ghost use Rattle.std.specs.Prelude.{◌≡◌, ◌<◌, IfOk, true, false};
-ghost use Rattle.cs_model.specs.Kinds.{is_of_table, reads_rows};
-ghost use Rattle.cs_model.specs.State.{seen};
-ghost use Rattle.cs_model.specs.Steps.{fixed, txn_opened};
-ghost use Rattle.log_laws.specs.Started.{Starts};
-ghost use Rattle.statement_core.specs.CoreState.{state_of, IsWithin};
-ghost use Rattle.statement_core.specs.Replaced.{AreReplaced};
-ghost use Rattle.statement_core.specs.Settled.{IsRead};
+ghost use Rattle.std.specs.Prelude.{◌≡◌, List, ◌<◌, IfOk, OnErr, IsSome, is_none, true, false};
+ghost use Rattle.cs_model.specs.Changes.{Change};
+ghost use Rattle.cs_model.specs.Kinds.{is_of_table};
+ghost use Rattle.cs_model.specs.State.{Begin};
+ghost use Rattle.cs_model.specs.Steps.{pinned};
+ghost use Rattle.txn_table.specs.Txns.{txn_of, own_of};
+ghost use Rattle.group_directory.specs.Stands.{Stands};
+ghost use Rattle.statement_core.specs.CoreState.{state_of, IsWithin, IsStill};
+ghost use Rattle.statement_core.specs.Taken.{opened_for, IsPinOrNone, IsTaken};
 
-use crate::core_state::{CoreState, HalfDone, pin, set_half};
-use change_list::{Rows, lay};
+use crate::core_state::{CoreState, HalfDone, open, set_half};
 use cs_base::Memory;
 use cs_model::{Bound, Kind};
-use std::alloc::Global;
-use std::collections::BTreeMap;
+use group_view::Pinned;
 use std::sync::Arc;
+use write_set::Own;
+
+/// What a Start takes for the work of its statement.
+#[derive(Drop)]
+pub struct Taken {
+    pub pinned: Option<Pinned>,
+    pub own: Own,
+    pub short: bool,
+    pub implicit: bool,
+}
 
 fn is_of_table(bound: &Bound) -> bool
     ensures { result ≡ is_of_table bound.now }
 {
     match bound.kind() {
         Kind::Insert | Kind::Change | Kind::Query => true,
-        Kind::Control | Kind::Refused => false,
+        Kind::Control | Kind::Report | Kind::Refused => false,
     }
 }
 
-fn reads_rows(bound: &Bound) -> bool
-    ensures { result ≡ reads_rows bound.now }
-{
-    match bound.kind() {
-        Kind::Change | Kind::Query => true,
-        Kind::Control | Kind::Insert | Kind::Refused => false,
-    }
-}
-
-/// The rows that the session's transaction reads once its snapshot is taken.
-fn seen(alloc: Global, held: &CoreState, session: u32) -> Result<Rows, Memory>
-    requires { session < 65 }
-    ensures { IfOk result (λ rows. rows.entries ≡ seen (state_of held.now).changes (fixed (txn_opened ((state_of held.now).txns session) (state_of held.now).next) false (state_of held.now).clock)) }
-{
-    let Some(txn) = held.txns.get(session) else {
-        return held.changes.rows_at(alloc, held.clock);
-    };
-    let snapshot = txn.snapshot.unwrap_or(held.clock);
-    let mut rows = held.changes.rows_at(alloc, snapshot)?;
-    lay(&mut rows, &txn.own)?;
-    Ok(rows)
-}
-
-/// The rows that a statement reads, or none where it reads none.
-fn rows_for(alloc: Global, held: &CoreState, session: u32, bound: &Bound) -> Result<Rows, Memory>
-    requires { session < 65 }
-    ensures read { IfOk result (λ rows. IsRead (state_of held.now) session rows.entries) }
-    ensures rows { IfOk result (λ rows. reads_rows bound.now ≡ true → rows.entries ≡ seen (state_of held.now).changes (fixed (txn_opened ((state_of held.now).txns session) (state_of held.now).next) false (state_of held.now).clock)) }
-{
-    if reads_rows(bound) {
-        seen(alloc, held, session)
-    } else {
-        Ok(BTreeMap::new(alloc))
-    }
-}
-
-/// The Start of a statement of the table.
-fn start_on_table(
-    alloc: Global,
-    held: &mut CoreState,
-    session: u32,
-    bound: Arc<Bound>,
-) -> (Rows, bool)
-    requires within { IsWithin held.old session }
-    requires table { is_of_table bound.value ≡ true }
-    ensures starts { Starts (state_of held.old) session bound.value result.1 result.0.entries (state_of held.new) }
-    ensures read { IsRead (state_of held.old) session result.0.entries }
-    ensures replaced { AreReplaced held.old → AreReplaced held.new }
-{
-    let rows = rows_for(alloc, held, session, &bound);
-    let short = rows.is_err();
-    pin(held, session, short);
-    set_half(held, session, Some(HalfDone { bound, short }));
-    match rows {
-        Ok(rows) => (rows, false),
-        Err(_) => (BTreeMap::new(alloc), true),
-    }
-}
-
-/// A Start, but for its entry: the rows that the statement reads, and whether memory for them was short.
-pub fn start(alloc: Global, held: &mut CoreState, session: u32, bound: Arc<Bound>) -> (Rows, bool)
+/// Opens an implicit transaction where the session has none.
+fn open_implicit(held: &mut CoreState, session: u32)
     requires { IsWithin held.old session }
-    ensures starts { Starts (state_of held.old) session bound.value result.1 result.0.entries (state_of held.new) }
-    ensures read { IsRead (state_of held.old) session result.0.entries }
-    ensures replaced { AreReplaced held.old → AreReplaced held.new }
+    ensures open { IsSome (txn_of held.new.directory.txns session) }
+    ensures state { (changes : List Change) → state_of changes held.new ≡ pinned (state_of changes held.old) session true }
+    ensures own { own_of (txn_of held.new.directory.txns session) ≡ own_of (txn_of held.old.directory.txns session) }
+    ensures still { IsStill held.old held.new }
 {
-    if is_of_table(&bound) {
-        return start_on_table(alloc, held, session, bound);
+    if held.directory.depth(session).is_none() {
+        open(held, session, 0);
     }
-    let half = HalfDone {
-        bound,
-        short: false,
-    };
-    set_half(held, session, Some(half));
-    (BTreeMap::new(alloc), false)
+}
+
+/// Opens a transaction where there is none, and takes its snapshot where it has none, with what a statement reads. None where
+/// that finds no memory: there is no snapshot more then.
+fn pin(held: &mut CoreState, session: u32) -> Option<Pinned>
+    requires within { IsWithin held.old session }
+    requires stands { (changes : List Change) × Stands held.old.directory changes }
+    ensures state { (changes : List Change) → state_of changes held.new ≡ pinned (state_of changes held.old) session (is_none result) }
+    ensures own { own_of (txn_of held.new.directory.txns session) ≡ own_of (txn_of held.old.directory.txns session) }
+    ensures pinned { (changes : List Change) → Stands held.old.directory changes → is_none result ≡ false → IsPinOrNone changes held.new.directory session result }
+    ensures still { IsStill held.old held.new }
+{
+    open_implicit(held, session);
+    match held.directory.pin(session) {
+        Ok(pinned) => Some(pinned),
+        Err(_) => None,
+    }
+}
+
+/// What a statement of the table reads, and whether memory for it was short. Another statement reads nothing.
+fn take(held: &mut CoreState, session: u32, bound: &Bound) -> (Option<Pinned>, bool)
+    requires within { IsWithin held.old session }
+    requires stands { (changes : List Change) × Stands held.old.directory changes }
+    ensures state { (changes : List Change) → state_of changes held.new ≡ opened_for (state_of changes held.old) session bound.now result.1 }
+    ensures why { result.1 ≡ true → is_of_table bound.now ≡ true }
+    ensures own { own_of (txn_of held.new.directory.txns session) ≡ own_of (txn_of held.old.directory.txns session) }
+    ensures pinned { (changes : List Change) → Stands held.old.directory changes → is_of_table bound.now ≡ true → result.1 ≡ false → IsPinOrNone changes held.new.directory session result.0 }
+    ensures still { IsStill held.old held.new }
+{
+    if !is_of_table(bound) {
+        return (None, false);
+    }
+    let pinned = pin(held, session);
+    let short = pinned.is_none();
+    (pinned, short)
+}
+
+/// A Start, but for its entry: what the work of its statement is handed. A statement of the table opens an implicit transaction
+/// where there is none, and takes its snapshot; where that finds no memory the Start is short. `Memory`: nothing has changed.
+pub fn start(held: &mut CoreState, session: u32, bound: Arc<Bound>) -> Result<Taken, Memory>
+    requires within { IsWithin held.old session }
+    requires stands { (changes : List Change) × Stands held.old.directory changes }
+    ensures ok { IfOk result (λ taken. (begin : Begin) (changes : List Change) → Stands held.old.directory changes → held.old.directory.schema.value ≡ begin.schema
+        → IsTaken begin changes held.old session bound.value taken held.new) }
+    ensures err { OnErr result (held.new ≡ held.old) }
+    ensures still { IsStill held.old held.new }
+{
+    let own = held.directory.own(session)?;
+    let (pinned, short) = take(held, session, &bound);
+    let implicit = held.directory.depth(session) == Some(0);
+    set_half(held, session, Some(HalfDone { bound, short }));
+    Ok(Taken {
+        pinned,
+        own,
+        short,
+        implicit,
+    })
 }

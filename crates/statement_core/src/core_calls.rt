@@ -1,40 +1,45 @@
 // The core: the log of events, and what stands for the state that it leads to.
 ghost use Rattle.std.specs.Prelude.{◌≡◌, ◌≤◌, ◌<◌, ◌++◌, ◌∷◌, [], length, All, Contains, OnErr, IfOk, false};
+ghost use Rattle.cs_types.specs.Schemas.{IsSchema};
 ghost use Rattle.cs_model.specs.declared.entry.Entry.TheVariants.{Finish, End};
 ghost use Rattle.cs_model.specs.declared.entry.Entry.{Entry};
 ghost use Rattle.cs_model.specs.declared.entry.Reply.{Reply};
 ghost use Rattle.cs_model.specs.State.{State, begin_of};
 ghost use Rattle.cs_model.specs.Actors.{entries_of, is_begun, has_ended};
-ghost use Rattle.cs_model.specs.Held.{IsFitTable};
+ghost use Rattle.cs_model.specs.Ready.{IsReady};
 ghost use Rattle.cs_model.specs.Steps.{Legal};
 ghost use Rattle.cs_model.specs.Text.{IsPrintableEntry};
 ghost use Rattle.log_laws.specs.Laws.{AreDistinct};
-ghost use Rattle.log_laws.specs.Started.{IsStarted};
+ghost use Rattle.log_laws.specs.Started.{Begun, IsStarted};
+ghost use Rattle.group_book.specs.Book.{Book};
+ghost use Rattle.group_log.specs.Followed.{ground_of, Followed};
+ghost use Rattle.statement_core.specs.Begun.{Hands, MayWork};
 ghost use Rattle.statement_core.specs.Cores.{IsDone, IsStartOf};
-ghost use Rattle.cs_model.specs.Ready.{IsReady};
+ghost use Rattle.statement_core.specs.NewTable.{IsNewTable};
+ghost use Rattle.statement_core.specs.Terms.{sizes_of, AreTerms, AreTermsOf};
 
 use crate::begin::start;
 use crate::core_state::CoreState;
 use crate::finish::{end, finish};
 use crate::seats::Seats;
-use crate::started::{Outcome, Started};
-use change_list::Changes;
+use crate::started::{Outcome, Started, Terms};
 use cs_base::Memory;
 use cs_model::{Bound, Entry};
 use cs_types::Schema;
+use group_directory::{Directory, Sizes};
 use std::alloc::Global;
 use std::marker::Model;
 use std::sync::Arc;
-use txn_table::Txns;
 
 /// The most sessions, and so the most entries that can be owed beside a Start: a Finish and an End for each.
 const SESSIONS: usize = 64;
 
-/// Serves sessions over one table: each call makes one event. The log of the events is legal at any time.
+/// Serves sessions over one table: each call makes one event. The log of the events is legal at any time, and the row groups
+/// follow it.
 #[derive(Drop)]
 pub struct Core {
     alloc: Global,
-    schema: Schema,
+    terms: Arc<Terms>,
     held: CoreState,
     log: Vec<Entry>,
     sessions: Vec<u32>,
@@ -52,28 +57,65 @@ impl Model for Core {
     ghost coded = { Prim.hlevel (codes, expr.the_row.coded, pred.the_row.coded) };
 
     ghost use Rattle.std.specs.Prelude.{vec_capacity};
-    ghost use Rattle.cs_model.specs.State.{begin_of};
     ghost use Rattle.statement_core.specs.Cores.{IsCore};
+    ghost use Rattle.statement_core.specs.Terms.{sizes_of};
 
-    ghost view = { λ c. record { schema = c.schema; log = c.log.items; sessions = c.sessions.items } };
+    ghost view = { λ c. record { schema = c.terms.value.schema.value; sizes = sizes_of c.terms.value; log = c.log.items; sessions = c.sessions.items } };
 
-    ghost invariant = { λ c. IsCore (begin_of c.schema) c.held c.log.items (vec_capacity c.log) c.sessions.items };
+    ghost invariant = { λ c. IsCore c.terms.value c.held c.log.items (vec_capacity c.log) c.sessions.items };
+}
+
+/// The directory of a new table, with what the core was made with.
+fn new_table(
+    alloc: Global,
+    schema: Schema,
+    group_rows: u64,
+    direct_rows: u64,
+) -> Result<(Directory, Terms), Memory>
+    requires { AreTermsOf group_rows direct_rows }
+    ensures { IfOk result (λ made. IsNewTable schema group_rows direct_rows made.0 made.1) }
+{
+    let sizes = Sizes {
+        group_rows,
+        direct_rows,
+    };
+    let directory = Directory::new(alloc, schema, sizes)?;
+    let schema = Arc::try_clone(&directory.schema)?;
+    let terms = Terms {
+        schema,
+        group_rows,
+        direct_rows,
+    };
+    Ok((directory, terms))
 }
 
 impl Core {
-    /// A core for these sessions over a table without rows. Its log is empty, and it has room for every End.
-    pub fn new(alloc: Global, schema: Schema, sessions: &[u32]) -> Result<Core, Memory>
+    /// A core for these sessions over a table without rows: groups have at most `group_rows` versions, 2 to 1,048,576, and a commit
+    /// loads rows directly from `direct_rows` on, 1 to 1,048,576. Its log is empty, and it has room for every End.
+    pub fn new(
+        alloc: Global,
+        schema: Schema,
+        group_rows: u64,
+        direct_rows: u64,
+        sessions: &[u32],
+    ) -> Result<Core, Memory>
+        requires table { IsSchema schema }
+        requires sizes { AreTermsOf group_rows direct_rows }
         requires numbers { All (λ session. session < 65) sessions.now }
         requires few { length sessions.now ≤ 64 }
         requires distinct { AreDistinct sessions.now }
         ensures schema { IfOk result (λ core. core.schema ≡ schema) }
+        ensures sizes { IfOk result (λ core. core.sizes ≡ record { group_rows = group_rows; direct_rows = direct_rows }) }
         ensures log { IfOk result (λ core. core.log ≡ []) }
         ensures sessions { IfOk result (λ core. core.sessions ≡ sessions.now) }
     {
+        let (directory, terms) = new_table(alloc, schema, group_rows, direct_rows)?;
+        let terms = match Arc::new(alloc, terms) {
+            Ok(terms) => terms,
+            Err(_) => return Err(Memory),
+        };
         let held = CoreState {
-            changes: Changes::new(alloc),
-            clock: 0,
-            txns: Txns::new(),
+            directory,
             halves: Seats::new(alloc)?,
         };
         let mut log = Vec::new(alloc);
@@ -81,14 +123,15 @@ impl Core {
         let sessions = sessions.to_vec(alloc)?;
         Ok(Core {
             alloc,
-            schema,
+            terms,
             held,
             log,
             sessions,
         })
     }
 
-    /// The Start of a statement. A statement of the table opens a transaction where there is none, and takes its snapshot.
+    /// The Start of a statement. A statement of the table opens a transaction where there is none, takes its snapshot, and pins the
+    /// row groups of this moment; where that finds no memory the Start is short, with a transaction and no snapshot more.
     /// `Memory`: no event was made.
     pub fn start(&mut self, session: u32, bound: Bound) -> Result<Started, Memory>
         requires known { Contains self.old.sessions session }
@@ -97,12 +140,14 @@ impl Core {
         requires ready { IsReady self.old.schema bound }
         ensures log { IfOk result (λ started. (entry : Entry) × (self.new.log ≡ self.old.log ++ entry ∷ []) × IsStartOf session bound started.short entry) }
         ensures bound { IfOk result (λ started. started.bound.value ≡ bound) }
-        ensures started { IfOk result (λ started. IsStarted (begin_of self.new.schema) self.new.log session started.bound.value started.short started.rows.entries) }
-        ensures fit { IfOk result (λ started. IsFitTable self.new.schema started.rows.entries) }
+        ensures terms { IfOk result (λ started. AreTerms started.terms.value × (sizes_of started.terms.value ≡ self.new.sizes)) }
+        ensures started { IfOk result (λ started. (begun : Begun) × Hands begun started × MayWork begun × IsStarted (begin_of self.new.schema) self.new.log session begun) }
         ensures schema { self.new.schema ≡ self.old.schema }
+        ensures sizes { self.new.sizes ≡ self.old.sizes }
         ensures sessions { self.new.sessions ≡ self.old.sessions }
         ensures err { OnErr result (self.new.log ≡ self.old.log) }
     {
+        let terms = Arc::try_clone(&self.terms)?;
         let bound = match Arc::new(self.alloc, bound) {
             Ok(bound) => bound,
             Err(_) => return Err(Memory),
@@ -110,22 +155,30 @@ impl Core {
         let in_log = Arc::try_clone(&bound)?;
         let in_half = Arc::try_clone(&bound)?;
         self.log.reserve(2 * SESSIONS + 2)?;
-        let (rows, short) = start(self.alloc, &mut self.held, session, in_half);
+        let taken = start(&mut self.held, session, in_half)?;
         self.log.push_reserved(Entry::Start {
             session,
             bound: in_log,
-            short,
+            short: taken.short,
         });
-        Ok(Started { bound, rows, short })
+        Ok(Started {
+            bound,
+            pinned: taken.pinned,
+            own: taken.own,
+            short: taken.short,
+            implicit: taken.implicit,
+            terms,
+        })
     }
 
     /// The Finish of the session's statement: its reply is in the log then. Where memory for the reply or its effect is not
-    /// there, it is error 701. It takes no memory for its entry.
+    /// there, it is error 701; and 50001 at 1 where a commit would draw a group id above 2^62. It takes no memory for its entry.
     pub fn finish(&mut self, session: u32, outcome: Outcome)
         requires known { Contains self.old.sessions session }
-        requires outcome { IsDone (begin_of self.old.schema) self.old.log session outcome }
+        requires outcome { IsDone (begin_of self.old.schema) self.old.sizes self.old.log session outcome }
         ensures log { (reply : Reply) × (self.new.log ≡ self.old.log ++ Finish session reply ∷ []) }
         ensures schema { self.new.schema ≡ self.old.schema }
+        ensures sizes { self.new.sizes ≡ self.old.sizes }
         ensures sessions { self.new.sessions ≡ self.old.sessions }
     {
         let reply = finish(self.alloc, &mut self.held, session, outcome);
@@ -139,6 +192,7 @@ impl Core {
         requires going { has_ended (entries_of session self.old.log) ≡ false }
         ensures log { self.new.log ≡ self.old.log ++ End session ∷ [] }
         ensures schema { self.new.schema ≡ self.old.schema }
+        ensures sizes { self.new.sizes ≡ self.old.sizes }
         ensures sessions { self.new.sessions ≡ self.old.sessions }
     {
         end(&mut self.held, session);
@@ -149,13 +203,24 @@ impl Core {
     pub fn schema(&self) -> &Schema
         ensures { result.now ≡ self.now.schema }
     {
-        &self.schema
+        &self.terms.schema
     }
 
-    /// The log, which is legal: it leads from the empty state, entry by entry, to a state of the row model, and can be printed.
+    /// What it was made with.
+    pub fn terms(&self) -> &Terms
+        ensures schema { result.now.schema.value ≡ self.now.schema }
+        ensures sizes { sizes_of result.now ≡ self.now.sizes }
+        ensures terms { AreTerms result.now }
+    {
+        &self.terms
+    }
+
+    /// The log, which is legal and which the row groups follow: it leads from the empty state and the empty book, entry by entry,
+    /// to a state of the row model and a book of row groups; and it can be printed.
     pub fn log(&self) -> &[Entry]
         ensures log { result.now ≡ self.now.log }
         ensures legal { (m : State) × Legal (begin_of self.now.schema) self.now.log m }
+        ensures followed { (m : State) × (book : Book) × Followed (ground_of self.now.schema self.now.sizes) self.now.log m book }
         ensures printable { All (IsPrintableEntry self.now.schema) self.now.log }
     {
         self.log.as_slice()

@@ -1,19 +1,26 @@
 // What the core keeps beside its log.
-ghost use Rattle.std.specs.Prelude.{◌≡◌, ◌+◌, ◌<◌, ◌^◌, IsSome, IfSome, IfNone, OnOk, OnErr, Some, true, All};
-ghost use Rattle.txn_table.specs.Txns.{txn_of, deepened, widened, snapshot_of};
-ghost use Rattle.cs_model.specs.State.{txn_set, half_set};
-ghost use Rattle.cs_model.specs.Obstacles.{IsLocked, IsFree};
-ghost use Rattle.cs_model.specs.Steps.{pinned};
-ghost use Rattle.statement_core.specs.CoreState.{txn_in, half_in, state_of, IsWithin};
-ghost use Rattle.statement_core.specs.Replaced.{SaysReplaced, AllSayReplaced, AreReplaced};
+ghost use Rattle.std.specs.Prelude.{◌≡◌, ℕ, ◌+◌, ◌<◌, ◌≢◌, ◌^◌, [], List, IsSome, OnOk, OnErr, Err, None, Some, true};
+ghost use Rattle.cs_model.specs.Changes.{Change};
+ghost use Rattle.cs_model.specs.State.{with, txn_set, half_set};
+ghost use Rattle.cs_model.specs.Steps.{gone};
+ghost use Rattle.edit_laws.specs.Edits.{edits_of};
+ghost use Rattle.txn_table.specs.Txns.{txn_of, deepened, widened, own_of};
+ghost use Rattle.group_book.specs.Commits.{draws_past};
+ghost use Rattle.group_log.specs.Followed.{book_with};
+ghost use Rattle.group_directory.specs.Calls.{IsParcelFor};
+ghost use Rattle.group_directory.specs.declared.committing.CommitRefusal.TheVariants as refusal;
+ghost use Rattle.group_directory.specs.Laws.{sizes_of, MayStage};
+ghost use Rattle.group_directory.specs.Obstacles.{txn_in};
+ghost use Rattle.group_directory.specs.Stands.{Stands};
+ghost use Rattle.statement_core.specs.CoreState.{half_in, halves_of, state_of, groups_of, IsWithin, IsSame, IsStill};
+ghost use Rattle.statement_core.specs.Leaves.{committed_in, Leaves};
 
 use crate::seats::Seats;
-use change_list::Changes;
 use cs_base::Memory;
 use cs_model::Bound;
-use cs_types::Key;
+use group_directory::{CommitRefusal, Directory};
+use group_view::Parcel;
 use std::sync::Arc;
-use txn_table::{Txn, Txns};
 use write_set::Write;
 
 /// A statement that was started and not finished.
@@ -24,85 +31,87 @@ pub struct HalfDone {
     pub short: bool,
 }
 
-/// The committed changes with the last commit number, and what each session has open or half done.
+/// The row groups with the open transactions, and what each session has half done.
 #[derive(Drop)]
 pub struct CoreState {
-    pub changes: Changes,
-    pub clock: u64,
-    pub txns: Txns,
+    pub directory: Directory,
     pub halves: Seats<HalfDone>,
-}
-
-/// Gives a session another transaction, and answers the one that it had.
-pub fn set_txn(held: &mut CoreState, session: u32, txn: Option<Txn>) -> Option<Txn>
-    requires { session < 65 }
-    ensures was { txn_in result ≡ (state_of held.old).txns session }
-    ensures taken { result ≡ txn_of held.old.txns session }
-    ensures state { state_of held.new ≡ txn_set (state_of held.old) session (txn_in txn) }
-    ensures replaced { AreReplaced held.old → AllSayReplaced held.old.changes held.old.clock txn → AreReplaced held.new }
-{
-    held.txns.replace(session, txn)
 }
 
 /// Gives a session another half-done statement, and answers the one that it had.
 pub fn set_half(held: &mut CoreState, session: u32, half: Option<HalfDone>) -> Option<HalfDone>
     requires { session < 65 }
-    ensures was { half_in result ≡ (state_of held.old).half session }
-    ensures state { state_of held.new ≡ half_set (state_of held.old) session (half_in half) }
-    ensures replaced { AreReplaced held.old → AreReplaced held.new }
+    ensures was { half_in result ≡ halves_of held.old.halves session }
+    ensures state { (changes : List Change) → state_of changes held.new ≡ half_set (state_of changes held.old) session (half_in half) }
+    ensures rest { held.new.directory ≡ held.old.directory }
 {
     held.halves.set(session, half)
+}
+
+/// Opens a transaction of the session, so deep.
+pub fn open(held: &mut CoreState, session: u32, depth: u32)
+    requires within { IsWithin held.old session }
+    requires closed { txn_of held.old.directory.txns session ≡ None }
+    ensures state { (changes : List Change) → state_of changes held.new ≡ record (state_of changes held.old) {
+      txns = with (state_of changes held.old).txns session (Some (record { number = held.old.directory.txns.next; depth = depth; snapshot = None; own = [] }));
+      next = held.old.directory.txns.next + 1;
+    } }
+    ensures open { IsSome (txn_of held.new.directory.txns session) }
+    ensures own { own_of (txn_of held.new.directory.txns session) ≡ [] }
+    ensures still { IsStill held.old held.new }
+{
+    held.directory.begin(session, depth);
 }
 
 /// Gives the session's transaction another depth.
 pub fn deepen(held: &mut CoreState, session: u32, depth: u32)
     requires session { session < 65 }
-    requires open { IsSome (txn_of held.old.txns session) }
-    ensures state { state_of held.new ≡ txn_set (state_of held.old) session (txn_in (deepened depth (txn_of held.old.txns session))) }
-    ensures replaced { AreReplaced held.old → AreReplaced held.new }
+    requires open { IsSome (txn_of held.old.directory.txns session) }
+    ensures state { (changes : List Change) → state_of changes held.new ≡ txn_set (state_of changes held.old) session (txn_in (deepened depth (txn_of held.old.directory.txns session))) }
+    ensures still { IsStill held.old held.new }
 {
-    held.txns.deepen(session, depth);
+    held.directory.deepen(session, depth);
+}
+
+/// Ends the session's transaction; its own writes are gone.
+pub fn roll_back(held: &mut CoreState, session: u32)
+    requires session { session < 65 }
+    requires open { IsSome (txn_of held.old.directory.txns session) }
+    ensures state { (changes : List Change) → state_of changes held.new ≡ gone (state_of changes held.old) session }
+    ensures still { IsStill held.old held.new }
+{
+    held.directory.rollback(session);
 }
 
 /// Lays writes over those of the session's transaction. After `Memory` nothing has changed.
 pub fn stage(held: &mut CoreState, session: u32, writes: Vec<Write>) -> Result<(), Memory>
     requires session { session < 65 }
-    requires open { IsSome (txn_of held.old.txns session) }
-    ensures ok { OnOk result (state_of held.new ≡ txn_set (state_of held.old) session (txn_in (widened writes.items (txn_of held.old.txns session)))) }
-    ensures err { OnErr result (state_of held.new ≡ state_of held.old) }
-    ensures replaced { AreReplaced held.old → All (SaysReplaced held.old.changes (snapshot_of (txn_of held.old.txns session))) writes.items → AreReplaced held.new }
+    requires open { IsSome (txn_of held.old.directory.txns session) }
+    ensures ok { OnOk result ((changes : List Change) → state_of changes held.new ≡ txn_set (state_of changes held.old) session (txn_in (widened writes.items (txn_of held.old.directory.txns session)))) }
+    ensures own { OnOk result (txn_of held.new.directory.txns session ≡ widened writes.items (txn_of held.old.directory.txns session)) }
+    ensures err { OnErr result ((changes : List Change) → state_of changes held.new ≡ state_of changes held.old) }
+    ensures same { IsSame held.old held.new }
+    ensures next { held.new.directory.txns.next ≡ held.old.directory.txns.next }
+    ensures stands { (changes : List Change) (s : ℕ) → Stands held.old.directory changes → MayStage (txn_of held.old.directory.txns) changes session s writes.items → Stands held.new.directory changes }
 {
-    held.txns.stage(session, writes)
+    held.directory.stage(session, writes)
 }
 
-/// The number of another session's transaction that has the key among its own writes.
-pub fn holder(held: &CoreState, key: Key, but: u32) -> Option<u64>
-    ensures some { IfSome result (IsLocked (state_of held.now).txns but key) }
-    ensures none { IfNone result (IsFree (state_of held.now).txns but key) }
+/// Commits the session's transaction, with the parcel of its own writes. After a refusal nothing has changed; `Full` comes where
+/// the commit would draw a group id above 2^62.
+pub fn commit(held: &mut CoreState, session: u32, parcel: Parcel) -> Result<(), CommitRefusal>
+    requires within { IsWithin held.old session }
+    requires open { IsSome (txn_of held.old.directory.txns session) }
+    requires stands { (changes : List Change) × Stands held.old.directory changes }
+    requires parcel { IsParcelFor held.old.directory (own_of (txn_of held.old.directory.txns session)) parcel }
+    ensures ok { OnOk result ((changes : List Change) → Stands held.old.directory changes → Leaves changes held.old held.new (committed_in (state_of changes held.old) session)) }
+    ensures full { (changes : List Change) → Stands held.old.directory changes → result ≡ Err refusal.Full
+        → (own_of (txn_of held.old.directory.txns session) ≢ []) × (draws_past (groups_of held.old) (book_with (sizes_of held.old.directory) (state_of changes held.old) (edits_of (own_of (txn_of held.old.directory.txns session))) (groups_of held.old)) ≡ true) }
+    ensures err { OnErr result ((changes : List Change) → state_of changes held.new ≡ state_of changes held.old) }
+    ensures still { OnErr result (IsStill held.old held.new) }
 {
-    held.txns.holder(key, but)
-}
-
-/// Opens an implicit transaction where the session has none.
-fn open_implicit(held: &mut CoreState, session: u32)
-    requires { IsWithin held.old session }
-    ensures open { IsSome (txn_of held.new.txns session) }
-    ensures state { state_of held.new ≡ pinned (state_of held.old) session true }
-    ensures replaced { AreReplaced held.old → AreReplaced held.new }
-{
-    if held.txns.get(session).is_none() {
-        held.txns.begin(session, 0);
-    }
-}
-
-/// Opens a transaction where there is none, and takes its snapshot where it has none, unless the Start found no memory.
-pub fn pin(held: &mut CoreState, session: u32, short: bool)
-    requires { IsWithin held.old session }
-    ensures state { state_of held.new ≡ pinned (state_of held.old) session short }
-    ensures replaced { AreReplaced held.old → AreReplaced held.new }
-{
-    open_implicit(held, session);
-    if !short {
-        held.txns.fix(session, held.clock);
+    match held.directory.commit(session, parcel) {
+        Ok(_) => Ok(()),
+        Err(refusal) => Err(refusal),
     }
 }

@@ -1,32 +1,37 @@
 // What a Finish does.
-ghost use Rattle.std.specs.Prelude.{Bool, ◌≡◌, ◌+◌, ◌<◌, ◌^◌, IfOk, IfErr, OnOk, OnErr, false, true, None, map, []};
+ghost use Rattle.std.specs.Prelude.{Bool, Option, ◌≡◌, ◌<◌, List, ℕ, IfOk, OnOk, OnErr, true, false, None, Some, []};
 ghost use Rattle.cs_types.specs.declared.Schema.{Schema};
-ghost use Rattle.txn_table.specs.Txns.{txn_of};
-ghost use Rattle.change_list.specs.Edits.{edits_of};
-ghost use Rattle.cs_model.specs.Kinds.{is_of_table, is_insert};
-ghost use Rattle.cs_model.specs.Changes.{table};
-ghost use Rattle.cs_model.specs.State.{State, Begin};
-ghost use Rattle.cs_model.specs.Steps.{is_changed, ends_txn, refused, wrote, began, IsStep};
+ghost use Rattle.cs_types.specs.Schemas.{IsSchema};
+ghost use Rattle.cs_model.specs.declared.entry.Bound.{Bound};
+ghost use Rattle.cs_model.specs.declared.entry.Bound.TheVariants as statement;
+ghost use Rattle.cs_model.specs.declared.entry.Entry.TheVariants.{End};
+ghost use Rattle.cs_model.specs.declared.kind.Kind.TheVariants as kind;
+ghost use Rattle.cs_model.specs.Changes.{Change};
+ghost use Rattle.cs_model.specs.Held.{AreFit};
+ghost use Rattle.cs_model.specs.Kinds.{kind_of};
+ghost use Rattle.cs_model.specs.State.{Begin};
+ghost use Rattle.cs_model.specs.Steps.{is_changed, ends_txn, refused, IsSegments, IsStep};
 ghost use Rattle.cs_model.specs.Text.{IsPrintableReply};
-ghost use Rattle.cs_model.specs.declared.entry.Bound.TheVariants as bound;
-ghost use Rattle.cs_model.specs.declared.entry.Entry.TheVariants.{Finish, End};
-ghost use Rattle.log_laws.specs.Frames.{IsPinned};
-ghost use Rattle.statement_core.specs.CoreState.{txn_in, state_of, IsWithin};
-ghost use Rattle.cs_model.specs.Ready.{IsReady};
-ghost use Rattle.statement_core.specs.Fit.{IsFitState};
-ghost use Rattle.statement_core.specs.Replaced.{AreReplaced};
-ghost use Rattle.statement_core.specs.Settled.{Settles, WriteSettles, Replies, GivesIn, Suits, IsDoneAt, IsJudgedIn, AreCountsFor, write_on, recorded, committed_in};
+ghost use Rattle.txn_table.specs.declared.txn.Txn.{Txn};
+ghost use Rattle.txn_table.specs.Txns.{txn_of, depth_of};
+ghost use Rattle.group_log.specs.Followed.{ShowsBook};
+ghost use Rattle.group_directory.specs.Obstacles.{txn_in};
+ghost use Rattle.group_directory.specs.Stands.{Stands};
+ghost use Rattle.statement_core.specs.declared.started.Outcome.TheVariants as outcome;
+ghost use Rattle.cs_model.specs.declared.entry.Reply.{Reply};
+ghost use Rattle.statement_core.specs.CoreState.{halves_of, state_of, groups_of, IsBare, IsWithin, IsStill};
+ghost use Rattle.statement_core.specs.Outcomes.{needs_none};
+ghost use Rattle.statement_core.specs.Settled.{wrote_or, Settles, Ends, IsDoneAt, IsReadyAt, IsFinished};
 
-use crate::core_state::{CoreState, deepen, set_half, set_txn, stage};
-use crate::judge::{Counts, count_keys, judge, keys_of};
+use crate::core_state::{CoreState, deepen, open, roll_back, set_half};
 use crate::started::Outcome;
-use change_list::Changes;
-use cs_base::{Items, Memory};
-use cs_model::{Bound, Kind, Refusal, Reply};
-use cs_types::{Key, Row};
+use crate::writes::{commit_with, wrote};
+use cs_base::Memory;
+use cs_model::{Bound, Refusal, Reply};
+use group_directory::Ledger;
+use group_reports::{group_lines, segment_lines};
+use group_view::Parcel;
 use std::alloc::Global;
-use txn_table::Txn;
-use write_set::{Own, Write};
 
 /// The deepest that BEGINs are nested.
 const DEEPEST: u32 = 32;
@@ -45,162 +50,39 @@ fn is_changed(refusal: Refusal) -> bool
     }
 }
 
-/// Whether a refusal ends the transaction.
-fn ends_txn(txn: &Option<Txn>, refusal: Refusal) -> bool
-    ensures { result ≡ ends_txn (txn_in txn.now) refusal }
+/// Whether a refusal ends a transaction so deep.
+fn ends_txn(depth: Option<u32>, refusal: Refusal) -> bool
+    ensures { (txn : Option Txn) → depth ≡ depth_of txn → result ≡ ends_txn (txn_in txn) refusal }
 {
-    match txn {
-        Some(txn) => txn.depth == 0 || is_changed(refusal),
+    match depth {
+        Some(depth) => depth == 0 || is_changed(refusal),
         None => false,
     }
 }
 
 /// A refusal, and what it leaves.
-fn refuse(held: &mut CoreState, session: u32, refusal: Refusal) -> Reply
+pub fn refuse(held: &mut CoreState, session: u32, refusal: Refusal) -> Reply
     requires { session < 65 }
     ensures reply { result ≡ Reply.Refused refusal }
-    ensures state { state_of held.new ≡ refused (state_of held.old) session refusal }
-    ensures replaced { AreReplaced held.old → AreReplaced held.new }
+    ensures state { (changes : List Change) → state_of changes held.new ≡ refused (state_of changes held.old) session refusal }
+    ensures still { IsStill held.old held.new }
 {
-    if ends_txn(held.txns.get(session), refusal) {
-        set_txn(held, session, None);
+    if ends_txn(held.directory.depth(session), refusal) {
+        roll_back(held, session);
     }
     Reply::Refused(refusal)
-}
-
-/// Commits own writes under the next number, if there are any. Where memory is not there nothing has changed, and the
-/// writes come back.
-fn record(held: &mut CoreState, txn: u64, own: Own) -> Result<(), Own>
-    requires clock { held.old.clock + 1 < 2 ^ 64 }
-    ensures ok { OnOk result (state_of held.new ≡ recorded (state_of held.old) txn (edits_of own)) }
-    ensures err { OnErr result (state_of held.new ≡ state_of held.old) }
-    ensures back { IfErr result (λ back. back ≡ own) }
-    ensures replaced { AreReplaced held.old → AreReplaced held.new }
-{
-    if own.is_empty() {
-        return Ok(());
-    }
-    let commit = held.clock + 1;
-    held.changes.commit(commit, txn, own)?;
-    held.clock = commit;
-    Ok(())
-}
-
-/// Commits the session's transaction. Where memory is not there nothing has changed.
-fn commit_txn(held: &mut CoreState, session: u32) -> Result<(), Memory>
-    requires within { IsWithin held.old session }
-    ensures ok { OnOk result (state_of held.new ≡ committed_in (state_of held.old) session ((state_of held.old).txns session)) }
-    ensures err { OnErr result (state_of held.new ≡ state_of held.old) }
-    ensures replaced { AreReplaced held.old → AreReplaced held.new }
-{
-    let Some(txn) = set_txn(held, session, None) else {
-        return Ok(());
-    };
-    let Txn {
-        number,
-        depth,
-        snapshot,
-        own,
-    } = txn;
-    match record(held, number, own) {
-        Ok(()) => Ok(()),
-        Err(own) => {
-            let txn = Txn {
-                number,
-                depth,
-                snapshot,
-                own,
-            };
-            set_txn(held, session, Some(txn));
-            Err(Memory)
-        }
-    }
-}
-
-/// Leaves the session's transaction as it is after its statement: an implicit one commits. Where memory is not there
-/// nothing has changed.
-fn settle_txn(held: &mut CoreState, session: u32) -> Result<(), Memory>
-    requires within { IsWithin held.old session }
-    ensures ok { OnOk result (state_of held.new ≡ wrote (state_of held.old) session ((state_of held.old).txns session) []) }
-    ensures err { OnErr result (state_of held.new ≡ state_of held.old) }
-    ensures ends { OnErr result (ends_txn ((state_of held.old).txns session) Refusal.Memory ≡ true) }
-    ensures replaced { AreReplaced held.old → AreReplaced held.new }
-{
-    let Some(txn) = held.txns.get(session) else {
-        return Ok(());
-    };
-    if txn.depth != 0 {
-        return Ok(());
-    }
-    commit_txn(held, session)
-}
-
-/// Edits as writes over the table of a snapshot.
-fn writes_of(
-    alloc: Global,
-    changes: &Changes,
-    snapshot: u64,
-    edits: Items<(Key, Option<Row>)>,
-) -> Result<Vec<Write>, Memory>
-    ensures { IfOk result (λ writes. writes.items ≡ map (write_on (table changes.now snapshot)) edits) }
-{
-    let mut writes = Vec::with_capacity(alloc, edits.len())?;
-    for (key, row) in edits.into_vec() {
-        writes.push(Write {
-            key,
-            row,
-            replaces: changes.has_row_at(key, snapshot),
-        })?;
-    }
-    Ok(writes)
-}
-
-/// Lays writes over the own ones of the session's transaction; an implicit one commits. After `Memory` the own writes of an
-/// explicit one are as they were. An implicit one may have more: the refusal for want of memory ends it.
-fn write(
-    alloc: Global,
-    held: &mut CoreState,
-    session: u32,
-    edits: Items<(Key, Option<Row>)>,
-) -> Result<(), Memory>
-    requires within { IsWithin held.old session }
-    requires pinned { IsPinned ((state_of held.old).txns session) (state_of held.old).clock }
-    ensures ok { OnOk result (state_of held.new ≡ wrote (state_of held.old) session ((state_of held.old).txns session) edits) }
-    ensures err { OnErr result (refused (state_of held.new) session Refusal.Memory ≡ refused (state_of held.old) session Refusal.Memory) }
-    ensures replaced { AreReplaced held.old → AreReplaced held.new }
-{
-    let Some(txn) = held.txns.get(session) else {
-        unreachable!();
-    };
-    let Some(snapshot) = txn.snapshot else {
-        unreachable!();
-    };
-    let writes = writes_of(alloc, &held.changes, snapshot, edits)?;
-    stage(held, session, writes)?;
-    settle_txn(held, session)
-}
-
-/// Opens a transaction by BEGIN.
-fn open(held: &mut CoreState, session: u32)
-    requires within { IsWithin held.old session }
-    requires closed { txn_of held.old.txns session ≡ None }
-    ensures state { state_of held.new ≡ began (state_of held.old) session None }
-    ensures replaced { AreReplaced held.old → AreReplaced held.new }
-{
-    held.txns.begin(session, 1);
 }
 
 /// The Finish of a BEGIN.
 fn begin(held: &mut CoreState, session: u32) -> Reply
     requires { IsWithin held.old session }
-    ensures settles { (schema : Schema) → Settles schema (state_of held.old) session bound.Begin false result (state_of held.new) }
-    ensures replaced { AreReplaced held.old → AreReplaced held.new }
+    ensures settles { (schema : Schema) (changes : List Change) → Settles schema (state_of changes held.old) session statement.Begin result (state_of changes held.new) }
+    ensures still { IsStill held.old held.new }
 {
-    let Some(txn) = held.txns.get(session) else {
-        open(held, session);
+    let Some(depth) = held.directory.depth(session) else {
+        open(held, session, 1);
         return Reply::Done;
     };
-    let depth = txn.depth;
     if depth < DEEPEST {
         deepen(held, session, depth + 1);
         return Reply::Done;
@@ -212,136 +94,124 @@ fn begin(held: &mut CoreState, session: u32) -> Reply
     refuse(held, session, refusal)
 }
 
-/// The Finish of a COMMIT.
-fn commit(held: &mut CoreState, session: u32) -> Reply
-    requires within { IsWithin held.old session }
-    ensures settles { (schema : Schema) → Settles schema (state_of held.old) session bound.Commit false result (state_of held.new) }
-    ensures replaced { AreReplaced held.old → AreReplaced held.new }
+/// The Finish of a ROLLBACK.
+fn rollback(held: &mut CoreState, session: u32) -> Reply
+    requires { session < 65 }
+    ensures settles { (schema : Schema) (changes : List Change) → Settles schema (state_of changes held.old) session statement.Rollback result (state_of changes held.new) }
+    ensures still { IsStill held.old held.new }
 {
-    let Some(txn) = held.txns.get(session) else {
-        return refuse(held, session, Refusal::NoTxn { number: 3902 });
-    };
-    let depth = txn.depth;
-    if depth > 1 {
-        deepen(held, session, depth - 1);
-        return Reply::Done;
+    if held.directory.depth(session).is_none() {
+        return refuse(held, session, Refusal::NoTxn { number: 3903 });
     }
-    match commit_txn(held, session) {
-        Ok(()) => Reply::Done,
+    roll_back(held, session);
+    Reply::Done
+}
+
+/// The Finish of the report on row groups: what they are now, whatever the session's snapshot.
+fn group_report(held: &mut CoreState, session: u32) -> Reply
+    requires session { session < 65 }
+    requires stands { (changes : List Change) × Stands held.old.directory changes }
+    ensures settles { (schema : Schema) (changes : List Change) → Settles schema (state_of changes held.old) session statement.GroupReport result (state_of changes held.new) }
+    ensures shows { (schema : Schema) (changes : List Change) → ShowsBook schema changes (groups_of held.old) result }
+    ensures still { IsStill held.old held.new }
+{
+    match held.directory.ledger() {
+        Ok(
+            Ledger {
+                lines,
+                buffered,
+                ..
+            },
+        ) => group_lines(lines, buffered),
         Err(_) => refuse(held, session, Refusal::Memory),
     }
 }
 
-/// The Finish of a ROLLBACK.
-fn rollback(held: &mut CoreState, session: u32) -> Reply
-    requires { session < 65 }
-    ensures settles { (schema : Schema) → Settles schema (state_of held.old) session bound.Rollback false result (state_of held.new) }
-    ensures replaced { AreReplaced held.old → AreReplaced held.new }
+/// The report on the segments of this moment. After `Memory` nothing that is read has changed.
+fn look_at_segments(alloc: Global, held: &mut CoreState) -> Result<Reply, Memory>
+    requires table { IsSchema held.old.directory.schema.value }
+    requires stands { (changes : List Change) × Stands held.old.directory changes }
+    ensures report { IfOk result IsSegments }
+    ensures shows { IfOk result (λ reply. (changes : List Change) → Stands held.old.directory changes → ShowsBook held.old.directory.schema.value changes (groups_of held.old) reply) }
+    ensures printable { IfOk result (λ reply. (changes : List Change) → Stands held.old.directory changes → AreFit held.old.directory.schema.value changes → IsPrintableReply held.old.directory.schema.value reply) }
+    ensures state { (changes : List Change) → state_of changes held.new ≡ state_of changes held.old }
+    ensures still { IsStill held.old held.new }
 {
-    if held.txns.get(session).is_none() {
-        return refuse(held, session, Refusal::NoTxn { number: 3903 });
-    }
-    set_txn(held, session, None);
-    Reply::Done
+    let view = held.directory.look()?;
+    segment_lines(alloc, &held.directory.schema, &view)
 }
 
-/// The Finish of a statement that is none of the table. Want of memory may stand in place of any reply.
-fn plain(held: &mut CoreState, session: u32, bound: &Bound) -> Reply
+/// The Finish of the report on segments: how they are kept now, whatever the session's snapshot.
+fn segment_report(alloc: Global, held: &mut CoreState, session: u32) -> Reply
+    requires session { session < 65 }
+    requires table { IsSchema held.old.directory.schema.value }
+    requires stands { (changes : List Change) × Stands held.old.directory changes }
+    ensures settles { (schema : Schema) (changes : List Change) → Settles schema (state_of changes held.old) session statement.SegmentReport result (state_of changes held.new) }
+    ensures shows { (changes : List Change) → Stands held.old.directory changes → ShowsBook held.old.directory.schema.value changes (groups_of held.old) result }
+    ensures printable { (changes : List Change) → Stands held.old.directory changes → AreFit held.old.directory.schema.value changes → IsPrintableReply held.old.directory.schema.value result }
+    ensures still { IsStill held.old held.new }
+{
+    match look_at_segments(alloc, held) {
+        Ok(reply) => reply,
+        Err(_) => refuse(held, session, Refusal::Memory),
+    }
+}
+
+/// The Finish of a statement that needed no work: none of the table, and no COMMIT.
+fn plain(alloc: Global, held: &mut CoreState, session: u32, bound: &Bound) -> Reply
     requires within { IsWithin held.old session }
-    requires other { is_of_table bound.now ≡ false }
-    ensures settles { (schema : Schema) → Settles schema (state_of held.old) session bound.now false result (state_of held.new) }
-    ensures replaced { AreReplaced held.old → AreReplaced held.new }
+    requires table { IsSchema held.old.directory.schema.value }
+    requires stands { (changes : List Change) × Stands held.old.directory changes }
+    requires none { needs_none bound.now ≡ true }
+    ensures settles { (schema : Schema) (changes : List Change) → Settles schema (state_of changes held.old) session bound.now result (state_of changes held.new) }
+    ensures shows { (changes : List Change) → Stands held.old.directory changes → kind_of bound.now ≡ kind.Report → ShowsBook held.old.directory.schema.value changes (groups_of held.old) result }
+    ensures printable { (changes : List Change) → Stands held.old.directory changes → AreFit held.old.directory.schema.value changes → bound.now ≡ statement.SegmentReport → IsPrintableReply held.old.directory.schema.value result }
+    ensures still { IsStill held.old held.new }
 {
     match bound {
         Bound::Begin => begin(held, session),
-        Bound::Commit => commit(held, session),
         Bound::Rollback => rollback(held, session),
         Bound::Nothing => Reply::Done,
+        Bound::GroupReport => group_report(held, session),
+        Bound::SegmentReport => segment_report(alloc, held, session),
         Bound::Refused(refusal) => refuse(held, session, *refusal),
-        Bound::Insert(_) | Bound::Update(_) | Bound::Delete(_) | Bound::Select(_) => unreachable!(),
+        Bound::Commit | Bound::Insert(_) | Bound::Update(_) | Bound::Delete(_) | Bound::Select(_) =>
+            unreachable!(),
     }
 }
 
-/// The Finish of a statement whose work gave its reply.
+/// The Finish of a statement whose work gave its reply. An implicit transaction has written nothing, so it is over.
 fn answered(held: &mut CoreState, session: u32, reply: Reply) -> Reply
-    requires within { IsWithin held.old session }
-    ensures replies { Replies (state_of held.old) session reply result (state_of held.new) }
-    ensures replaced { AreReplaced held.old → AreReplaced held.new }
+    requires session { session < 65 }
+    requires bare { IsBare (txn_in (txn_of held.old.directory.txns session)) }
+    ensures reply { result ≡ reply }
+    ensures state { (changes : List Change) → state_of changes held.new ≡ wrote_or (state_of changes held.old) session [] reply }
+    ensures still { IsStill held.old held.new }
 {
     if let Reply::Refused(refusal) = reply {
         return refuse(held, session, refusal);
     }
-    match settle_txn(held, session) {
-        Ok(()) => reply,
-        Err(_) => refuse(held, session, Refusal::Memory),
+    if held.directory.depth(session) == Some(0) {
+        roll_back(held, session);
     }
+    reply
 }
 
-fn is_insert(bound: &Bound) -> bool
-    ensures { result ≡ is_insert bound.now }
-{
-    match bound.kind() {
-        Kind::Insert => true,
-        Kind::Control | Kind::Change | Kind::Query | Kind::Refused => false,
-    }
-}
-
-/// The counts of the keys of an INSERT, and None for another write.
-fn counts_for(alloc: Global, bound: &Bound, keys: &[Key]) -> Result<Option<Counts>, Memory>
-    ensures { IfOk result (λ counts. AreCountsFor bound.now keys.now counts) }
-{
-    if is_insert(bound) {
-        Ok(Some(count_keys(alloc, keys)?))
-    } else {
-        Ok(None)
-    }
-}
-
-/// The obstacle of a write in the session's transaction, which has a snapshot.
-fn obstacle_of(
-    alloc: Global,
-    held: &CoreState,
-    session: u32,
-    bound: &Bound,
-    writes: &[(Key, Option<Row>)],
-) -> Result<Option<Refusal>, Memory>
-    requires session { session < 65 }
-    requires pinned { IsPinned ((state_of held.now).txns session) (state_of held.now).clock }
-    ensures { IfOk result (IsJudgedIn (state_of held.now) session ((state_of held.now).txns session) bound.now writes.now) }
-{
-    let Some(txn) = held.txns.get(session) else {
-        unreachable!();
-    };
-    let Some(snapshot) = txn.snapshot else {
-        unreachable!();
-    };
-    let keys = keys_of(alloc, writes)?;
-    let counts = counts_for(alloc, bound, keys.as_slice())?;
-    Ok(judge(held, session, snapshot, &txn.own, &counts, keys.as_slice()))
-}
-
-/// The Finish of a write, whose list of writes is given.
-fn wrote(
-    alloc: Global,
-    held: &mut CoreState,
-    session: u32,
-    bound: &Bound,
-    writes: Items<(Key, Option<Row>)>,
-) -> Reply
+/// The Finish of a COMMIT.
+fn unwind(held: &mut CoreState, session: u32, parcel: Parcel) -> Reply
     requires within { IsWithin held.old session }
-    requires pinned { IsPinned ((state_of held.old).txns session) (state_of held.old).clock }
-    ensures settles { WriteSettles (state_of held.old) session bound.now writes result (state_of held.new) }
-    ensures replaced { AreReplaced held.old → AreReplaced held.new }
+    requires done { (begin : Begin) × (changes : List Change) × (short : Bool) × IsDoneAt begin changes held.old session statement.Commit short (outcome.Commit parcel) }
+    ensures { (begin : Begin) (changes : List Change) (short : Bool) → IsDoneAt begin changes held.old session statement.Commit short (outcome.Commit parcel)
+        → Ends begin.schema changes held.old session statement.Commit short result held.new }
 {
-    let count = writes.len() as u64;
-    match obstacle_of(alloc, held, session, bound, writes.as_slice()) {
-        Ok(Some(refusal)) => refuse(held, session, refusal),
-        Ok(None) => match write(alloc, held, session, writes) {
-            Ok(()) => Reply::Affected(count),
-            Err(_) => refuse(held, session, Refusal::Memory),
-        },
-        Err(_) => refuse(held, session, Refusal::Memory),
+    let Some(depth) = held.directory.depth(session) else {
+        return refuse(held, session, Refusal::NoTxn { number: 3902 });
+    };
+    if depth > 1 {
+        deepen(held, session, depth - 1);
+        return Reply::Done;
     }
+    commit_with(held, session, parcel, Reply::Done)
 }
 
 /// The Finish of a statement whose work gave this outcome.
@@ -353,16 +223,24 @@ fn settle(
     outcome: Outcome,
 ) -> Reply
     requires within { IsWithin held.old session }
-    requires suits { Suits (state_of held.old) session bound.now outcome }
-    ensures settles { (schema : Schema) (short : Bool) → GivesIn schema (state_of held.old) session bound.now short outcome → Settles schema (state_of held.old) session bound.now short result (state_of held.new) }
-    ensures fits { (schema : Schema) (short : Bool) → GivesIn schema (state_of held.old) session bound.now short outcome → IsFitState schema (state_of held.old) → IsReady schema bound.now
-        → IsFitState schema (state_of held.new) × IsPrintableReply schema result }
-    ensures replaced { AreReplaced held.old → AreReplaced held.new }
+    requires table { IsSchema held.old.directory.schema.value }
+    requires done { (begin : Begin) × (changes : List Change) × (short : Bool) × IsDoneAt begin changes held.old session bound.now short outcome }
+    ensures ends { (begin : Begin) (changes : List Change) (short : Bool) → IsDoneAt begin changes held.old session bound.now short outcome
+        → Ends begin.schema changes held.old session bound.now short result held.new }
+    ensures printable { (changes : List Change) → Stands held.old.directory changes → AreFit held.old.directory.schema.value changes → bound.now ≡ statement.SegmentReport → IsPrintableReply held.old.directory.schema.value result }
+    ensures short { outcome ≡ Outcome.Short → result ≡ Reply.Refused Refusal.Memory }
+    ensures given { (given : Reply) → outcome ≡ Outcome.Answer given → result ≡ given }
 {
     match outcome {
-        Outcome::Nothing => plain(held, session, bound),
+        Outcome::Nothing => plain(alloc, held, session, bound),
         Outcome::Answer(reply) => answered(held, session, reply),
-        Outcome::Writes(writes) => wrote(alloc, held, session, bound, writes),
+        Outcome::Writes {
+            writes,
+            present,
+            affected,
+            parcel,
+        } => wrote(alloc, held, session, writes, present, affected, parcel),
+        Outcome::Commit(parcel) => unwind(held, session, parcel),
         Outcome::Short => refuse(held, session, Refusal::Memory),
     }
 }
@@ -370,11 +248,12 @@ fn settle(
 /// A Finish, but for its entry.
 pub fn finish(alloc: Global, held: &mut CoreState, session: u32, outcome: Outcome) -> Reply
     requires within { IsWithin held.old session }
-    requires done { (schema : Schema) × IsDoneAt schema (state_of held.old) session outcome }
-    ensures step { (begin : Begin) → IsDoneAt begin.schema (state_of held.old) session outcome → IsStep begin (state_of held.old) (Finish session result) (state_of held.new) }
-    ensures fits { (schema : Schema) → IsDoneAt schema (state_of held.old) session outcome → IsFitState schema (state_of held.old)
-        → IsFitState schema (state_of held.new) × IsPrintableReply schema result }
-    ensures replaced { AreReplaced held.old → AreReplaced held.new }
+    requires table { IsSchema held.old.directory.schema.value }
+    requires done { (begin : Begin) × (changes : List Change) × IsReadyAt begin changes held.old session outcome }
+    ensures finished { (begin : Begin) (changes : List Change) → IsReadyAt begin changes held.old session outcome → IsFinished begin changes held.old session result held.new }
+    ensures printable { (changes : List Change) → Stands held.old.directory changes → AreFit held.old.directory.schema.value changes → halves_of held.old.halves session ≡ Some (record { bound = statement.SegmentReport; short = false }) → IsPrintableReply held.old.directory.schema.value result }
+    ensures short { outcome ≡ Outcome.Short → result ≡ Reply.Refused Refusal.Memory }
+    ensures given { (given : Reply) → outcome ≡ Outcome.Answer given → result ≡ given }
 {
     match set_half(held, session, None) {
         Some(half) => settle(alloc, held, session, &half.bound, outcome),
@@ -385,9 +264,11 @@ pub fn finish(alloc: Global, held: &mut CoreState, session: u32, outcome: Outcom
 /// An End, but for its entry.
 pub fn end(held: &mut CoreState, session: u32)
     requires within { session < 65 }
-    requires rests { (state_of held.old).half session ≡ None }
-    ensures step { (begin : Begin) → IsStep begin (state_of held.old) (End session) (state_of held.new) }
-    ensures replaced { AreReplaced held.old → AreReplaced held.new }
+    requires rests { halves_of held.old.halves session ≡ None }
+    ensures step { (begin : Begin) (changes : List Change) → IsStep begin (state_of changes held.old) (End session) (state_of changes held.new) }
+    ensures still { IsStill held.old held.new }
 {
-    set_txn(held, session, None);
+    if held.directory.depth(session).is_some() {
+        roll_back(held, session);
+    }
 }

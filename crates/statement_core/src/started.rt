@@ -1,45 +1,72 @@
 // A statement that was started, and what its work gives.
-ghost use Rattle.cs_types.specs.Schemas.{IsSchema};
-ghost use Rattle.cs_model.specs.Held.{IsFitTable};
-ghost use Rattle.cs_model.specs.Ready.{IsReady};
+ghost use Rattle.group_book.specs.Commits.{Sizes};
+ghost use Rattle.log_laws.specs.Started.{Begun};
+ghost use Rattle.statement_core.specs.Begun.{Hands, MayWork};
 ghost use Rattle.statement_core.specs.Outcomes.{GivesOn};
+ghost use Rattle.statement_core.specs.Terms.{sizes_of, AreTerms};
 
-use change_list::Rows;
-use cs_base::Items;
 use cs_model::{Bound, Reply};
-use cs_types::{Key, Row, Schema};
+use cs_types::{Key, Schema};
+use group_view::{Parcel, Pinned};
 use std::alloc::Global;
 use std::sync::Arc;
+use write_set::{Own, Write};
 
-/// A statement that was started: what its work needs.
+/// What a core was made with.
+#[derive(Drop)]
+pub struct Terms {
+    pub schema: Arc<Schema>,
+    /// The most versions of a row group, 2 to 1,048,576.
+    pub group_rows: u64,
+    /// From how many rows on a commit loads them directly, 1 to 1,048,576.
+    pub direct_rows: u64,
+}
+
+/// A statement that was started: what its work needs. It shares the own writes and the groups, so it is to be dropped before its
+/// Finish: else a write would have to copy them.
 #[derive(Drop)]
 pub struct Started {
     pub bound: Arc<Bound>,
-    /// The rows that an UPDATE, a DELETE or a SELECT reads, by key.
-    pub rows: Rows,
+    /// What a statement of the table reads. None for another statement, and where the Start was short.
+    pub pinned: Option<Pinned>,
+    /// The own writes of the session's transaction, none where it has no transaction.
+    pub own: Own,
     /// Whether the Start found no memory; the statement is refused then.
     pub short: bool,
+    /// Whether the statement's transaction is an implicit one, which ends with it.
+    pub implicit: bool,
+    pub terms: Arc<Terms>,
 }
 
 /// What the work between a Start and its Finish gives.
 #[derive(Drop)]
 pub enum Outcome {
-    /// There is nothing to do before the Finish: the statement is none of the table.
+    /// There is nothing to do before the Finish: the statement is none of the table and no COMMIT.
     Nothing,
     /// The reply: the answer of a query, or the first value refusal of a write.
     Answer(Reply),
-    /// What a write puts at which key, in the order of its rows.
-    Writes(Items<(Key, Option<Row>)>),
+    /// What a write puts at which key.
+    Writes {
+        /// By key, one for each key.
+        writes: Vec<Write>,
+        /// The keys that an INSERT would make stand twice, by key; none for another write.
+        present: Vec<Key>,
+        /// How many rows were written, a key that stands twice counted twice.
+        affected: u64,
+        /// The rows as a commit takes them, where the transaction ends with the statement and no key is present.
+        parcel: Option<Parcel>,
+    },
+    /// The rows of the own writes as a commit takes them, for a COMMIT.
+    Commit(Parcel),
     /// Memory was not there.
     Short,
 }
 
 /// Who does the work of statements.
 pub trait Desk {
-    /// The outcome of a statement that was started, over the rows that it reads.
-    fn work(&self, alloc: Global, schema: &Schema, started: &Started) -> Outcome
-        requires schema { IsSchema schema.now }
-        requires rows { IsFitTable schema.now started.now.rows.entries }
-        requires ready { IsReady schema.now started.now.bound.value }
-        ensures { GivesOn schema.now started.now.bound.value started.now.short started.now.rows.entries result };
+    /// The outcome of a statement that was started, over what it reads.
+    fn work(&self, alloc: Global, started: &Started) -> Outcome
+        requires terms { AreTerms started.now.terms.value }
+        requires begun { (begun : Begun) × Hands begun started.now × MayWork begun }
+        ensures { (begun : Begun) → Hands begun started.now → MayWork begun → GivesOn (sizes_of started.now.terms.value) begun result };
 }

@@ -1,5 +1,6 @@
-pub mod Cells
-pub mod Edits
-pub mod Fitting
+pub mod Given
 pub mod Outcomes
-pub mod Written
+pub mod Parcelled
+pub mod Seen
+pub mod Taken
+pub mod Working

@@ -1,12 +1,82 @@
--- Outcomes of what was started.
-use Rattle.std.proofs.Common.{◌≡◌, Bool, false, sym, subst}
-use Rattle.cs_types.specs.declared.Schema.{Schema}
-use Rattle.cs_model.specs.declared.entry.Bound.{Bound}
-use Rattle.cs_model.specs.Changes.{Table}
-use Rattle.statement_core.specs.declared.started.Outcome.{Outcome}
-use Rattle.statement_core.specs.Outcomes.{GivesOn}
+-- The outcomes of what was begun.
+use Rattle.std.proofs.Common.{◌≡◌, ℕ, zero, suc, Bool, true, false, ◌&&◌, ◌||◌, cond, List, [], ◌∷◌, length, get_or, map, filter, refl, sym, ap, ◌∙◌, subst, arith}
+use Rattle.std.specs.Prelude.{Option, None, Some, Result, Ok, Err}
+use Rattle.std.specs.List.{All, Contains}
+use Rattle.std.proofs.lemmas.List.{length-map}
+use Rattle.std.proofs.lemmas.List.Elements.{All-contains_itself, All-cons, All-nil}
+use Rattle.cs_types.specs.declared.Key.{Key}
+use Rattle.cs_model.specs.Answers.{writes}
+use Rattle.cs_model.specs.Changes.{Edit, Table}
+use Rattle.cs_model.specs.Kinds.{is_insert}
+use Rattle.cs_model.specs.Obstacles.{has_row, is_present, keys_of, stands_twice}
+use Rattle.write_set.specs.declared.write.Write.{Write}
+use Rattle.write_set.specs.Writes.{Ascend}
+use Rattle.edit_laws.specs.Edits.{edit_of, edits_of}
+use Rattle.log_laws.specs.Started.{Begun, snapshot_table, seen_by}
+use Rattle.group_book.specs.Commits.{Sizes}
+use Rattle.group_view.specs.declared.claim.Parcel.{Parcel}
+use Rattle.group_view.specs.declared.view.Pinned.{Pinned}
+use Rattle.row_work.specs.declared.insert.InsertedRows.{InsertedRows}
+use Rattle.row_work.specs.Inserts.{AreInserted}
+use Rattle.row_work.specs.Keyed.{Replaces}
+use Rattle.row_work.proofs.Fits.{Fits}
+use Rattle.statement_core.specs.Begun.{MayWork, Pins}
+use Rattle.statement_core.specs.Outcomes.{keys_in, width_of, GivesWrites, IsParcelled}
+use Rattle.statement_work.proofs.Seen.{read_is, shown_is}
 
--- what a statement gives, where it is what was started
-pub given_by : (schema : Schema) (b other : Bound) (short : Bool) (table : Table) (outcome : Outcome) → b ≡ other → short ≡ false → GivesOn schema other false table outcome → GivesOn schema b short table outcome
-given_by schema b other short table outcome same started gives =
-    subst (λ x. GivesOn schema x short table outcome) (sym same) (subst (λ s. GivesOn schema other s table outcome) (sym started) gives)
+each_key : (list : List Write) (keys : List Key) → All (Contains keys) (keys_in list) → All (λ (edit : Edit). Contains keys edit.0) (edits_of list)
+each_key [] keys all = All-nil (λ (edit : Edit). Contains keys edit.0)
+each_key (w ∷ list) keys all =
+    All-cons (λ (edit : Edit). Contains keys edit.0) (edit_of w) (edits_of list) (all 0 w.key (omega arith)) (each_key list keys (λ i d there. all (suc i) d (omega (arith, there))))
+
+every_key : (list : List Write) → All (λ (edit : Edit). Contains (keys_in list) edit.0) (edits_of list)
+every_key list = each_key list (keys_in list) (All-contains_itself (keys_in list))
+
+none_kept : (p : Key → Bool) → ((key : Key) → p key ≡ false) → (keys : List Key) → filter p keys ≡ []
+none_kept p none [] = refl
+none_kept p none (key ∷ keys) = rw (none key) (none_kept p none keys)
+
+module _ (sizes : Sizes) (begun : Begun) (pinned : Pinned) (pins : Pins begun pinned) (work : MayWork begun) where
+  replaced : (list : List Write) → All (Replaces (width_of begun) pinned) list → All (λ (write : Write). write.replaces ≡ has_row (snapshot_table begun) write.key) list
+  replaced list all = λ i d there. all i d there ∙ ap (λ (t : Table). has_row t (get_or list i d).key) (shown_is begun pinned pins work)
+
+  -- of a write that makes no key stand twice
+  pub changes_give : (list : List Write) (present : List Key) (affected : ℕ) → is_insert begun.bound ≡ false → writes begun.schema (seen_by begun) begun.bound ≡ Ok (edits_of list) → All (Fits begun.schema) (edits_of list)
+      → Ascend list → All (Replaces (width_of begun) pinned) list → present ≡ [] → affected ≡ length list → (parcel : Option Parcel) → IsParcelled sizes begun list present parcel → GivesWrites sizes begun list present affected parcel
+  changes_give list present affected other defined fits order replaces none count parcel parcelled = record {
+    edits = edits_of list;
+    defined = defined;
+    fit = λ i d there. (fits i d there).0;
+    whole = λ i d there. (fits i d there).1;
+    are = record {
+      order = order;
+      each = All-contains_itself (edits_of list);
+      every = every_key list;
+      replaces = replaced list replaces;
+      twice = none ∙ sym (none_kept (is_present begun.bound (edits_of list) (seen_by begun)) (λ key. ap (λ t. t && (has_row (seen_by begun) key || stands_twice (keys_of (edits_of list)) key)) other) (keys_in list));
+      count = count ∙ sym (length-map list edit_of);
+      parcelled = parcelled;
+    };
+  }
+
+  -- of an INSERT
+  pub insert_gives : (edits : List Edit) (rows : InsertedRows) → is_insert begun.bound ≡ true → writes begun.schema (seen_by begun) begun.bound ≡ Ok edits → All (Fits begun.schema) edits → AreInserted (width_of begun) pinned edits rows
+      → (parcel : Option Parcel) → IsParcelled sizes begun rows.writes.items rows.present.items parcel → GivesWrites sizes begun rows.writes.items rows.present.items rows.affected parcel
+  insert_gives edits rows is defined fits inserted parcel parcelled = record {
+    edits = edits;
+    defined = defined;
+    fit = λ i d there. (fits i d there).0;
+    whole = λ i d there. (fits i d there).1;
+    are = record {
+      order = inserted.keyed.order;
+      each = inserted.keyed.each;
+      every = inserted.keyed.every;
+      replaces = replaced rows.writes.items inserted.replaces;
+      twice =
+          inserted.present
+          ∙ ap (λ (t : Table). filter (λ key. has_row t key || stands_twice (keys_of edits) key) (keys_in rows.writes.items)) (read_is begun pinned pins work)
+          ∙ ap (λ (t : Bool). filter (λ key. t && (has_row (seen_by begun) key || stands_twice (keys_of edits) key)) (keys_in rows.writes.items)) (sym is);
+      count = inserted.affected;
+      parcelled = parcelled;
+    };
+  }

@@ -1,78 +1,81 @@
-//! Who does the work of statements.
-
-ghost use Rattle.std.specs.Prelude.{◌≡◌, false, true, All, IfOk};
-ghost use Rattle.cs_types.specs.declared.Schema.{Schema};
-ghost use Rattle.cs_model.specs.declared.entry.Bound.{Bound};
+// The desk of the program.
+ghost use Rattle.std.specs.Prelude.{◌≡◌, IsSome, Some};
 ghost use Rattle.cs_model.specs.declared.entry.Bound.TheVariants as bound;
-ghost use Rattle.cs_model.specs.Answers.{writes};
-ghost use Rattle.cs_model.specs.Changes.{Table};
-ghost use Rattle.cs_model.specs.Held.{IsFit, IsFitTable};
-ghost use Rattle.cs_model.specs.Kinds.{is_write};
+ghost use Rattle.log_laws.specs.Started.{Begun};
 ghost use Rattle.statement_core.specs.Outcomes.{GivesOn};
-ghost use Rattle.statement_work.specs.Gives.{GivesRows};
+ghost use Rattle.statement_core.specs.Terms.{sizes_of, AreTerms};
+ghost use Rattle.statement_work.specs.Clerks.{IsBegun};
 
-use crate::delete::deleted;
-use crate::insert::inserted;
-use crate::refusal::WriteRefusal;
-use crate::select::answer;
-use crate::update::updated;
-use crate::write::Edit;
-use change_list::Rows;
-use cs_base::{Items, Memory};
-use cs_model::{AnswerRefusal, Bound, Pred, Query, Refusal, Reply};
-use cs_types::Schema;
+use crate::writes::{changed, refused, valued, written};
+use cs_base::Memory;
+use cs_model::{AnswerRefusal, Bound, InsertPlan, Pred, Query, Reply, UpdatePlan};
+use group_view::Pinned;
+use row_work::{answer, deleted, inserted, updated};
 use statement_core::{Desk, Outcome, Started};
 use std::alloc::Global;
+use tuple_mover::parcel_of;
 
-/// Who does the work of statements, one row after the other, over the rows that were started with. It keeps nothing.
+/// Who does the work of statements, one row after the other, over what was pinned. It keeps nothing.
 #[derive(Clone, Copy, Debug)]
 pub struct Clerk;
 
-/// The reply of a value refusal.
-fn valued(number: u32, row: u64, column: u32) -> Outcome
-    ensures { result ≡ Outcome.Answer (Reply.Refused (Refusal.Valued number row column)) }
+/// What is pinned for a statement of the table.
+fn pinned_of(started: &Started) -> &Pinned
+    requires { IsSome started.now.pinned }
+    ensures { started.now.pinned ≡ Some result.now }
 {
-    Outcome::Answer(Reply::Refused(Refusal::Valued {
-        number,
-        row,
-        column,
-    }))
+    match &started.pinned {
+        Some(pinned) => pinned,
+        None => unreachable!(),
+    }
 }
 
-/// The outcome of a write: what it writes, or its first value refusal.
-fn written(edits: Result<Items<Edit>, WriteRefusal>) -> Outcome
-    ensures { (schema : Schema) (b : Bound) (table : Table) → is_write b ≡ true → GivesRows (writes schema table b) edits → IfOk edits (λ list. All (IsFit schema) list) → GivesOn schema b false table result }
+/// The outcome of an INSERT.
+fn insert(alloc: Global, started: &Started, plan: &InsertPlan) -> Outcome
+    requires terms { AreTerms started.now.terms.value }
+    requires begun { (begun : Begun) × IsBegun begun started.now (bound.Insert plan.now) }
+    ensures { (begun : Begun) → IsBegun begun started.now (bound.Insert plan.now) → GivesOn (sizes_of started.now.terms.value) begun result }
 {
-    match edits {
-        Ok(edits) => Outcome::Writes(edits),
-        Err(
-            WriteRefusal::Value {
-                number,
-                row,
-                column,
-            },
-        ) => valued(number, row, column),
-        Err(WriteRefusal::Memory) => Outcome::Short,
+    let terms = &*started.terms;
+    match inserted(alloc, &terms.schema, plan, pinned_of(started)) {
+        Ok(rows) => written(alloc, terms, started.implicit, rows),
+        Err(refusal) => refused(refusal),
+    }
+}
+
+/// The outcome of an UPDATE.
+fn update(alloc: Global, started: &Started, plan: &UpdatePlan) -> Outcome
+    requires terms { AreTerms started.now.terms.value }
+    requires begun { (begun : Begun) × IsBegun begun started.now (bound.Update plan.now) }
+    ensures { (begun : Begun) → IsBegun begun started.now (bound.Update plan.now) → GivesOn (sizes_of started.now.terms.value) begun result }
+{
+    let terms = &*started.terms;
+    match updated(alloc, &terms.schema, plan, pinned_of(started)) {
+        Ok(writes) => changed(alloc, terms, started.implicit, writes),
+        Err(refusal) => refused(refusal),
     }
 }
 
 /// The outcome of a DELETE.
-fn delete(alloc: Global, schema: &Schema, condition: &Option<Pred>, rows: &Rows) -> Outcome
-    requires { IsFitTable schema.now rows.now.entries }
-    ensures { GivesOn schema.now (bound.Delete condition.now) false rows.now.entries result }
+fn delete(alloc: Global, started: &Started, condition: &Option<Pred>) -> Outcome
+    requires terms { AreTerms started.now.terms.value }
+    requires begun { (begun : Begun) × IsBegun begun started.now (bound.Delete condition.now) }
+    ensures { (begun : Begun) → IsBegun begun started.now (bound.Delete condition.now) → GivesOn (sizes_of started.now.terms.value) begun result }
 {
-    match deleted(alloc, schema, condition, rows) {
-        Ok(edits) => Outcome::Writes(edits),
+    let terms = &*started.terms;
+    match deleted(alloc, &terms.schema, condition, pinned_of(started)) {
+        Ok(writes) => changed(alloc, terms, started.implicit, writes),
         Err(Memory) => Outcome::Short,
     }
 }
 
 /// The outcome of a SELECT: its answer, or the first row and item whose whole count or sum is out of its range.
-fn select(alloc: Global, schema: &Schema, query: &Query, rows: &Rows) -> Outcome
-    requires { IsFitTable schema.now rows.now.entries }
-    ensures { GivesOn schema.now (bound.Select query.now) false rows.now.entries result }
+fn select(alloc: Global, started: &Started, query: &Query) -> Outcome
+    requires terms { AreTerms started.now.terms.value }
+    requires begun { (begun : Begun) × IsBegun begun started.now (bound.Select query.now) }
+    ensures { (begun : Begun) → IsBegun begun started.now (bound.Select query.now) → GivesOn (sizes_of started.now.terms.value) begun result }
 {
-    match answer(alloc, schema, query, rows) {
+    match answer(alloc, &started.terms.schema, query, pinned_of(started)) {
         Ok(found) => Outcome::Answer(Reply::Rows {
             rows: found,
             segments: None,
@@ -82,18 +85,37 @@ fn select(alloc: Global, schema: &Schema, query: &Query, rows: &Rows) -> Outcome
     }
 }
 
+/// The outcome of a COMMIT: the own writes as their commit takes them.
+fn commit(alloc: Global, started: &Started) -> Outcome
+    requires terms { AreTerms started.now.terms.value }
+    requires begun { (begun : Begun) × IsBegun begun started.now (bound.Commit) }
+    ensures { (begun : Begun) → IsBegun begun started.now (bound.Commit) → GivesOn (sizes_of started.now.terms.value) begun result }
+{
+    let terms = &*started.terms;
+    let own = started.own.as_slice();
+    match parcel_of(alloc, &terms.schema, own, terms.group_rows, terms.direct_rows) {
+        Ok(parcel) => Outcome::Commit(parcel),
+        Err(Memory) => Outcome::Short,
+    }
+}
+
 impl Desk for Clerk {
-    fn work(&self, alloc: Global, schema: &Schema, started: &Started) -> Outcome {
+    fn work(&self, alloc: Global, started: &Started) -> Outcome {
         if started.short {
             return Outcome::Short;
         }
         match &*started.bound {
-            Bound::Insert(plan) => written(inserted(alloc, schema, plan.get())),
-            Bound::Update(plan) => written(updated(alloc, schema, plan.get(), &started.rows)),
-            Bound::Delete(condition) => delete(alloc, schema, condition.get(), &started.rows),
-            Bound::Select(query) => select(alloc, schema, query.get(), &started.rows),
-            Bound::Begin | Bound::Commit | Bound::Rollback | Bound::Nothing | Bound::Refused(_) =>
-                Outcome::Nothing,
+            Bound::Commit => commit(alloc, started),
+            Bound::Insert(plan) => insert(alloc, started, plan.get()),
+            Bound::Update(plan) => update(alloc, started, plan.get()),
+            Bound::Delete(condition) => delete(alloc, started, condition.get()),
+            Bound::Select(query) => select(alloc, started, query.get()),
+            Bound::Begin
+            | Bound::Rollback
+            | Bound::Nothing
+            | Bound::GroupReport
+            | Bound::SegmentReport
+            | Bound::Refused(_) => Outcome::Nothing,
         }
     }
 }

@@ -1,17 +1,11 @@
-//! The work of statements: what an INSERT, an UPDATE or a DELETE writes, or its first value refusal, and the answer of a
-//! SELECT.
+//! Who does the work of statements.
 //!
-//! Its one contract: `Clerk` is a `Desk`, so each outcome is what the definitions of `cs_model` give of the statement over
-//! the rows that it reads, or want of memory. It stands on `statement_core` for what was started, on `cs_predicate` for
-//! expressions, and on `batch_aggregate` for answers and conditions.
+//! Its one contract: `Clerk` is a `Desk`, so each outcome is what the definitions give of the statement on what was begun, or want
+//! of memory. It stands on `statement_core` for what was started, on `row_work` for reading and writing rows, and on `tuple_mover`
+//! for the parcel of a commit.
 #![tactic(auto)]
 
 mod clerk;
-mod delete;
-mod insert;
-mod refusal;
-mod select;
-mod update;
-mod write;
+mod writes;
 
 pub use clerk::Clerk;

@@ -1,8 +1,15 @@
+use Rattle.std.proofs.Common.{◌≡◌, refl, ◌∙◌, Some, rules}
+use Rattle.txn_table.specs.Txns.{txn_of, depth_of}
 use Rattle.statement_core.specs.CoreState.{state_of}
-use Rattle.statement_core.proofs.Settled.{memory_replies}
+use Rattle.statement_core.proofs.States.{implicit_ends}
 use Rattle.statement_core.proofs.finish.answered.Goals as goal
 
-pub returns-in-Err-clause-replies : goal.returns-in-Err-clause-replies
-returns-in-Err-clause-replies c =
-    memory_replies (state_of c.args.held.now) (state_of c.settle_txn.new.held) (state_of c.refuse-in-Err.new.held) c.args.session c.args.reply c.refuse-in-Err.result
-    c.refuse-in-Err.ensures.reply c.refuse-in-Err.ensures.state c.in-Err.ensures.err
+pub returns-then-eq : goal.returns-then-eq
+returns-then-eq c =
+    let own = txn_of c.args.held.now.directory.txns c.args.session in
+    let flat : depth_of own ≡ Some 0 = search rules in
+    record {
+      reply = refl;
+      state = λ changes. c.roll_back.ensures.state changes ∙ implicit_ends (state_of changes c.args.held.now) c.args.session own c.args.reply refl flat c.requires.bare c.in_default.not-Refused;
+      still = c.roll_back.ensures.still;
+    }

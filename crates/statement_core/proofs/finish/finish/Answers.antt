@@ -1,46 +1,53 @@
-use Rattle.std.proofs.Common.{sym, subst, rules, ◌≡◌, Some, None}
+use Rattle.std.proofs.Common.{◌≡◌, sym, ap, subst, ◌∙◌, rules, Some, false}
+use Rattle.cs_types.specs.Schemas.{IsSchema}
+use Rattle.cs_model.specs.declared.entry.Bound.TheVariants.{SegmentReport}
+use Rattle.cs_model.specs.Held.{AreFit}
+use Rattle.cs_model.specs.Text.{IsPrintableReply}
+use Rattle.group_directory.specs.declared.directory.Directory.{Directory}
+use Rattle.group_directory.specs.Stands.{Stands}
 use Rattle.cs_model.specs.State.{Half}
-use Rattle.cs_model.specs.Ready.{IsReady}
-use Rattle.statement_core.specs.Fit.{IsFitState, IsReadyHalf}
-use Rattle.statement_core.specs.CoreState.{state_of}
-use Rattle.statement_core.specs.Settled.{Settles, GivesIn, Suits}
-use Rattle.statement_core.proofs.Settled.{finish_steps, gives_half, suits}
-use Rattle.statement_core.proofs.Fitting.{fit_half}
+use Rattle.statement_core.specs.Settled.{Ends, IsDoneAt}
+use Rattle.statement_core.proofs.Ending.{finishes}
+use Rattle.statement_core.proofs.Finishing.{some_half, done_of}
+use Rattle.statement_core.proofs.Stills.{still_same}
 use Rattle.statement_core.proofs.finish.finish.Goals as goal
 
-pub returns-clause-step : goal.returns-clause-step
-returns-clause-step c = λ begin done.
-    let schema = begin.schema in
-    let m = state_of c.args.held.now in
-    let mid = state_of c.set_half.new.held in
+pub settle-requires-clause-done : goal.settle-requires-clause-done
+settle-requires-clause-done c =
+    let old = c.args.held.now in
+    let mid = c.set_half.new.held in
     let half : Half = record { bound = c.in-Some.half.bound.value; short = c.in-Some.half.short } in
-    let is : m.half c.args.session ≡ Some half = sym c.in-Some.ensures.was in
-    let same : c.deref.result.now ≡ half.bound = search rules in
-    let gives = gives_half schema m mid c.args.session half c.args.outcome is c.in-Some.ensures.state done in
-    finish_steps schema m mid (state_of c.settle.new.held) c.args.session half c.settle.result is c.in-Some.ensures.state
-    (subst (λ b. Settles schema mid c.args.session b half.short c.settle.result (state_of c.settle.new.held)) same
-    (c.settle.ensures.settles schema half.short (subst (λ b. GivesIn schema mid c.args.session b half.short c.args.outcome) (sym same) gives)))
+    let begin = c.requires.done.0 in
+    let changes = c.requires.done.1 in
+    let same : c.deref.result.now ≡ half.bound = search rules in (
+      begin,
+      changes,
+      half.short,
+      subst (λ b. IsDoneAt begin changes mid c.args.session b half.short c.args.outcome) (sym same)
+          (done_of begin changes old mid c.args.session half c.args.outcome (sym c.in-Some.ensures.was) c.in-Some.ensures.rest c.requires.done.2),
+    )
 
-pub returns-clause-fits : goal.returns-clause-fits
-returns-clause-fits c = λ schema done fit.
-    let m = state_of c.args.held.now in
-    let mid = state_of c.set_half.new.held in
-    let half : Half = record { bound = c.in-Some.half.bound.value; short = c.in-Some.half.short } in
-    let is : m.half c.args.session ≡ Some half = sym c.in-Some.ensures.was in
-    let same : c.deref.result.now ≡ half.bound = search rules in
-    let gives = gives_half schema m mid c.args.session half c.args.outcome is c.in-Some.ensures.state done in
-    c.settle.ensures.fits schema half.short (subst (λ b. GivesIn schema mid c.args.session b half.short c.args.outcome) (sym same) gives)
-    (subst (IsFitState schema) (sym c.in-Some.ensures.state) (fit_half schema m c.args.session None fit tt))
-    (subst (IsReady schema) (sym same) (subst (IsReadyHalf schema) is (fit.halves c.args.session)))
-
-pub settle-requires-clause-suits : goal.settle-requires-clause-suits
-settle-requires-clause-suits c =
-    let m = state_of c.args.held.now in
-    let mid = state_of c.set_half.new.held in
+pub returns-clause-finished : goal.returns-clause-finished
+returns-clause-finished c = λ begin changes d.
+    let old = c.args.held.now in
+    let mid = c.set_half.new.held in
     let half : Half = record { bound = c.in-Some.half.bound.value; short = c.in-Some.half.short } in
     let same : c.deref.result.now ≡ half.bound = search rules in
-    let gives = gives_half c.requires.done.0 m mid c.args.session half c.args.outcome (sym c.in-Some.ensures.was) c.in-Some.ensures.state c.requires.done.1 in
-    subst (λ b. Suits mid c.args.session b c.args.outcome) (sym same) (suits c.requires.done.0 mid c.args.session half.bound half.short c.args.outcome gives)
+    let still = still_same old mid c.in-Some.ensures.rest in
+    let done = done_of begin changes old mid c.args.session half c.args.outcome (sym c.in-Some.ensures.was) c.in-Some.ensures.rest d in
+    finishes begin changes old mid c.settle.new.held c.args.session half c.settle.result (sym c.in-Some.ensures.was) still.same (c.in-Some.ensures.state changes)
+    (subst (λ b. Ends begin.schema changes mid c.args.session b half.short c.settle.result c.settle.new.held) same
+    (c.settle.ensures.ends begin changes half.short (subst (λ b. IsDoneAt begin changes mid c.args.session b half.short c.args.outcome) (sym same) done)))
 
-pub returns-clause-replaced : goal.returns-clause-replaced
-returns-clause-replaced c = λ h. c.settle.ensures.replaced (c.in-Some.ensures.replaced h)
+pub returns-clause-printable : goal.returns-clause-printable
+returns-clause-printable c = λ changes j fit is.
+    let half : Half = record { bound = c.in-Some.half.bound.value; short = c.in-Some.half.short } in
+    let same : c.deref.result.now ≡ half.bound = search rules in
+    let both : Some half ≡ Some (record { bound = SegmentReport; short = false }) = c.in-Some.ensures.was ∙ is in
+    let report : half.bound ≡ SegmentReport = ap (λ (h : Half). h.bound) (some_half half (record { bound = SegmentReport; short = false }) both) in
+    let rest = sym c.in-Some.ensures.rest in
+    subst (λ (d : Directory). IsPrintableReply d.schema.value c.settle.result) c.in-Some.ensures.rest
+    (c.settle.ensures.printable changes (subst (λ (d : Directory). Stands d changes) rest j) (subst (λ (d : Directory). AreFit d.schema.value changes) rest fit) (same ∙ report))
+
+pub settle-requires-clause-table : goal.settle-requires-clause-table
+settle-requires-clause-table c = subst (λ (d : Directory). IsSchema d.schema.value) (sym c.in-Some.ensures.rest) c.requires.table

@@ -1,17 +1,39 @@
-use Rattle.std.proofs.Common.{sym, subst}
-use Rattle.std.specs.Prelude.{false}
+use Rattle.std.proofs.Common.{sym, ap, subst, ◌∙◌}
+use Rattle.cs_model.specs.Kinds.{kind_of}
 use Rattle.statement_core.specs.CoreState.{state_of}
 use Rattle.statement_core.specs.Settled.{Settles}
 use Rattle.statement_core.proofs.finish.plain.Goals as goal
 
 pub returns-in-Begin-clause-settles : goal.returns-in-Begin-clause-settles
-returns-in-Begin-clause-settles c = λ schema.
-    subst (λ b. Settles schema (state_of c.args.held.now) c.args.session b false c.begin.result (state_of c.begin.new.held)) (sym c.in-Begin.is) (c.begin.ensures.settles schema)
-
-pub returns-in-Commit-clause-settles : goal.returns-in-Commit-clause-settles
-returns-in-Commit-clause-settles c = λ schema.
-    subst (λ b. Settles schema (state_of c.args.held.now) c.args.session b false c.commit.result (state_of c.commit.new.held)) (sym c.in-Commit.is) (c.commit.ensures.settles schema)
+returns-in-Begin-clause-settles c = λ schema changes.
+    subst (λ b. Settles schema (state_of changes c.args.held.now) c.args.session b c.begin.result (state_of changes c.begin.new.held)) (sym c.in-Begin.is) (c.begin.ensures.settles schema changes)
 
 pub returns-in-Rollback-clause-settles : goal.returns-in-Rollback-clause-settles
-returns-in-Rollback-clause-settles c = λ schema.
-    subst (λ b. Settles schema (state_of c.args.held.now) c.args.session b false c.rollback.result (state_of c.rollback.new.held)) (sym c.in-Rollback.is) (c.rollback.ensures.settles schema)
+returns-in-Rollback-clause-settles c = λ schema changes.
+    subst (λ b. Settles schema (state_of changes c.args.held.now) c.args.session b c.rollback.result (state_of changes c.rollback.new.held)) (sym c.in-Rollback.is) (c.rollback.ensures.settles schema changes)
+
+pub returns-in-GroupReport-clause-settles : goal.returns-in-GroupReport-clause-settles
+returns-in-GroupReport-clause-settles c = λ schema changes.
+    subst (λ b. Settles schema (state_of changes c.args.held.now) c.args.session b c.group_report.result (state_of changes c.group_report.new.held)) (sym c.in-GroupReport.is) (c.group_report.ensures.settles schema changes)
+
+pub returns-in-SegmentReport-clause-settles : goal.returns-in-SegmentReport-clause-settles
+returns-in-SegmentReport-clause-settles c = λ schema changes.
+    subst (λ b. Settles schema (state_of changes c.args.held.now) c.args.session b c.segment_report.result (state_of changes c.segment_report.new.held)) (sym c.in-SegmentReport.is) (c.segment_report.ensures.settles schema changes)
+
+pub returns-in-Begin-clause-shows : goal.returns-in-Begin-clause-shows
+returns-in-Begin-clause-shows c = λ changes j k. absurd (cc (sym (ap kind_of c.in-Begin.is) ∙ k))
+
+pub returns-in-Rollback-clause-shows : goal.returns-in-Rollback-clause-shows
+returns-in-Rollback-clause-shows c = λ changes j k. absurd (cc (sym (ap kind_of c.in-Rollback.is) ∙ k))
+
+pub returns-in-Nothing-clause-shows : goal.returns-in-Nothing-clause-shows
+returns-in-Nothing-clause-shows c = λ changes j k. absurd (cc (sym (ap kind_of c.in-Nothing.is) ∙ k))
+
+pub returns-in-GroupReport-clause-shows : goal.returns-in-GroupReport-clause-shows
+returns-in-GroupReport-clause-shows c = λ changes j k. let held = c.args.held.now in c.group_report.ensures.shows held.directory.schema.value changes
+
+pub returns-in-SegmentReport-clause-shows : goal.returns-in-SegmentReport-clause-shows
+returns-in-SegmentReport-clause-shows c = λ changes j k. c.segment_report.ensures.shows changes j
+
+pub returns-in-SegmentReport-clause-printable : goal.returns-in-SegmentReport-clause-printable
+returns-in-SegmentReport-clause-printable c = λ changes j fit k. c.segment_report.ensures.printable changes j fit

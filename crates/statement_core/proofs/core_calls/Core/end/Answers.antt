@@ -1,18 +1,22 @@
 use Rattle.std.proofs.Common.{arith, subst, sym}
 use Rattle.cs_model.specs.declared.entry.Entry.TheVariants.{End}
+use Rattle.cs_model.specs.State.{begin_of}
+use Rattle.log_laws.proofs.Beginnings.{may_begin}
 use Rattle.log_laws.proofs.Entries.{rests_is}
 use Rattle.log_laws.proofs.Room.{room_end}
-use Rattle.cs_model.specs.State.{begin_of}
 use Rattle.statement_core.specs.CoreState.{state_of}
 use Rattle.statement_core.specs.Fit.{IsFitState}
 use Rattle.statement_core.proofs.Fitting.{fit_gone}
-use Rattle.statement_core.proofs.Keeping.{core_push}
+use Rattle.statement_core.proofs.Keeping.{core_legal, core_push}
 use Rattle.statement_core.proofs.core_calls.Core.end.Goals as goal
 
 pub end-requires-clause-rests : goal.end-requires-clause-rests
 end-requires-clause-rests c =
+    let inside = c.self.inside in
+    let i = c.self.invariant in
+    let made = inside.terms.value in
     let rests = rw (← c.self.view_is) at c.requires.rests in
-    rests_is (begin_of c.self.inside.schema) c.self.inside.log.items (state_of c.self.inside.held) c.args.session c.self.invariant.may c.self.invariant.legal rests
+    rests_is (begin_of made.schema.value) inside.log.items (state_of i.changes inside.held) c.args.session (may_begin made.schema.value) (core_legal made inside.held inside.log.items _ inside.sessions.items i) rests
 
 pub push_reserved-requires : goal.push_reserved-requires
 push_reserved-requires c =
@@ -25,15 +29,20 @@ push_reserved-requires c =
 
 pub invariant_of-self : goal.invariant_of-self
 invariant_of-self c =
+    let inside = c.self.inside in
+    let i = c.self.invariant in
+    let made = inside.terms.value in
+    let schema = made.schema.value in
     let known = rw (← c.self.view_is) at c.requires.known in
     let rests = rw (← c.self.view_is) at c.requires.rests in
     let going = rw (← c.self.view_is) at c.requires.going in
-    let schema = c.self.inside.schema in
-    let less = room_end c.self.inside.sessions.items c.self.inside.log.items c.args.session c.self.invariant.distinct known rests going in
-    let room = c.self.invariant.room in
+    let less = room_end inside.sessions.items inside.log.items c.args.session i.distinct known rests going in
+    let room = i.room in
     let cap = c.push_reserved.ensures.capacity in
-    let step = c.end.ensures.step (begin_of schema) in
+    let step = c.end.ensures.step (begin_of schema) i.changes in
+    let still = c.end.ensures.still in
+    let same = still.same in
     rw c.push_reserved.ensures.items
-    (core_push (begin_of schema) c.self.inside.held c.end.new.held c.self.inside.log.items _ _ c.self.inside.sessions.items (End c.args.session) c.self.invariant step (c.end.ensures.replaced c.self.invariant.replaced)
-    (subst (IsFitState schema) (sym step.1) (fit_gone schema (state_of c.self.inside.held) c.args.session c.self.invariant.fit)) tt
+    (core_push made inside.held c.end.new.held inside.log.items _ _ inside.sessions.items (End c.args.session) i i.changes (still.stands i.changes i.stands) same.sizes same.schema step same.groups
+    (subst (IsFitState schema) (sym step.1) (fit_gone schema (state_of i.changes inside.held) c.args.session i.fit)) tt
     (omega (arith, less, room, cap)))

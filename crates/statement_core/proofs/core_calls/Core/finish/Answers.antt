@@ -1,40 +1,92 @@
-use Rattle.std.proofs.Common.{arith}
+use Rattle.std.proofs.Common.{◌≡◌, arith, sym, subst, ◌∙◌, ap, false, Some}
+use Rattle.cs_types.specs.declared.Schema.{Schema}
+use Rattle.cs_types.specs.Schemas.{IsSchema}
+use Rattle.cs_model.specs.declared.entry.Bound.TheVariants.{SegmentReport}
+use Rattle.cs_model.specs.Held.{AreFit}
+use Rattle.cs_model.specs.Kinds.{is_of_table}
+use Rattle.cs_model.specs.Text.{IsPrintableReply}
 use Rattle.cs_model.specs.declared.entry.Entry.TheVariants.{Finish}
+use Rattle.cs_model.specs.State.{begin_of, Half}
+use Rattle.cs_model.specs.Steps.{IsFinish}
+use Rattle.log_laws.proofs.Beginnings.{may_begin}
 use Rattle.log_laws.proofs.Room.{room_finish}
 use Rattle.log_laws.proofs.StartedOn.{shows_begun}
-use Rattle.cs_model.specs.State.{begin_of}
-use Rattle.statement_core.specs.CoreState.{state_of}
-use Rattle.statement_core.proofs.Keeping.{within, done_at, core_push}
+use Rattle.group_book.specs.Book.{empty}
+use Rattle.group_book.specs.Commits.{Sizes}
+use Rattle.group_log.specs.Followed.{Finishes}
+use Rattle.statement_core.specs.CoreState.{state_of, groups_of}
+use Rattle.statement_core.specs.Fit.{IsReadyHalf}
+use Rattle.statement_core.proofs.Finishing.{never_short, done_of}
+use Rattle.statement_core.proofs.Fits.{fits_after, prints_after}
+use Rattle.statement_core.proofs.Reports.{changes_fit}
+use Rattle.statement_core.proofs.Keeping.{core_legal, within, ready_at, core_push}
 use Rattle.statement_core.proofs.core_calls.Core.finish.Goals as goal
+
+report_half : (half : Half) → half.bound ≡ SegmentReport → half.short ≡ false → half ≡ record { bound = SegmentReport; short = false }
+report_half half a b = λ k. record { bound = a k; short = b k }
 
 pub finish-reply-requires-clause-within : goal.finish-reply-requires-clause-within
 finish-reply-requires-clause-within c =
-    within c.self.inside.schema c.self.inside.held c.self.inside.log.items _ c.self.inside.sessions.items c.args.session c.self.invariant c.self.inside.log.small (rw (← c.self.view_is) at c.requires.known)
+    let inside = c.self.inside in
+    within inside.terms.value inside.held inside.log.items _ inside.sessions.items c.self.invariant c.args.session inside.log.small (rw (← c.self.view_is) at c.requires.known)
 
 pub finish-reply-requires-clause-done : goal.finish-reply-requires-clause-done
 finish-reply-requires-clause-done c =
-    (c.self.inside.schema, done_at (begin_of c.self.inside.schema) c.self.inside.log.items (state_of c.self.inside.held) c.args.session c.args.outcome c.self.invariant.legal (rw (← c.self.view_is) at c.requires.outcome))
+    let inside = c.self.inside in
+    let i = c.self.invariant in
+    let made = inside.terms.value in
+    let done = rw (← c.self.view_is) at c.requires.outcome in
+    (begin_of made.schema.value, i.changes, ready_at made inside.held inside.log.items _ inside.sessions.items i c.args.session c.args.outcome done)
+
+pub finish-reply-requires-clause-table : goal.finish-reply-requires-clause-table
+finish-reply-requires-clause-table c = let i = c.self.invariant in subst IsSchema (sym i.schema) i.table
 
 pub push_reserved-requires : goal.push_reserved-requires
 push_reserved-requires c =
+    let inside = c.self.inside in
+    let i = c.self.invariant in
+    let made = inside.terms.value in
     let known = rw (← c.self.view_is) at c.requires.known in
-    let done = done_at (begin_of c.self.inside.schema) c.self.inside.log.items (state_of c.self.inside.held) c.args.session c.args.outcome c.self.invariant.legal (rw (← c.self.view_is) at c.requires.outcome) in
-    let begun = shows_begun (begin_of c.self.inside.schema) c.self.inside.log.items (state_of c.self.inside.held) c.args.session done.bound done.short done.rows c.self.invariant.may c.self.invariant.legal done.shows in
-    let less = room_finish c.self.inside.sessions.items c.self.inside.log.items c.args.session c.finish-reply.result c.self.invariant.distinct known begun in
-    let room = c.self.invariant.room in
-    omega (arith, less, room, c.self.inside.log.ok.0)
+    let done = rw (← c.self.view_is) at c.requires.outcome in
+    let legal = core_legal made inside.held inside.log.items _ inside.sessions.items i in
+    let begun = shows_begun (begin_of made.schema.value) inside.log.items (state_of i.changes inside.held) c.args.session done.begun (may_begin made.schema.value) legal (done.started (state_of i.changes inside.held) legal) in
+    let less = room_finish inside.sessions.items inside.log.items c.args.session c.finish-reply.result i.distinct known begun in
+    let room = i.room in
+    omega (arith, less, room, inside.log.ok.0)
 
 pub invariant_of-self : goal.invariant_of-self
 invariant_of-self c =
-    let schema = c.self.inside.schema in
+    let inside = c.self.inside in
+    let i = c.self.invariant in
+    let made = inside.terms.value in
+    let schema = made.schema.value in
+    let old = inside.held in
+    let new = c.finish-reply.new.held in
+    let s = c.args.session in
+    let r = c.finish-reply.result in
     let known = rw (← c.self.view_is) at c.requires.known in
-    let done = done_at (begin_of schema) c.self.inside.log.items (state_of c.self.inside.held) c.args.session c.args.outcome c.self.invariant.legal (rw (← c.self.view_is) at c.requires.outcome) in
-    let begun = shows_begun (begin_of schema) c.self.inside.log.items (state_of c.self.inside.held) c.args.session done.bound done.short done.rows c.self.invariant.may c.self.invariant.legal done.shows in
-    let less = room_finish c.self.inside.sessions.items c.self.inside.log.items c.args.session c.finish-reply.result c.self.invariant.distinct known begun in
-    let room = c.self.invariant.room in
+    let done = rw (← c.self.view_is) at c.requires.outcome in
+    let legal = core_legal made old inside.log.items _ inside.sessions.items i in
+    let shows = done.started (state_of i.changes old) legal in
+    let begun = shows_begun (begin_of schema) inside.log.items (state_of i.changes old) s done.begun (may_begin schema) legal shows in
+    let less = room_finish inside.sessions.items inside.log.items s r i.distinct known begun in
+    let room = i.room in
     let cap = c.push_reserved.ensures.capacity in
-    let fits = c.finish-reply.ensures.fits schema done c.self.invariant.fit in
+    let ready = ready_at made old inside.log.items _ inside.sessions.items i s c.args.outcome done in
+    let f = c.finish-reply.ensures.finished (begin_of schema) i.changes ready in
+    let half : Half = record { bound = done.begun.bound; short = done.begun.short } in
+    let at = done_of (begin_of schema) i.changes old old s half c.args.outcome shows.half (λ k. old.directory) ready in
+    let x = subst (λ h. IsFinish schema (state_of i.changes old) s h r (state_of f.later new)) shows.half f.step in
+    let fit = i.fit in
+    let bound_ready = subst (IsReadyHalf schema) shows.half (fit.halves s) in
+    let moves = subst (λ (sizes : Sizes). Finishes (record { begin = begin_of schema; sizes = sizes; book = empty }) (state_of i.changes old) (groups_of old) s r (state_of f.later new) (groups_of new)) i.sizes (f.moves empty) in
+    let segments = λ (e : done.begun.bound ≡ SegmentReport).
+    let found : done.begun.short ≡ false = never_short done.begun.bound done.begun.short bound_ready.1 (ap is_of_table e) in
+    let report : Some half ≡ Some (record { bound = SegmentReport; short = false }) = (λ k. Some (report_half half e found k)) in
+    subst (λ (x : Schema). IsPrintableReply x r) i.schema
+    (c.finish-reply.ensures.printable i.changes i.stands (subst (λ (x : Schema). AreFit x i.changes) (sym i.schema) (changes_fit schema i.changes fit.changes)) (shows.half ∙ report)) in
     rw c.push_reserved.ensures.items
-    (core_push (begin_of schema) c.self.inside.held c.finish-reply.new.held c.self.inside.log.items _ _ c.self.inside.sessions.items (Finish c.args.session c.finish-reply.result) c.self.invariant
-    (c.finish-reply.ensures.step (begin_of schema) done) (c.finish-reply.ensures.replaced c.self.invariant.replaced) fits.0 fits.1
+    (core_push made old new inside.log.items _ _ inside.sessions.items (Finish s r) i f.later f.stands f.sizes f.schema f.step moves
+    (fits_after (begin_of schema) i.changes old s half r shows.half c.args.outcome at c.finish-reply.ensures.short c.finish-reply.ensures.given (state_of f.later new) x fit)
+    (prints_after (begin_of schema) i.changes old s half r shows.half c.args.outcome at c.finish-reply.ensures.short c.finish-reply.ensures.given (state_of f.later new) x bound_ready.0 segments)
     (omega (arith, less, room, cap)))

@@ -1,9 +1,20 @@
 use Rattle.std.proofs.Common.{subst}
 use Rattle.cs_model.specs.State.{begin_of}
 use Rattle.cs_model.specs.Steps.{Legal}
+use Rattle.group_log.specs.Followed.{ground_of, Followed}
 use Rattle.statement_core.specs.CoreValue.{CoreValue}
-use Rattle.statement_core.specs.CoreState.{state_of}
+use Rattle.statement_core.specs.CoreState.{state_of, groups_of}
+use Rattle.statement_core.proofs.Keeping.{core_legal}
 use Rattle.statement_core.proofs.core_calls.Core.log.Goals as goal
 
 pub returns-clause-legal : goal.returns-clause-legal
-returns-clause-legal c = (state_of c.self.inside.held, subst (λ (v : CoreValue). Legal (begin_of v.schema) v.log (state_of c.self.inside.held)) c.self.view_is c.self.invariant.legal)
+returns-clause-legal c =
+    let inside = c.self.inside in
+    let i = c.self.invariant in
+    (state_of i.changes inside.held, subst (λ (v : CoreValue). Legal (begin_of v.schema) v.log (state_of i.changes inside.held)) c.self.view_is (core_legal inside.terms.value inside.held inside.log.items _ inside.sessions.items i))
+
+pub returns-clause-followed : goal.returns-clause-followed
+returns-clause-followed c =
+    let inside = c.self.inside in
+    let i = c.self.invariant in
+    (state_of i.changes inside.held, groups_of inside.held, subst (λ (v : CoreValue). Followed (ground_of v.schema v.sizes) v.log (state_of i.changes inside.held) (groups_of inside.held)) c.self.view_is i.followed)

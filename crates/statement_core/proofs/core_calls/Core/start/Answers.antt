@@ -1,69 +1,98 @@
-use Rattle.std.proofs.Common.{◌∙◌, ◌++◌, ◌∷◌, [], ap, arith, refl, sym, subst}
+use Rattle.std.proofs.Common.{◌≡◌, ◌∙◌, ◌++◌, ◌∷◌, [], ap, arith, sym, subst, Bool}
 use Rattle.cs_model.specs.declared.entry.Entry.TheVariants.{Start}
-use Rattle.log_laws.specs.Started.{Starts, IsStarted}
+use Rattle.cs_model.specs.Ready.{IsReady}
+use Rattle.cs_model.specs.State.{begin_of}
+use Rattle.cs_model.specs.Steps.{IsStep}
+use Rattle.log_laws.specs.Started.{IsStarted}
+use Rattle.log_laws.proofs.Beginnings.{may_begin}
 use Rattle.log_laws.proofs.Entries.{rests_is}
 use Rattle.log_laws.proofs.Room.{room_start, owed_at_most}
+use Rattle.log_laws.proofs.Sound.{sound_step}
 use Rattle.log_laws.proofs.StartedOn.{start_steps, start_shows}
-use Rattle.statement_core.specs.CoreValue.{CoreValue}
-use Rattle.cs_model.specs.State.{begin_of}
+use Rattle.statement_core.specs.declared.started.Terms.{Terms}
 use Rattle.statement_core.specs.CoreState.{state_of}
-use Rattle.cs_model.specs.Ready.{IsReady}
 use Rattle.statement_core.specs.Fit.{IsFitState}
-use Rattle.statement_core.proofs.Fitting.{started_fits, read_fits}
-use Rattle.statement_core.proofs.Keeping.{within, core_push}
+use Rattle.statement_core.proofs.Fitting.{started_fits}
+use Rattle.statement_core.proofs.Keeping.{core_legal, core_sound, within, core_push}
+use Rattle.statement_core.proofs.Working.{may_work}
 use Rattle.statement_core.proofs.core_calls.Core.start.Goals as goal
 
-pub start-rows-requires : goal.start-rows-requires
-start-rows-requires c =
-    within c.self.inside.schema c.self.inside.held c.self.inside.log.items _ c.self.inside.sessions.items c.args.session c.self.invariant c.self.inside.log.small (rw (← c.self.view_is) at c.requires.known)
+pub start-requires-clause-within : goal.start-requires-clause-within
+start-requires-clause-within c =
+    let inside = c.self.inside in
+    within inside.terms.value inside.held inside.log.items _ inside.sessions.items c.self.invariant c.args.session inside.log.small (rw (← c.self.view_is) at c.requires.known)
 
 pub invariant_of-self-2 : goal.invariant_of-self-2
 invariant_of-self-2 c =
-    let schema = c.self.inside.schema in
-    let m = state_of c.self.inside.held in
-    let after = state_of c.start-rows.new.held in
+    let inside = c.self.inside in
+    let i = c.self.invariant in
+    let made = inside.terms.value in
+    let schema = made.schema.value in
+    let old = inside.held in
+    let new = c.start.new.held in
+    let m = state_of i.changes old in
+    let after = state_of i.changes new in
     let s = c.args.session in
-    let short = c.start-rows.result.1 in
-    let rows = c.start-rows.result.0.entries in
     let shared = c.in_ok-in_log.in_log in
     let known = rw (← c.self.view_is) at c.requires.known in
     let rests = rw (← c.self.view_is) at c.requires.rests in
     let ready = rw (← c.self.view_is) at c.requires.ready in
-    let more = room_start c.self.inside.sessions.items c.self.inside.log.items s shared short c.self.invariant.distinct known rests in
-    let most = owed_at_most c.self.inside.sessions.items c.self.inside.log.items in
-    let few = c.self.invariant.few in
-    let half = rests_is (begin_of schema) c.self.inside.log.items m s c.self.invariant.may c.self.invariant.legal rests in
-    let starts : Starts m s shared.value short rows after = subst (λ b. Starts m s b short rows after) (c.in_ok-in_half.ensures ∙ sym c.in_ok-in_log.ensures) c.start-rows.ensures.starts in
-    let is_ready : IsReady schema shared.value = subst (IsReady schema) (sym (c.in_ok-in_log.ensures ∙ c.in-Ok.ensures.ok)) ready in
+    let taken = c.in_ok-taken.taken in
+    let t = c.in_ok-taken.ensures.ok (begin_of schema) i.changes i.stands i.schema in
+    let starts = t.starts in
+    let more = room_start inside.sessions.items inside.log.items s shared taken.short i.distinct known rests in
+    let most = owed_at_most inside.sessions.items inside.log.items in
+    let few = i.few in
+    let half = rests_is (begin_of schema) inside.log.items m s (may_begin schema) (core_legal made old inside.log.items _ inside.sessions.items i) rests in
+    let same : shared.value ≡ t.begun.bound = c.in_ok-in_log.ensures ∙ sym c.in_ok-in_half.ensures ∙ sym t.bound in
+    let step : IsStep (begin_of schema) m (Start s shared taken.short) after =
+    subst (λ (short : Bool). IsStep (begin_of schema) m (Start s shared short) after) (sym t.short) (start_steps (begin_of schema) m after s shared t.begun half same starts) in
+    let is_ready : IsReady schema t.begun.bound = subst (IsReady schema) (sym (c.in_ok-in_log.ensures ∙ c.in-Ok.ensures.ok) ∙ same) ready in
+    let still = c.start.ensures.still in
+    let kept = still.same in
     rw (c.push_reserved.ensures.items, c.in_ok-reserve.ensures.items)
-    (core_push (begin_of schema) c.self.inside.held c.start-rows.new.held c.self.inside.log.items _ _ c.self.inside.sessions.items (Start s shared short) c.self.invariant
-    (start_steps (begin_of schema) m after s shared short rows half starts) (c.start-rows.ensures.replaced c.self.invariant.replaced)
-    (subst (IsFitState schema) (sym starts.state) (started_fits schema m s shared.value short c.self.invariant.fit is_ready)) tt
-    (omega (arith, more, most, few, c.push_reserved.ensures.capacity, c.in_ok-reserve.ensures.ok, c.self.inside.log.ok.0)))
-
-pub returns-clause-log : goal.returns-clause-log
-returns-clause-log c = (
-  Start c.args.session c.in_ok-in_log.in_log c.start-rows.result.1,
-  c.push_reserved.ensures.items ∙ ap (λ items. items ++ Start c.args.session c.in_ok-in_log.in_log c.start-rows.result.1 ∷ []) (c.in_ok-reserve.ensures.items ∙ ap (λ (v : CoreValue). v.log) c.self.view_is),
-  (refl, c.in_ok-in_log.ensures ∙ c.in-Ok.ensures.ok, refl),
-)
+    (core_push made old new inside.log.items _ _ inside.sessions.items (Start s shared taken.short) i i.changes (still.stands i.changes i.stands) kept.sizes kept.schema step kept.groups
+    (subst (IsFitState schema) (sym starts.state) (started_fits schema m s t.begun.bound t.begun.short i.fit is_ready starts.why)) tt
+    (omega (arith, more, most, few, c.push_reserved.ensures.capacity, c.in_ok-reserve.ensures.ok, inside.log.ok.0)))
 
 pub returns-clause-started : goal.returns-clause-started
 returns-clause-started c =
-    let schema = c.self.inside.schema in
-    let m = state_of c.self.inside.held in
-    let after = state_of c.start-rows.new.held in
+    let inside = c.self.inside in
+    let i = c.self.invariant in
+    let made = inside.terms.value in
+    let schema = made.schema.value in
+    let old = inside.held in
+    let new = c.start.new.held in
+    let m = state_of i.changes old in
+    let after = state_of i.changes new in
     let s = c.args.session in
-    let short = c.start-rows.result.1 in
-    let rows = c.start-rows.result.0.entries in
     let shared = c.in_ok-in_log.in_log in
     let rests = rw (← c.self.view_is) at c.requires.rests in
-    let half = rests_is (begin_of schema) c.self.inside.log.items m s c.self.invariant.may c.self.invariant.legal rests in
-    let starts : Starts m s shared.value short rows after = subst (λ b. Starts m s b short rows after) (c.in_ok-in_half.ensures ∙ sym c.in_ok-in_log.ensures) c.start-rows.ensures.starts in
-    let shows = start_shows (begin_of schema) c.self.inside.log.items m after s shared short rows c.self.invariant.may.sound c.self.invariant.legal half starts in
-    let at_log : IsStarted (begin_of schema) c.push_reserved.new.self.items s shared.value short rows =
-    subst (λ l. IsStarted (begin_of schema) l s shared.value short rows) (sym (c.push_reserved.ensures.items ∙ ap (λ items. items ++ Start s shared short ∷ []) c.in_ok-reserve.ensures.items)) shows in
-    subst (λ b. IsStarted (begin_of schema) c.push_reserved.new.self.items s b short rows) c.in_ok-in_log.ensures at_log
-
-pub returns-clause-fit : goal.returns-clause-fit
-returns-clause-fit c = read_fits c.self.inside.schema (state_of c.self.inside.held) c.args.session c.start-rows.result.0.entries c.self.invariant.fit c.start-rows.ensures.read
+    let ready = rw (← c.self.view_is) at c.requires.ready in
+    let taken = c.in_ok-taken.taken in
+    let t = c.in_ok-taken.ensures.ok (begin_of schema) i.changes i.stands i.schema in
+    let starts = t.starts in
+    let shows = starts.shows in
+    let legal = core_legal made old inside.log.items _ inside.sessions.items i in
+    let half = rests_is (begin_of schema) inside.log.items m s (may_begin schema) legal rests in
+    let same : shared.value ≡ t.begun.bound = c.in_ok-in_log.ensures ∙ sym c.in_ok-in_half.ensures ∙ sym t.bound in
+    let step = start_steps (begin_of schema) m after s shared t.begun half same starts in
+    let is_ready : IsReady schema t.begun.bound = subst (IsReady schema) (sym (c.in_ok-in_log.ensures ∙ c.in-Ok.ensures.ok) ∙ same) ready in
+    let fit = subst (IsFitState schema) (sym starts.state) (started_fits schema m s t.begun.bound t.begun.short i.fit is_ready starts.why) in
+    let sound = sound_step (begin_of schema) m (Start s shared t.begun.short) after step (core_sound made old inside.log.items _ inside.sessions.items i) in
+    let shown = start_shows (begin_of schema) inside.log.items m after s shared t.begun legal half same starts in
+    let at_log : IsStarted (begin_of schema) c.push_reserved.new.self.items s t.begun =
+    subst (λ l. IsStarted (begin_of schema) l s t.begun)
+    (sym (c.push_reserved.ensures.items ∙ ap (λ (short : Bool). c.reserve.new.self.items ++ Start s shared short ∷ []) t.short ∙ ap (λ items. items ++ Start s shared t.begun.short ∷ []) c.in_ok-reserve.ensures.items)) shown in (
+      t.begun,
+      record {
+        bound = sym c.in_ok-in_half.ensures ∙ sym t.bound;
+        short = t.short;
+        implicit = t.implicit;
+        schema = ap (λ (x : Terms). x.schema.value) c.in_ok-terms.ensures ∙ sym shows.schema;
+        own = t.own;
+        pinned = t.pinned;
+      },
+      may_work schema i.changes after s t.begun shows.schema shows.own t.among i.table is_ready fit (sound.by_key s) (let all = i.fit in all.changes),
+      at_log,
+    )

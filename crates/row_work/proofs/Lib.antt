@@ -1,0 +1,12 @@
+pub mod Answered
+pub mod Cells
+pub mod Fits
+pub mod Fitting
+pub mod Found
+pub mod Judged
+pub mod Kept
+pub mod Ordered
+pub mod Overlaid
+pub mod Puts
+pub mod Scanned
+pub mod Written

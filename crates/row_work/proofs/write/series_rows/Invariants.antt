@@ -1,0 +1,13 @@
+use Rattle.std.proofs.Common.{◌≡◌, length, [], ◌∷◌}
+use Rattle.cs_types.specs.declared.Value.TheVariants.{Number}
+use Rattle.cs_model.specs.Series.{series_schema}
+use Rattle.cs_model.specs.Answers.{inserted_row, series}
+use Rattle.row_work.proofs.Written.{all_rows, rows_with}
+use Rattle.row_work.proofs.write.series_rows.Given as goal
+
+abbrev pub invariant-loop-i : goal.invariant-loop-i
+invariant-loop-i l = record {
+  gives : rows_with (λ number. inserted_row l.schema series_schema l.columns (Number number ∷ []) l.exprs) (series (l.start, l.stop)) l.written l.i
+      ≡ all_rows (λ number. inserted_row l.schema series_schema l.columns (Number number ∷ []) l.exprs) (series (l.start, l.stop));
+  count : length l.written ≡ l.i;
+}

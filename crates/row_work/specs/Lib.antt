@@ -1,0 +1,5 @@
+pub mod Gives
+pub mod Reads
+pub mod Sources
+pub mod Keyed
+pub mod Inserts

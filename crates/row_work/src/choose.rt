@@ -1,0 +1,195 @@
+// The rows that an UPDATE or a DELETE chooses.
+ghost use Rattle.std.specs.Prelude.{◌≡◌, ◌++◌, ◌∷◌, [], ◌<◌, ℕ, if◌then◌else◌, length, map, slice_get, All, IfOk, OnOk, IsPermutation, IsSome, Some};
+ghost use Rattle.std.specs.List.{filter_map};
+ghost use Rattle.std.specs.List.Sorted.{IsSortedByKey};
+ghost use Rattle.std.specs.Option.{option_and_then};
+ghost use Rattle.cs_types.specs.Keys.{key_cmp};
+ghost use Rattle.cs_model.specs.Answers as spec;
+ghost use Rattle.cs_model.specs.Queries.{keeps};
+ghost use Rattle.cs_model.specs.Obstacles.{has_row};
+ghost use Rattle.write_set.specs.Writes.{Ascend};
+ghost use Rattle.group_view.specs.Parts.{IsFitting};
+ghost use Rattle.group_view.specs.Views.{rowed_of};
+ghost use Rattle.row_work.specs.Reads.{own_row, read_by, read_row, row_in, rowed_at, shown_by, HasSnapshot, MayRead};
+ghost use Rattle.row_work.specs.Sources.{chosen_edit, rows_as_edits, row_of, IsShown};
+
+use crate::reading::{ReadRow, has_row_shown, read_at, row_at};
+use batch_aggregate::keeps;
+use cs_base::Memory;
+use cs_model::Pred;
+use cs_types::{Key, Row, Schema};
+use group_view::{Pinned, Place};
+use std::alloc::Global;
+use write_set::Own;
+
+/// Where a row that is read stands: at a place of the view, or in an own write, counted from 0.
+#[derive(Clone, Copy, Debug, PartialEq, Eq)]
+pub enum Source {
+    Shown(Place),
+    Own(usize),
+}
+
+/// A row that was chosen.
+#[derive(Clone, Copy, Debug, PartialEq, Eq)]
+pub struct Chosen {
+    pub key: Key,
+    pub source: Source,
+}
+
+/// Chooses a row that was read, where the condition keeps it.
+fn choose_read(
+    chosen: &mut Vec<Chosen>,
+    schema: &Schema,
+    condition: &Option<Pred>,
+    one: Chosen,
+    read: ReadRow<'_>,
+) -> Result<(), Memory>
+    ensures { OnOk result (chosen.new.items ≡ chosen.old.items ++ (if keeps schema.now condition.now (row_in read.entry) then one ∷ [] else [])) }
+{
+    if keeps(schema, condition, read.row()) {
+        chosen.push(one)?;
+    }
+    Ok(())
+}
+
+/// Chooses the rows of a group that are read and that the condition keeps.
+fn choose_in_group(
+    alloc: Global,
+    chosen: &mut Vec<Chosen>,
+    schema: &Schema,
+    condition: &Option<Pred>,
+    pinned: &Pinned,
+    group: usize,
+) -> Result<(), Memory>
+    requires there { group < length pinned.now.view.groups }
+    requires fitting { All (λ group. IsFitting group.1) pinned.now.view.groups }
+    requires shown { All (IsShown pinned.now) chosen.old.items }
+    ensures rows { OnOk result (map (chosen_edit (length schema.now.columns) pinned.now) chosen.new.items ≡ map (chosen_edit (length schema.now.columns) pinned.now) chosen.old.items ++ rows_as_edits (spec.chosen schema.now condition.now (filter_map (read_row (length schema.now.columns) pinned.now) (rowed_at pinned.now.view group)))) }
+    ensures shown { OnOk result (All (IsShown pinned.now) chosen.new.items) }
+{
+    let width = schema.columns.len();
+    let len = pinned.view.groups.at(group).1.len();
+    for position in 0..len {
+        let place = Place { group, position };
+        if let Some((key, read)) = read_at(alloc, pinned, place, width)? {
+            let source = Source::Shown(place);
+            choose_read(chosen, schema, condition, Chosen { key, source }, read)?;
+        }
+    }
+    Ok(())
+}
+
+/// Chooses the rows of the view that are read and that the condition keeps.
+fn choose_shown(
+    alloc: Global,
+    schema: &Schema,
+    condition: &Option<Pred>,
+    pinned: &Pinned,
+) -> Result<Vec<Chosen>, Memory>
+    requires { All (λ group. IsFitting group.1) pinned.now.view.groups }
+    ensures rows { IfOk result (λ chosen. map (chosen_edit (length schema.now.columns) pinned.now) chosen.items ≡ rows_as_edits (spec.chosen schema.now condition.now (filter_map (read_row (length schema.now.columns) pinned.now) (rowed_of pinned.now.view)))) }
+    ensures shown { IfOk result (λ chosen. All (IsShown pinned.now) chosen.items) }
+{
+    let mut chosen = Vec::new(alloc);
+    for group in 0..pinned.view.len() {
+        choose_in_group(alloc, &mut chosen, schema, condition, pinned, group)?;
+    }
+    Ok(chosen)
+}
+
+/// Chooses the rows of the own writes that the condition keeps.
+fn choose_own(
+    chosen: &mut Vec<Chosen>,
+    schema: &Schema,
+    condition: &Option<Pred>,
+    pinned: &Pinned,
+) -> Result<(), Memory>
+    requires { All (IsShown pinned.now) chosen.old.items }
+    ensures rows { OnOk result (map (chosen_edit (length schema.now.columns) pinned.now) chosen.new.items ≡ map (chosen_edit (length schema.now.columns) pinned.now) chosen.old.items ++ rows_as_edits (spec.chosen schema.now condition.now (filter_map own_row pinned.now.own))) }
+    ensures shown { OnOk result (All (IsShown pinned.now) chosen.new.items) }
+    ensures order { Ascend pinned.now.own }
+{
+    for (i, write) in pinned.own.as_slice().iter().enumerate() {
+        if let Some(row) = &write.row {
+            let key = write.key;
+            let source = Source::Own(i);
+            choose_read(
+                chosen,
+                schema,
+                condition,
+                Chosen { key, source },
+                ReadRow::Lent(row),
+            )?;
+        }
+    }
+    Ok(())
+}
+
+/// Puts what was chosen in the order of the keys.
+fn sort(chosen: &mut Vec<Chosen>)
+    ensures permutation { IsPermutation chosen.old.items chosen.new.items }
+    ensures sorted { IsSortedByKey (λ one. one.key) key_cmp chosen.new.items }
+{
+    chosen.sort_unstable_by_key(
+        |one: &Chosen| -> Key
+            ensures { result ≡ one.now.key }
+        { one.key },
+    );
+}
+
+/// The rows that are read and that the condition keeps, in the order of their keys.
+pub fn choose(
+    alloc: Global,
+    schema: &Schema,
+    condition: &Option<Pred>,
+    pinned: &Pinned,
+) -> Result<Vec<Chosen>, Memory>
+    requires { MayRead schema.now pinned.now }
+    ensures rows { IfOk result (λ chosen. map (chosen_edit (length schema.now.columns) pinned.now) chosen.items ≡ rows_as_edits (spec.chosen schema.now condition.now (read_by (length schema.now.columns) pinned.now))) }
+    ensures shown { IfOk result (λ chosen. All (IsShown pinned.now) chosen.items) }
+{
+    let mut chosen = choose_shown(alloc, schema, condition, pinned)?;
+    choose_own(&mut chosen, schema, condition, pinned)?;
+    sort(&mut chosen);
+    Ok(chosen)
+}
+
+/// The row of an own write that has one.
+fn own_row_at(own: &Own, i: usize) -> &Row
+    requires { IsSome (option_and_then (λ write. write.row) (slice_get own.now i)) }
+    ensures { option_and_then (λ write. write.row) (slice_get own.now i) ≡ Some result.now }
+{
+    match &own.get(i).row {
+        Some(row) => row,
+        None => unreachable!(),
+    }
+}
+
+/// The row that stands at a source, in so many cells where it is one of the view.
+pub fn row_of<'a>(
+    alloc: Global,
+    pinned: &'a Pinned,
+    source: Source,
+    width: usize,
+) -> Result<ReadRow<'a>, Memory>
+    requires { IsSome (row_of width pinned.now source) }
+    ensures { IfOk result (λ read. row_of width pinned.now source ≡ Some (row_in read)) }
+{
+    match source {
+        Source::Shown(place) => row_at(alloc, &pinned.view, place, width),
+        Source::Own(i) => Ok(ReadRow::Lent(own_row_at(&pinned.own, i))),
+    }
+}
+
+/// Whether the key of a row that was chosen is in the table of the snapshot. It is where the row stands in the view; the key of an
+/// own write is looked up.
+pub fn is_in_snapshot(pinned: &Pinned, chosen: Chosen) -> bool
+    requires snapshot { HasSnapshot pinned.now }
+    requires shown { IsShown pinned.now chosen }
+    ensures { (width : ℕ) → result ≡ has_row (shown_by width pinned.now) chosen.key }
+{
+    match chosen.source {
+        Source::Shown(_) => true,
+        Source::Own(_) => has_row_shown(pinned, chosen.key),
+    }
+}

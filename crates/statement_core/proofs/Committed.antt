@@ -1,0 +1,166 @@
+-- What the commit of a session's transaction leaves.
+use Rattle.std.proofs.Common.{◌≡◌, ◌≢◌, ℕ, ◌+◌, List, [], ◌∷◌, ◌++◌, map, drop, length, refl, sym, ap, ◌∙◌, subst, cond, Bool, true, false, Option, None, Some, Ok, Err}
+use Rattle.std.specs.Prelude.{IsSome, unwrap_or}
+use Rattle.std.proofs.Math.Seq.{drop-append_seam}
+use Rattle.std.proofs.lemmas.List.{append-nil}
+use Rattle.cs_types.specs.declared.Key.{Key}
+use Rattle.cs_model.specs.Changes.{Edit, Change}
+use Rattle.cs_model.specs.State.{State}
+use Rattle.cs_model.specs.Steps.{commits, committed, gone, is_empty, numbered}
+use Rattle.edit_laws.specs.Edits.{edits_of}
+use Rattle.write_set.specs.declared.write.Write.{Write}
+use Rattle.txn_table.specs.declared.txn.Txn as kept
+use Rattle.txn_table.specs.Txns.{Table, txn_of, own_of, with as with_txn}
+use Rattle.group_book.specs.Book.{Book}
+use Rattle.group_book.specs.Commits.{Sizes, replaced_by, inserted_by, after_commit, draws_past}
+use Rattle.group_book.specs.Orders.{IsReordered}
+use Rattle.group_view.specs.declared.claim.Parcel.{Parcel}
+use Rattle.group_view.specs.Books.{book_of}
+use Rattle.group_log.specs.Followed.{book_with, committed_edits, Commits}
+use Rattle.group_directory.specs.declared.directory.Directory.{Directory}
+use Rattle.group_directory.specs.declared.committing.CommitRefusal.TheVariants as refusal
+use Rattle.group_directory.specs.Calls.{replaced_in, commit_number, IsAsBefore, IsParcelFor}
+use Rattle.group_directory.specs.Committing.{after_parcel}
+use Rattle.group_directory.specs.Laws.{sizes_of}
+use Rattle.group_directory.specs.Obstacles.{txn_as, txn_in, txns_of}
+use Rattle.group_directory.specs.Stands.{SayReplaced, Stands}
+use Rattle.group_directory.proofs.KeyLaws.{replaced_are}
+use Rattle.group_directory.proofs.WholeLemmas.{parcel_reordered}
+use Rattle.statement_core.specs.declared.core_state.CoreState.{CoreState}
+use Rattle.statement_core.specs.CoreState.{state_of, groups_of, IsStill}
+use Rattle.statement_core.specs.Leaves.{commits_txn, committed_in, Leaves}
+use Rattle.statement_core.proofs.States.{same_state, txns_with}
+use Rattle.statement_core.proofs.Stills.{commits_none}
+use Rattle.std.proofs.lemmas.List.Elements.{recursion_from_All}
+use Rattle.group_book.specs.Commits.{is_in_table}
+
+-- the edits that a commit adds
+pub added : (changes : List Change) (c txn : ℕ) (own : List Edit) → map (λ (change : Change). change.edit) (drop (length changes) (changes ++ numbered c txn own)) ≡ own
+added changes c txn own = ap (map (λ (change : Change). change.edit)) (drop-append_seam changes (numbered c txn own)) ∙ at own
+  where
+    at : (own : List Edit) → map (λ (change : Change). change.edit) (numbered c txn own) ≡ own
+    at [] = refl
+    at (edit ∷ own) = ap (λ es. edit ∷ es) (at own)
+
+-- one book draws an id above 2^62 exactly where the other does, up to the order of packed versions
+pub past_alike : (book a b : Book) → b.next ≡ a.next → draws_past book a ≡ draws_past book b
+past_alike book a b next = ap (λ (n : ℕ). draws_past book (record a { next = n })) (sym next)
+
+module _ (changes : List Change) (d : Directory) (j : Stands d changes) (txn : Option kept.Txn) (parcel : Parcel) (of : IsParcelFor d (own_of txn) parcel) (says : SayReplaced changes d.clock txn) where
+  own : List Write
+  own = own_of txn
+
+  -- the book of the commit of a parcel is that of the commit, up to the order of packed versions
+  pub reordered : IsReordered (after_commit (sizes_of d) (d.clock + 1) (replaced_by changes d.clock (edits_of (own_of txn))) (inserted_by (edits_of (own_of txn))) (book_of d.list))
+      (after_parcel d.sizes.group_rows (d.clock + 1) (replaced_in (own_of txn)) parcel (book_of d.list))
+  reordered =
+      let replaced = replaced_are changes d.clock (own_of txn) (recursion_from_All (λ (write : Write). write.replaces ≡ is_in_table changes d.clock write.key) (own_of txn) says) in
+      subst (λ (keys : List Key). IsReordered (after_commit (sizes_of d) (d.clock + 1) keys (inserted_by (edits_of (own_of txn))) (book_of d.list)) (after_parcel d.sizes.group_rows (d.clock + 1) (replaced_in (own_of txn)) parcel (book_of d.list))) (sym replaced)
+      (parcel_reordered (sizes_of d) (book_of d.list) changes j.floor (d.clock + 1) (replaced_in (own_of txn)) (inserted_by (edits_of (own_of txn))) parcel j.book of.parts)
+
+  pub past_is : draws_past (book_of d.list) (after_commit (sizes_of d) (d.clock + 1) (replaced_by changes d.clock (edits_of (own_of txn))) (inserted_by (edits_of (own_of txn))) (book_of d.list))
+      ≡ draws_past (book_of d.list) (after_parcel d.sizes.group_rows (d.clock + 1) (replaced_in (own_of txn)) parcel (book_of d.list))
+  past_is =
+      past_alike (book_of d.list) (after_commit (sizes_of d) (d.clock + 1) (replaced_by changes d.clock (edits_of (own_of txn))) (inserted_by (edits_of (own_of txn))) (book_of d.list))
+      (after_parcel d.sizes.group_rows (d.clock + 1) (replaced_in (own_of txn)) parcel (book_of d.list)) reordered.next
+
+pub not_past : {A : Type 0} (x : A) (P : Type 0) (t : Bool) → (Ok x ≡ Err refusal.Full → ⊥) → ((P × (t ≡ true)) → Ok x ≡ Err refusal.Full) → P → t ≡ false
+not_past x P true never full s = absurd (never (full (s, refl)))
+not_past x P false never full s = refl
+
+commits_some : (sizes : Sizes) (m : State) (own : List Write) (book made : Book) → own ≢ [] → IsReordered (book_with sizes m (edits_of own) book) made → draws_past book made ≡ false → Commits sizes m (edits_of own) book made
+commits_some sizes m [] book made some moved past = absurd (some refl)
+commits_some sizes m (w ∷ own) book made some moved past = (moved, past)
+
+module _ (changes : List Change) (old new : CoreState) (session : ℕ) (number : Option ℕ) (j : Stands old.directory changes) (parcel : Parcel) (there : IsSome (txn_of old.directory.txns session))
+    (of : IsParcelFor old.directory (own_of (txn_of old.directory.txns session)) parcel)
+    (halves : new.halves ≡ old.halves)
+    (rest : new.directory ≡ record old.directory { list = new.directory.list; txns = new.directory.txns; recent = new.directory.recent; clock = new.directory.clock })
+    (clock : new.directory.clock ≡ unwrap_or number old.directory.clock)
+    (num : number ≡ commit_number old.directory.clock (own_of (txn_of old.directory.txns session)))
+    (txns : txn_of new.directory.txns ≡ with_txn (txn_of old.directory.txns) session None) (next : new.directory.txns.next ≡ old.directory.txns.next)
+    (book : (c : ℕ) → number ≡ Some c → book_of new.directory.list ≡ after_parcel old.directory.sizes.group_rows c (replaced_in (own_of (txn_of old.directory.txns session))) parcel (book_of old.directory.list))
+    (none : own_of (txn_of old.directory.txns session) ≡ [] → new.directory ≡ record old.directory { txns = new.directory.txns })
+    (stands : (txn : kept.Txn) → txn_of old.directory.txns session ≡ Some txn → Stands new.directory (changes ++ numbered (old.directory.clock + 1) txn.number (edits_of txn.own)))
+    (past : own_of (txn_of old.directory.txns session) ≢ [] → draws_past (book_of old.directory.list) (after_parcel old.directory.sizes.group_rows (old.directory.clock + 1) (replaced_in (own_of (txn_of old.directory.txns session))) parcel (book_of old.directory.list)) ≡ false) where
+  m : State
+  m = state_of changes old
+
+  abbrev sizes : Sizes
+  sizes = sizes_of old.directory
+
+  says : SayReplaced changes old.directory.clock (txn_of old.directory.txns session)
+  says = let t = j.txns in t.replaced session
+
+  same_sizes : new.directory.sizes ≡ old.directory.sizes
+  same_sizes = ap (λ (d : Directory). d.sizes) rest
+
+  same_schema : new.directory.schema ≡ old.directory.schema
+  same_schema = ap (λ (d : Directory). d.schema) rest
+
+  -- without own writes the transaction is over, and nothing else
+  left_none : (txn : kept.Txn) → txn_of old.directory.txns session ≡ Some txn → own_of (txn_of old.directory.txns session) ≡ [] → Leaves changes old new (commits (state_of changes old) session (txn_as txn))
+  left_none txn has empty =
+      let own_is : txn.own ≡ [] = sym (ap own_of has) ∙ empty in
+      let ends : commits (state_of changes old) session (txn_as txn) ≡ gone (state_of changes old) session =
+      ap (λ b. cond b (gone (state_of changes old) session) (record (gone (state_of changes old) session) { changes = changes ++ committed (old.directory.clock + 1) (txn_as txn); clock = old.directory.clock + 1 })) (ap (λ (own : List Write). is_empty (edits_of own)) own_is) in
+      let only = none empty in
+      let later = ap (λ (own : List Write). changes ++ numbered (old.directory.clock + 1) txn.number (edits_of own)) own_is ∙ append-nil changes in
+      subst (Leaves changes old new) (sym ends) (record {
+        later = changes;
+        stands = subst (Stands new.directory) later (stands txn has);
+        state = same_state (state_of changes new) (gone (state_of changes old) session) refl (ap (λ (d : Directory). d.clock) only) (txns_with (txn_of old.directory.txns) (txn_of new.directory.txns) session None txns)
+            (ap (λ h. (state_of changes (record old { halves = h })).half) halves) refl next;
+        commits = commits_none (sizes_of old.directory) (state_of changes old) changes (groups_of old) (groups_of new) refl (ap (λ (d : Directory). book_of d.list) only);
+        sizes = same_sizes;
+        schema = same_schema;
+      })
+
+  left_some : (txn : kept.Txn) → txn_of old.directory.txns session ≡ Some txn → own_of (txn_of old.directory.txns session) ≢ [] → number ≡ Some (old.directory.clock + 1) → is_empty (edits_of txn.own) ≡ false
+      → Leaves changes old new (commits (state_of changes old) session (txn_as txn))
+  left_some txn has some numbered_at full =
+      let after : State = record (gone (state_of changes old) session) { changes = changes ++ committed (old.directory.clock + 1) (txn_as txn); clock = old.directory.clock + 1 } in
+      let ends : commits (state_of changes old) session (txn_as txn) ≡ after = ap (λ b. cond b (gone (state_of changes old) session) after) full in
+      let own_is : own_of (txn_of old.directory.txns session) ≡ txn.own = ap own_of has in
+      let made = book (old.directory.clock + 1) numbered_at in
+      let edits_are : edits_of (own_of (txn_of old.directory.txns session)) ≡ committed_edits (state_of changes old) after =
+      ap edits_of own_is ∙ sym (added changes (old.directory.clock + 1) txn.number (edits_of txn.own)) in
+      subst (Leaves changes old new) (sym ends) (record {
+        later = changes ++ numbered (old.directory.clock + 1) txn.number (edits_of txn.own);
+        stands = stands txn has;
+        state = same_state (state_of (changes ++ numbered (old.directory.clock + 1) txn.number (edits_of txn.own)) new) after refl (clock ∙ ap (λ n. unwrap_or n old.directory.clock) numbered_at)
+            (txns_with (txn_of old.directory.txns) (txn_of new.directory.txns) session None txns) (ap (λ h. (state_of changes (record old { halves = h })).half) halves) refl next;
+        commits = subst (λ edits. Commits (sizes_of old.directory) (state_of changes old) edits (groups_of old) (groups_of new)) edits_are
+            (subst (λ b. Commits (sizes_of old.directory) (state_of changes old) (edits_of (own_of (txn_of old.directory.txns session))) (groups_of old) b) (sym made)
+            (commits_some (sizes_of old.directory) (state_of changes old) (own_of (txn_of old.directory.txns session)) (book_of old.directory.list) _ some
+            (reordered changes old.directory j (txn_of old.directory.txns session) parcel of says) (past some)));
+        sizes = same_sizes;
+        schema = same_schema;
+      })
+
+  left_at : (o : Option kept.Txn) → txn_of old.directory.txns session ≡ o → IsSome o → (own : List Write) → own_of o ≡ own → Leaves changes old new (commits_txn (state_of changes old) session (txn_in o))
+  left_at None has there own is = absurd (cc there)
+  left_at (Some txn) has there [] is = left_none txn has (ap own_of has ∙ is)
+  left_at (Some txn) has there (w ∷ own) is =
+      left_some txn has (λ e. absurd (cc (e, sym (ap own_of has ∙ is)))) (num ∙ ap (commit_number old.directory.clock) (ap own_of has ∙ is)) (ap (λ (ws : List Write). is_empty (edits_of ws)) is)
+
+  pub committed_leaves : Leaves changes old new (committed_in (state_of changes old) session)
+  committed_leaves = left_at (txn_of old.directory.txns session) refl there (own_of (txn_of old.directory.txns session)) refl
+
+-- ---- after a refusal
+
+pub still_refused : (old new : CoreState) → ((changes : List Change) → Stands old.directory changes → Stands new.directory changes) → IsAsBefore old.directory new.directory
+    → new.directory ≡ record old.directory { list = new.directory.list; txns = new.directory.txns; recent = new.directory.recent; clock = new.directory.clock } → IsStill old new
+still_refused old new stands same rest = record {
+  stands = stands;
+  same = record {
+    groups = same.book;
+    sizes = ap (λ (d : Directory). d.sizes) rest;
+    schema = ap (λ (d : Directory). d.schema) rest;
+    clock = same.clock;
+  };
+}
+
+pub state_refused : (changes : List Change) (old new : CoreState) → new.halves ≡ old.halves → IsAsBefore old.directory new.directory → state_of changes new ≡ state_of changes old
+state_refused changes old new halves same =
+    same_state (state_of changes new) (state_of changes old) refl same.clock (ap (λ (t : Table). txns_of t) same.txns) (ap (λ h. (state_of changes (record old { halves = h })).half) halves) refl (ap (λ (t : Table). t.next) same.txns)

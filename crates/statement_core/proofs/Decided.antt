@@ -1,0 +1,177 @@
+-- What was begun, and the reply that a statement's work gives.
+use Rattle.std.proofs.Common.{◌≡◌, ℕ, List, [], map, refl, sym, ap, subst, ◌∙◌, true, false, Option, None, Some, Result, Ok, Err}
+use Rattle.std.specs.Map.{values_of}
+use Rattle.cs_types.specs.declared.Schema.{Schema}
+use Rattle.cs_model.specs.declared.entry.Bound.{Bound}
+use Rattle.cs_model.specs.declared.entry.Bound.TheVariants as bound
+use Rattle.cs_model.specs.declared.entry.Refusal.{Refusal}
+use Rattle.cs_model.specs.declared.entry.Reply.{Reply}
+use Rattle.cs_model.specs.declared.entry.Reply.TheVariants as reply
+use Rattle.cs_model.specs.declared.kind.Kind.{Kind}
+use Rattle.cs_model.specs.declared.kind.Kind.TheVariants as kind
+use Rattle.cs_model.specs.declared.plan.Query.{Query}
+use Rattle.cs_model.specs.Answers.{writes}
+use Rattle.cs_model.specs.Changes.{Edit, Table, Change, laid, table}
+use Rattle.cs_model.specs.Floors.{snapshot_of}
+use Rattle.cs_model.specs.Kinds.{kind_of, kind_is_write, kind_is_of_table, is_of_table, is_write}
+use Rattle.cs_model.specs.Queries.{answer}
+use Rattle.cs_model.specs.State.{State, Txn, seen, seen_at}
+use Rattle.cs_model.specs.Steps.{IsReply, IsWriteReply, IsWriteReplyOf, IsAnswerIn, IsAnswer, writes_in, replied, accepted, wrote}
+use Rattle.log_laws.specs.Frames.{IsPinnedAt, IsPinned}
+use Rattle.log_laws.specs.Started.{Begun, own_in, seen_by, snapshot_table, Sees}
+use Rattle.statement_core.specs.Outcomes.{IsValued, IsDecided}
+use Rattle.statement_core.specs.Settled.{wrote_or}
+
+-- ---- what was begun
+
+-- what a session's transaction sees
+abbrev pub seen_in : List Change → Option Txn → Table
+seen_in changes None = []
+seen_in changes (Some txn) = seen changes txn
+
+pub snapshot_is : (m : State) (s : ℕ) (begun : Begun) → Sees m s begun → snapshot_table begun ≡ table m.changes begun.snapshot
+snapshot_is m s begun k = ap (λ (cs : List Change). laid [] (map (λ (change : Change). change.edit) cs)) (sym k.changes)
+
+pub begun_seen : (m : State) (s : ℕ) (begun : Begun) → begun.own ≡ own_in (m.txns s) → Sees m s begun → seen_by begun ≡ seen_in m.changes (m.txns s)
+begun_seen m s begun own k = at (m.txns s) own k.snapshot
+  where
+    at : (o : Option Txn) → begun.own ≡ own_in o → snapshot_of o ≡ Some begun.snapshot → seen_by begun ≡ seen_in m.changes o
+    at None own snap = absurd (cc snap)
+    at (Some txn) own snap =
+        ap (λ (t : Table). laid t begun.own) (snapshot_is m s begun k) ∙ ap (laid (table m.changes begun.snapshot)) own
+        ∙ ap (λ (x : Option ℕ). seen_at m.changes x txn.own) (sym snap)
+
+pub begun_pinned : (m : State) (s : ℕ) (begun : Begun) → Sees m s begun → IsPinned (m.txns s) m.clock
+begun_pinned m s begun k = at (m.txns s) k.snapshot
+  where
+    at : (o : Option Txn) → snapshot_of o ≡ Some begun.snapshot → IsPinned o m.clock
+    at None snap = absurd (cc snap)
+    at (Some txn) snap = subst (λ (x : Option ℕ). IsPinnedAt x m.clock) (sym snap) k.taken
+
+-- ---- a reply that was given
+
+valued_of : (m : State) (session : ℕ) (snapshot : Option ℕ) (table : Table) (b : Bound) (w : Result (List Edit) Refusal) (r : Reply) → IsValued w r → IsWriteReplyOf m session snapshot table b w r
+valued_of m session snapshot table b (Ok edits) r h = absurd h
+valued_of m session snapshot table b (Err refusal) r h = h
+
+module _ (schema : Schema) (m : State) (session : ℕ) where
+  valued_in : (txn : Option Txn) (clock : ℕ) (b : Bound) (r : Reply) → IsPinned txn clock → IsValued (writes schema (seen_in m.changes txn) b) r → IsWriteReply schema m session txn b r
+  valued_in None clock b r p h = absurd p
+  valued_in (Some txn) clock b r p h = valued_of m session txn.snapshot (seen m.changes txn) b (writes schema (seen m.changes txn) b) r h
+
+  answer_in : (txn : Option Txn) (clock : ℕ) (r : Reply) (query : Query) → IsPinned txn clock → m.statistics session ≡ false → IsAnswer false (answer schema query (values_of (seen_in m.changes txn))) r
+      → IsAnswerIn schema m session txn query r
+  answer_in None clock r query p s h = absurd p
+  answer_in (Some txn) clock r query p s h = subst (λ on. IsAnswer on (answer schema query (values_of (seen m.changes txn))) r) (sym s) h
+
+  -- the reply that the work decides is the defined one
+  pub decided_reply : (b : Bound) (r : Reply) → m.statistics session ≡ false → (is_of_table b ≡ true → IsPinned (m.txns session) m.clock) → IsDecided schema b (seen_in m.changes (m.txns session)) r → IsReply schema m session b r
+  decided_reply bound.Begin r s p h = absurd h
+  decided_reply bound.Commit r s p h = absurd h
+  decided_reply bound.Rollback r s p h = absurd h
+  decided_reply bound.Nothing r s p h = absurd h
+  decided_reply (bound.Insert plan) r s p h = valued_in (m.txns session) m.clock (bound.Insert plan) r (p refl) h
+  decided_reply (bound.Update plan) r s p h = valued_in (m.txns session) m.clock (bound.Update plan) r (p refl) h
+  decided_reply (bound.Delete condition) r s p h = valued_in (m.txns session) m.clock (bound.Delete condition) r (p refl) h
+  decided_reply (bound.Select query) r s p h = answer_in (m.txns session) m.clock r query (p refl) s h
+  decided_reply bound.GroupReport r s p h = absurd h
+  decided_reply bound.SegmentReport r s p h = absurd h
+  decided_reply (bound.Refused refusal) r s p h = absurd h
+
+  valued_same : (w : Result (List Edit) Refusal) (b : Bound) (r : Reply) → IsValued w r → wrote_or m session [] r ≡ replied schema m session b r
+  valued_same (Ok edits) b r h = absurd h
+  valued_same (Err refusal) b r h = subst (λ x. wrote_or m session [] x ≡ replied schema m session b x) (sym h) refl
+
+  select_same : (query : Query) (r : Reply) → wrote_or m session [] r ≡ replied schema m session (bound.Select query) r
+  select_same query reply.Done = refl
+  select_same query (reply.Affected count) = refl
+  select_same query (reply.Rows rows segments) = refl
+  select_same query (reply.Groups lines buffered) = refl
+  select_same query (reply.Segments lines) = refl
+  select_same query (reply.Refused refusal) = refl
+
+  pub decided_state : (b : Bound) (t : Table) (r : Reply) → IsDecided schema b t r → wrote_or m session [] r ≡ replied schema m session b r
+  decided_state bound.Begin t r h = absurd h
+  decided_state bound.Commit t r h = absurd h
+  decided_state bound.Rollback t r h = absurd h
+  decided_state bound.Nothing t r h = absurd h
+  decided_state (bound.Insert plan) t r h = valued_same (writes schema t (bound.Insert plan)) (bound.Insert plan) r h
+  decided_state (bound.Update plan) t r h = valued_same (writes schema t (bound.Update plan)) (bound.Update plan) r h
+  decided_state (bound.Delete condition) t r h = valued_same (writes schema t (bound.Delete condition)) (bound.Delete condition) r h
+  decided_state (bound.Select query) t r h = select_same query r
+  decided_state bound.GroupReport t r h = absurd h
+  decided_state bound.SegmentReport t r h = absurd h
+  decided_state (bound.Refused refusal) t r h = absurd h
+
+  -- what is decided of a write is a refusal, and of another statement it writes nothing
+  valued_refused : (w : Result (List Edit) Refusal) (r : Reply) → IsValued w r → (found : Refusal) × (r ≡ reply.Refused found)
+  valued_refused (Ok edits) r h = absurd h
+  valued_refused (Err refusal) r h = (refusal, h)
+
+  pub decided_refused : (b : Bound) (t : Table) (r : Reply) → is_write b ≡ true → IsDecided schema b t r → (found : Refusal) × (r ≡ reply.Refused found)
+  decided_refused bound.Begin t r w h = absurd h
+  decided_refused bound.Commit t r w h = absurd h
+  decided_refused bound.Rollback t r w h = absurd h
+  decided_refused bound.Nothing t r w h = absurd h
+  decided_refused (bound.Insert plan) t r w h = valued_refused (writes schema t (bound.Insert plan)) r h
+  decided_refused (bound.Update plan) t r w h = valued_refused (writes schema t (bound.Update plan)) r h
+  decided_refused (bound.Delete condition) t r w h = valued_refused (writes schema t (bound.Delete condition)) r h
+  decided_refused (bound.Select query) t r w h = absurd (cc w)
+  decided_refused bound.GroupReport t r w h = absurd h
+  decided_refused bound.SegmentReport t r w h = absurd h
+  decided_refused (bound.Refused refusal) t r w h = absurd h
+
+-- ---- a write
+
+kind_of_table : (k : Kind) → kind_is_write k ≡ true → kind_is_of_table k ≡ true
+kind_of_table kind.Control e = absurd (cc e)
+kind_of_table kind.Insert e = refl
+kind_of_table kind.Change e = refl
+kind_of_table kind.Query e = absurd (cc e)
+kind_of_table kind.Report e = absurd (cc e)
+kind_of_table kind.Refused e = absurd (cc e)
+
+pub write_of_table : (b : Bound) → is_write b ≡ true → is_of_table b ≡ true
+write_of_table b e = kind_of_table (kind_of b) e
+
+-- the reply and the state of a write, by what its transaction sees
+pub write_reply : (schema : Schema) (m : State) (session : ℕ) (b : Bound) (r : Reply) → is_write b ≡ true → IsWriteReply schema m session (m.txns session) b r → IsReply schema m session b r
+write_reply schema m session bound.Begin r w h = absurd (cc w)
+write_reply schema m session bound.Commit r w h = absurd (cc w)
+write_reply schema m session bound.Rollback r w h = absurd (cc w)
+write_reply schema m session bound.Nothing r w h = absurd (cc w)
+write_reply schema m session (bound.Insert plan) r w h = h
+write_reply schema m session (bound.Update plan) r w h = h
+write_reply schema m session (bound.Delete condition) r w h = h
+write_reply schema m session (bound.Select query) r w h = absurd (cc w)
+write_reply schema m session bound.GroupReport r w h = absurd (cc w)
+write_reply schema m session bound.SegmentReport r w h = absurd (cc w)
+write_reply schema m session (bound.Refused refusal) r w h = absurd (cc w)
+
+pub write_accepted : (schema : Schema) (m : State) (session : ℕ) (b : Bound) → is_write b ≡ true → accepted schema m session b ≡ wrote m session (m.txns session) (writes_in schema m.changes (m.txns session) b)
+write_accepted schema m session bound.Begin w = absurd (cc w)
+write_accepted schema m session bound.Commit w = absurd (cc w)
+write_accepted schema m session bound.Rollback w = absurd (cc w)
+write_accepted schema m session bound.Nothing w = absurd (cc w)
+write_accepted schema m session (bound.Insert plan) w = refl
+write_accepted schema m session (bound.Update plan) w = refl
+write_accepted schema m session (bound.Delete condition) w = refl
+write_accepted schema m session (bound.Select query) w = absurd (cc w)
+write_accepted schema m session bound.GroupReport w = absurd (cc w)
+write_accepted schema m session bound.SegmentReport w = absurd (cc w)
+write_accepted schema m session (bound.Refused refusal) w = absurd (cc w)
+
+-- another statement writes nothing
+pub no_writes : (schema : Schema) (changes : List Change) (o : Option Txn) (b : Bound) → is_write b ≡ false → writes_in schema changes o b ≡ []
+no_writes schema changes None b w = refl
+no_writes schema changes (Some txn) bound.Begin w = refl
+no_writes schema changes (Some txn) bound.Commit w = refl
+no_writes schema changes (Some txn) bound.Rollback w = refl
+no_writes schema changes (Some txn) bound.Nothing w = refl
+no_writes schema changes (Some txn) (bound.Insert plan) w = absurd (cc w)
+no_writes schema changes (Some txn) (bound.Update plan) w = absurd (cc w)
+no_writes schema changes (Some txn) (bound.Delete condition) w = absurd (cc w)
+no_writes schema changes (Some txn) (bound.Select query) w = refl
+no_writes schema changes (Some txn) bound.GroupReport w = refl
+no_writes schema changes (Some txn) bound.SegmentReport w = refl
+no_writes schema changes (Some txn) (bound.Refused refusal) w = refl

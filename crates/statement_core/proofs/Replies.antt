@@ -1,0 +1,152 @@
+-- What is said of a reply: what it shows, and that no defined one stands in the place of another.
+use Rattle.std.proofs.Common.{◌≡◌, ◌<◌, ℕ, List, refl, sym, ap, subst, ◌∙◌, cond, inl, inr, ◌⊎◌, arith, Bool, true, false, Option, None, Some, Result, Ok, Err, nat_lt}
+use Rattle.std.specs.Map.{values_of}
+use Rattle.cs_types.specs.declared.Loose.{Loose}
+use Rattle.cs_types.specs.declared.Schema.{Schema}
+use Rattle.cs_model.specs.declared.entry.Bound.{Bound}
+use Rattle.cs_model.specs.declared.entry.Bound.TheVariants as bound
+use Rattle.cs_model.specs.declared.entry.Refusal.{Refusal}
+use Rattle.cs_model.specs.declared.entry.Refusal.TheVariants.{Reading, Valued, Memory}
+use Rattle.cs_model.specs.declared.entry.Reply.{Reply}
+use Rattle.cs_model.specs.declared.entry.Reply.TheVariants as reply
+use Rattle.cs_model.specs.declared.plan.Query.{Query}
+use Rattle.cs_model.specs.Answers.{writes}
+use Rattle.cs_model.specs.declared.kind.Kind.TheVariants as kind
+use Rattle.cs_model.specs.Changes.{Edit, Change}
+use Rattle.cs_model.specs.Kinds.{kind_of}
+use Rattle.cs_model.specs.Queries.{answer}
+use Rattle.cs_model.specs.State.{Txn, State, seen}
+use Rattle.cs_model.specs.Steps.{IsReply, IsWriteReply, IsWriteReplyOf, IsAnswer, IsAnswerIn, began, gone, ends_txn, refused, replied, begin_reply, done_in}
+use Rattle.group_book.specs.Book.{Book}
+use Rattle.group_log.specs.Followed.{ShowsBook}
+use Rattle.statement_core.specs.Settled.{WantsIds}
+
+-- ---- what a reply shows
+
+module _ (now : Schema) (changes : List Change) (book : Book) where
+  pub refused_shows : (r : Reply) (refusal : Refusal) → r ≡ reply.Refused refusal → ShowsBook now changes book r
+  refused_shows r refusal e = subst (ShowsBook now changes book) (sym e) tt
+
+  begin_shows : (o : Option Txn) → ShowsBook now changes book (begin_reply o)
+  begin_shows None = tt
+  begin_shows (Some txn) = at (nat_lt txn.depth 32)
+    where
+      at : (t : Bool) → ShowsBook now changes book (cond t reply.Done (reply.Refused (Reading 50001 1)))
+      at true = tt
+      at false = tt
+
+  done_shows : (o : Option Txn) (number : ℕ) → ShowsBook now changes book (done_in o number)
+  done_shows None number = tt
+  done_shows (Some txn) number = tt
+
+  write_shows : (schema : Schema) (m : State) (session : ℕ) (b : Bound) (o : Option Txn) (r : Reply) → IsWriteReply schema m session o b r → ShowsBook now changes book r
+  write_shows schema m session b None r h = absurd h
+  write_shows schema m session b (Some txn) r h = at (writes schema (seen m.changes txn) b) r h
+    where
+      at : (w : Result (List Edit) Refusal) (r : Reply) → IsWriteReplyOf m session txn.snapshot (seen m.changes txn) b w r → ShowsBook now changes book r
+      at (Err refusal) r h = refused_shows r refusal h
+      at (Ok edits) reply.Done h = tt
+      at (Ok edits) (reply.Affected count) h = tt
+      at (Ok edits) (reply.Rows rows segments) h = tt
+      at (Ok edits) (reply.Groups lines buffered) h = absurd h
+      at (Ok edits) (reply.Segments lines) h = absurd h
+      at (Ok edits) (reply.Refused refusal) h = tt
+
+  answer_shows : (on : Bool) (answered : Result (List (List Loose)) (ℕ × ℕ)) (r : Reply) → IsAnswer on answered r → ShowsBook now changes book r
+  answer_shows on (Err place) r h = refused_shows r (Valued 8115 place.0 place.1) h
+  answer_shows on (Ok rows) reply.Done h = tt
+  answer_shows on (Ok rows) (reply.Affected count) h = tt
+  answer_shows on (Ok rows) (reply.Rows list segments) h = tt
+  answer_shows on (Ok rows) (reply.Groups lines buffered) h = absurd h
+  answer_shows on (Ok rows) (reply.Segments lines) h = absurd h
+  answer_shows on (Ok rows) (reply.Refused refusal) h = tt
+
+  select_shows : (schema : Schema) (m : State) (session : ℕ) (o : Option Txn) (query : Query) (r : Reply) → IsAnswerIn schema m session o query r → ShowsBook now changes book r
+  select_shows schema m session None query r h = absurd h
+  select_shows schema m session (Some txn) query r h = answer_shows (m.statistics session) (answer schema query (values_of (seen m.changes txn))) r h
+
+  -- a reply that is the defined one shows the book, where a report does
+  pub reply_shows : (schema : Schema) (m : State) (session : ℕ) (b : Bound) (r : Reply) → IsReply schema m session b r → (kind_of b ≡ kind.Report → ShowsBook now changes book r) → ShowsBook now changes book r
+  reply_shows schema m session bound.Begin r h k = subst (ShowsBook now changes book) (sym h) (begin_shows (m.txns session))
+  reply_shows schema m session bound.Commit r h k = subst (ShowsBook now changes book) (sym h) (done_shows (m.txns session) 3902)
+  reply_shows schema m session bound.Rollback r h k = subst (ShowsBook now changes book) (sym h) (done_shows (m.txns session) 3903)
+  reply_shows schema m session bound.Nothing r h k = subst (ShowsBook now changes book) (sym h) tt
+  reply_shows schema m session (bound.Insert plan) r h k = write_shows schema m session (bound.Insert plan) (m.txns session) r h
+  reply_shows schema m session (bound.Update plan) r h k = write_shows schema m session (bound.Update plan) (m.txns session) r h
+  reply_shows schema m session (bound.Delete condition) r h k = write_shows schema m session (bound.Delete condition) (m.txns session) r h
+  reply_shows schema m session (bound.Select query) r h k = select_shows schema m session (m.txns session) query r h
+  reply_shows schema m session bound.GroupReport r h k = k refl
+  reply_shows schema m session bound.SegmentReport r h k = k refl
+  reply_shows schema m session (bound.Refused refusal) r h k = refused_shows r refusal h
+
+-- ---- no defined reply stands in the place of one after which something is committed
+
+-- a refusal commits nothing
+pub refused_clock : (m : State) (session : ℕ) (refusal : Refusal) → (refused m session refusal).clock ≡ m.clock
+refused_clock m session refusal = at (ends_txn (m.txns session) refusal)
+  where
+    at : (t : Bool) → (cond t (gone m session) m).clock ≡ m.clock
+    at true = refl
+    at false = refl
+
+pub not_above : (a b : ℕ) → b ≡ a → a < b → ⊥
+not_above a b e lt = omega (arith, e, lt)
+
+module _ (schema : Schema) (m : State) (session : ℕ) where
+  -- what is given is a refusal
+  no_commit : (b : Bound) (given : Reply) (refusal : Refusal) → given ≡ reply.Refused refusal → m.clock < (replied schema m session b given).clock → ⊥
+  no_commit b given refusal e lt = not_above m.clock (replied schema m session b given).clock (ap (λ x. (replied schema m session b x).clock) e ∙ refused_clock m session refusal) lt
+
+  began_clock : (o : Option Txn) → (began m session o).clock ≡ m.clock
+  began_clock None = refl
+  began_clock (Some txn) = refl
+
+  begin_keeps : (given : Reply) (o : Option Txn) → given ≡ begin_reply o → m.clock < (replied schema m session bound.Begin given).clock → ⊥
+  begin_keeps given None e lt = not_above m.clock (replied schema m session bound.Begin given).clock (ap (λ x. (replied schema m session bound.Begin x).clock) e ∙ began_clock (m.txns session)) lt
+  begin_keeps given (Some txn) e lt = at (nat_lt txn.depth 32) e
+    where
+      at : (t : Bool) → given ≡ cond t reply.Done (reply.Refused (Reading 50001 1)) → ⊥
+      at true e = not_above m.clock (replied schema m session bound.Begin given).clock (ap (λ x. (replied schema m session bound.Begin x).clock) e ∙ began_clock (m.txns session)) lt
+      at false e = no_commit bound.Begin given (Reading 50001 1) e lt
+
+  -- a reply that reads as want of an id is none of these
+  done_never : (o : Option Txn) (number : ℕ) → done_in o number ≡ reply.Refused (Reading 50001 1) → ⊥
+  done_never None number e = cc e
+  done_never (Some txn) number e = cc e
+
+  write_never : (b : Bound) (o : Option Txn) (r given : Reply) → IsWriteReply schema m session o b r → r ≡ reply.Refused (Reading 50001 1) → IsWriteReply schema m session o b given → m.clock < (replied schema m session b given).clock → ⊥
+  write_never b None r given h e g lt = absurd h
+  write_never b (Some txn) r given h e g lt = at (writes schema (seen m.changes txn) b) (subst (λ x. IsWriteReply schema m session (Some txn) b x) e h) g
+    where
+      at : (w : Result (List Edit) Refusal) → IsWriteReplyOf m session txn.snapshot (seen m.changes txn) b w (reply.Refused (Reading 50001 1)) → IsWriteReplyOf m session txn.snapshot (seen m.changes txn) b w given → ⊥
+      at (Err refusal) h g = no_commit b given refusal g lt
+      at (Ok edits) h g = h.is
+
+  answer_never : (o : Option Txn) (query : Query) → IsAnswerIn schema m session o query (reply.Refused (Reading 50001 1)) → ⊥
+  answer_never None query h = h
+  answer_never (Some txn) query h = at (answer schema query (values_of (seen m.changes txn))) h
+    where
+      at : (answered : Result (List (List Loose)) (ℕ × ℕ)) → IsAnswer (m.statistics session) answered (reply.Refused (Reading 50001 1)) → ⊥
+      at (Ok rows) h = h
+      at (Err place) h = cc h
+
+  defined_never : (b : Bound) (r : Reply) (wants : WantsIds schema m session b r) → IsReply schema m session b r → ⊥
+  defined_never bound.Begin r w h = begin_keeps w.given (m.txns session) w.is_reply w.commits
+  defined_never bound.Commit r w h = done_never (m.txns session) 3902 (sym h ∙ w.refuses)
+  defined_never bound.Rollback r w h = done_never (m.txns session) 3903 (sym h ∙ w.refuses)
+  defined_never bound.Nothing r w h = cc (h, w.refuses)
+  defined_never (bound.Insert plan) r w h = write_never (bound.Insert plan) (m.txns session) r w.given h w.refuses w.is_reply w.commits
+  defined_never (bound.Update plan) r w h = write_never (bound.Update plan) (m.txns session) r w.given h w.refuses w.is_reply w.commits
+  defined_never (bound.Delete condition) r w h = write_never (bound.Delete condition) (m.txns session) r w.given h w.refuses w.is_reply w.commits
+  defined_never (bound.Select query) r w h = answer_never (m.txns session) query (subst (λ x. IsAnswerIn schema m session (m.txns session) query x) w.refuses h)
+  defined_never bound.GroupReport r w h = subst (IsReply schema m session bound.GroupReport) w.refuses h
+  defined_never bound.SegmentReport r w h = subst (IsReply schema m session bound.SegmentReport) w.refuses h
+  defined_never (bound.Refused refusal) r w h = no_commit (bound.Refused refusal) w.given refusal w.is_reply w.commits
+
+  -- nor is want of memory
+  pub never_wants : (b : Bound) (r : Reply) → (r ≡ reply.Refused Memory) ⊎ IsReply schema m session b r → WantsIds schema m session b r → ⊥
+  never_wants b r (inl e) w = wants_memory e w.refuses
+    where
+      wants_memory : r ≡ reply.Refused Memory → r ≡ reply.Refused (Reading 50001 1) → ⊥
+      wants_memory e f = cc (e, f)
+  never_wants b r (inr h) w = defined_never b r w h
