@@ -1,14 +1,16 @@
 -- Pairs, and the words that they are: what the walk along the words finds is what is said of the pairs.
-use Rattle.std.proofs.Common.{◌≡◌, ℕ, List, [], ◌∷◌, Bool, true, false, not, ◌&&◌, ◌||◌, cond, if◌then◌else◌, bytes_eq, Some, refl, ap, sym, subst, ◌∙◌}
+use Rattle.std.proofs.Common.{◌≡◌, ℕ, List, [], ◌∷◌, Bool, true, false, not, ◌&&◌, ◌||◌, cond, if◌then◌else◌, bytes_eq, nat_le, arith, Some, refl, ap, sym, subst, ◌∙◌}
 use Rattle.std.specs.Cmp.Derive.{both_true}
 use Rattle.std.specs.List.{list_all, list_any, find}
 use Rattle.std.specs.Option.{option_map_or}
+use Rattle.std.proofs.lemmas.Bool.Decides.{nat_tests}
 use Rattle.std.proofs.lemmas.Slice.Eq.{bytes_eq-Decides}
 use Rattle.cs_types.specs.Calendar.{digits_value}
 use Rattle.command_words.specs.declared.mode.Mode.{Mode}
 use Rattle.command_words.specs.declared.mode.Mode.TheVariants as mode
-use Rattle.command_words.specs.Options.{OptionRow, number_row, sessions_row, statements_row, is_value}
-use Rattle.command_words.specs.Orders.{Words, Pair, words_of, is_pair, are_once, value_of, order_with}
+use Rattle.command_words.specs.Options.{OptionRow, group_rows_row, direct_rows_row, number_row, sessions_row, statements_row, is_number, is_value}
+use Rattle.command_words.specs.declared.order.Order.{Order}
+use Rattle.command_words.specs.Orders.{Words, Pair, words_of, is_pair, are_once, value_of, order_with, IsWithin, IsInRange, IsOrder}
 use Rattle.command_words.specs.Walk.{is_named, are_pairs, value_among}
 
 and_left : (a b : Bool) → (a && b) ≡ true → a ≡ true
@@ -65,6 +67,18 @@ value_is : (mode : Mode) (row : OptionRow) → Fits mode row → (pairs : List P
 value_is mode row fits [] values = refl
 value_is mode row fits (pair ∷ pairs) values = value_at row pair pairs (words_of pairs) (bytes_eq row.name pair.0) (fits pair (and_left _ _ values)) (value_is mode row fits pairs (and_right _ _ values))
 
+fits_group_rows : Fits mode.Replay group_rows_row
+unfolding is_pair
+fits_group_rows pair is named =
+    let P : List ℕ → Type 0 = λ name. is_pair mode.Replay (name, pair.1) ≡ true → is_value group_rows_row pair.1 ≡ true in
+    subst P ((bytes_eq-Decides group_rows_row.name pair.0).0 named) (or_false (is_value group_rows_row pair.1)) is
+
+fits_direct_rows : Fits mode.Replay direct_rows_row
+unfolding is_pair
+fits_direct_rows pair is named =
+    let P : List ℕ → Type 0 = λ name. is_pair mode.Replay (name, pair.1) ≡ true → is_value direct_rows_row pair.1 ≡ true in
+    subst P ((bytes_eq-Decides direct_rows_row.name pair.0).0 named) (or_false (is_value direct_rows_row pair.1)) is
+
 fits_number : Fits mode.Generate number_row
 unfolding is_pair
 fits_number pair is named =
@@ -85,9 +99,42 @@ fits_statements pair is named =
 
 -- the order is the same where the first values among the words are those of the pairs
 pub order_is : (mode : Mode) (pairs : List Pair) → list_all (is_pair mode) pairs ≡ true → order_with mode (λ row. value_among row (words_of pairs)) ≡ order_with mode (value_of pairs)
-order_is mode.Replay pairs values = refl
+order_is mode.Replay pairs values =
+    let group_rows = value_is mode.Replay group_rows_row fits_group_rows pairs values in
+    let direct_rows = value_is mode.Replay direct_rows_row fits_direct_rows pairs values in
+    cc
 order_is mode.Generate pairs values =
     let number = value_is mode.Generate number_row fits_number pairs values in
     let sessions = value_is mode.Generate sessions_row fits_sessions pairs values in
     let statements = value_is mode.Generate statements_row fits_statements pairs values in
     cc
+
+-- ---- ranges
+
+within : (row : OptionRow) (text : List ℕ) → is_value row text ≡ true → IsWithin row (digits_value text)
+within row text value =
+    let number : (is_number text && nat_le row.least (digits_value text)) ≡ true = and_left (is_number text && nat_le row.least (digits_value text)) (nat_le (digits_value text) row.greatest) value in
+    let least : nat_le row.least (digits_value text) ≡ true = and_right (is_number text) (nat_le row.least (digits_value text)) number in
+    let greatest : nat_le (digits_value text) row.greatest ≡ true = and_right (is_number text && nat_le row.least (digits_value text)) (nat_le (digits_value text) row.greatest) value in
+    (grind (arith, nat_tests, least), grind (arith, nat_tests, greatest))
+
+range_at : (row : OptionRow) (pair : Pair) (pairs : List Pair) (b : Bool) → (b ≡ true → is_value row pair.1 ≡ true) → IsWithin row (value_of pairs row)
+    → IsWithin row (option_map_or (λ (pair : Pair). digits_value pair.1) (cond b (Some pair) (find (λ (pair : Pair). bytes_eq row.name pair.0) pairs)) row.usual)
+range_at row pair pairs true good rest = within row pair.1 (good refl)
+range_at row pair pairs false good rest = rest
+
+range_of : (mode : Mode) (row : OptionRow) → Fits mode row → IsWithin row row.usual → (pairs : List Pair) → list_all (is_pair mode) pairs ≡ true → IsWithin row (value_of pairs row)
+range_of mode row fits usual [] values = usual
+range_of mode row fits usual (pair ∷ pairs) values = range_at row pair pairs (bytes_eq row.name pair.0) (fits pair (and_left _ _ values)) (range_of mode row fits usual pairs (and_right _ _ values))
+
+ranges : (mode : Mode) (pairs : List Pair) → list_all (is_pair mode) pairs ≡ true → IsInRange (order_with mode (value_of pairs))
+ranges mode.Replay pairs values =
+    (range_of mode.Replay group_rows_row fits_group_rows (omega arith, omega arith) pairs values, range_of mode.Replay direct_rows_row fits_direct_rows (omega arith, omega arith) pairs values)
+ranges mode.Generate pairs values = (
+  range_of mode.Generate number_row fits_number (omega arith, omega arith) pairs values,
+  range_of mode.Generate sessions_row fits_sessions (omega arith, omega arith) pairs values,
+  range_of mode.Generate statements_row fits_statements (omega arith, omega arith) pairs values,
+)
+
+pub in_range : (words : Words) (order : Order) → IsOrder words order → IsInRange order
+in_range words order is = subst IsInRange (sym is.is) (ranges is.mode is.pairs is.values)

@@ -14,6 +14,12 @@ pub record OptionRow : Type 0 where
 
 -- ---- the table
 
+abbrev pub group_rows_row : OptionRow
+group_rows_row = record { name = codes "--group-rows"; least = 2; greatest = 1048576; usual = 1048576 }
+
+abbrev pub direct_rows_row : OptionRow
+direct_rows_row = record { name = codes "--direct-rows"; least = 1; greatest = 1048576; usual = 102400 }
+
 abbrev pub number_row : OptionRow
 number_row = record { name = codes "--number"; least = 0; greatest = 2147483647; usual = 1 }
 
@@ -34,7 +40,7 @@ name_of Generate = codes "generate"
 
 -- the options of a mode
 abbrev pub rows_of : Mode → List OptionRow
-rows_of Replay = []
+rows_of Replay = group_rows_row ∷ direct_rows_row ∷ []
 rows_of Generate = number_row ∷ sessions_row ∷ statements_row ∷ []
 
 -- ---- values

@@ -1,5 +1,5 @@
 -- Which order the words of the program are.
-use Rattle.std.specs.Prelude.{◌≡◌, ℕ, List, [], ◌∷◌, Bool, true, not, ◌&&◌, bytes_eq}
+use Rattle.std.specs.Prelude.{◌≡◌, ◌≤◌, ℕ, List, [], ◌∷◌, Bool, true, not, ◌&&◌, bytes_eq}
 use Rattle.std.specs.List.{list_all, list_any, find, flat_map}
 use Rattle.std.specs.Option.{option_map_or}
 use Rattle.cs_types.specs.Calendar.{digits_value}
@@ -7,7 +7,7 @@ use Rattle.command_words.specs.declared.mode.Mode.{Mode}
 use Rattle.command_words.specs.declared.mode.Mode.TheVariants as mode
 use Rattle.command_words.specs.declared.order.Order.{Order}
 use Rattle.command_words.specs.declared.order.Order.TheVariants as order
-use Rattle.command_words.specs.Options.{OptionRow, number_row, sessions_row, statements_row, name_of, rows_of, is_value}
+use Rattle.command_words.specs.Options.{OptionRow, group_rows_row, direct_rows_row, number_row, sessions_row, statements_row, name_of, rows_of, is_value}
 
 -- the words, each as its bytes
 abbrev pub Words : Type 0
@@ -40,8 +40,17 @@ value_of pairs row = option_map_or (λ (pair : Pair). digits_value pair.1) (find
 
 -- the order of a mode whose options have these values
 abbrev pub order_with : Mode → (OptionRow → ℕ) → Order
-order_with mode.Replay value = order.Replay
+order_with mode.Replay value = order.Replay (record { group_rows = value group_rows_row; direct_rows = value direct_rows_row })
 order_with mode.Generate value = order.Generate (record { number = value number_row; sessions = value sessions_row; statements = value statements_row })
+
+-- a value that an option may have
+abbrev pub IsWithin : OptionRow → ℕ → Type 0
+IsWithin row value = (row.least ≤ value) × (value ≤ row.greatest)
+
+-- each option of the order has such a value
+abbrev pub IsInRange : Order → Type 0
+IsInRange (order.Replay sizes) = IsWithin group_rows_row sizes.group_rows × IsWithin direct_rows_row sizes.direct_rows
+IsInRange (order.Generate workload) = IsWithin number_row workload.number × IsWithin sessions_row workload.sessions × IsWithin statements_row workload.statements
 
 -- the words are the order: a mode and pairs of an option of it and a value, no option twice
 pub record IsOrder (words : Words) (order : Order) : Type 0 where

@@ -3,8 +3,10 @@ ghost use Rattle.std.specs.Prelude.{◌≡◌, map, string_bytes};
 ghost use Rattle.command_words.specs.Options.{rows_of};
 ghost use Rattle.command_words.specs.Walk.{row_of, mode_named, order_in};
 
-use crate::option::{CommandOption, GENERATE, NUMBER, SESSIONS, STATEMENTS};
-use crate::order::{Order, Workload};
+use crate::option::{
+    CommandOption, DIRECT_ROWS, GENERATE, GROUP_ROWS, NUMBER, REPLAY, SESSIONS, STATEMENTS,
+};
+use crate::order::{GroupSizes, Order, Workload};
 use crate::pairs::{are_pairs, value_among};
 
 /// A mode of the program: what its first word says.
@@ -33,7 +35,7 @@ impl Mode {
         ensures { map row_of result.now ≡ rows_of self }
     {
         match self {
-            Mode::Replay => &[],
+            Mode::Replay => &REPLAY,
             Mode::Generate => &GENERATE,
         }
     }
@@ -46,7 +48,10 @@ impl Mode {
             return None;
         }
         Some(match self {
-            Mode::Replay => Order::Replay,
+            Mode::Replay => Order::Replay(GroupSizes {
+                group_rows: value_among(&GROUP_ROWS, words),
+                direct_rows: value_among(&DIRECT_ROWS, words),
+            }),
             Mode::Generate => Order::Generate(Workload {
                 number: value_among(&NUMBER, words),
                 sessions: value_among(&SESSIONS, words),

@@ -18,6 +18,22 @@ pub struct CommandOption {
     pub usual: u32,
 }
 
+/// The most versions of a row group.
+pub const GROUP_ROWS: CommandOption = CommandOption {
+    name: "--group-rows",
+    least: 2,
+    greatest: 1_048_576,
+    usual: 1_048_576,
+};
+
+/// From how many rows on a commit loads them directly.
+pub const DIRECT_ROWS: CommandOption = CommandOption {
+    name: "--direct-rows",
+    least: 1,
+    greatest: 1_048_576,
+    usual: 102_400,
+};
+
 /// The number that a workload is drawn from.
 pub const NUMBER: CommandOption = CommandOption {
     name: "--number",
@@ -41,6 +57,9 @@ pub const STATEMENTS: CommandOption = CommandOption {
     greatest: 200_000,
     usual: 1_000,
 };
+
+/// The options of the mode `replay`.
+pub const REPLAY: [CommandOption; 2] = [GROUP_ROWS, DIRECT_ROWS];
 
 /// The options of the mode `generate`.
 pub const GENERATE: [CommandOption; 3] = [NUMBER, SESSIONS, STATEMENTS];

@@ -1,8 +1,18 @@
 // What the program is to do.
 ghost use Rattle.std.specs.Prelude.{◌≡◌, map, string_bytes, IfSome, Some};
-ghost use Rattle.command_words.specs.Orders.{IsOrder};
+ghost use Rattle.command_words.specs.declared.order.Order.{Order};
+ghost use Rattle.command_words.specs.Orders.{Words, IsInRange, IsOrder};
 
 use crate::mode::Mode;
+
+/// How large row groups are.
+#[derive(Clone, Copy, Debug, PartialEq, Eq)]
+pub struct GroupSizes {
+    /// The most versions of a group, 2 to 1,048,576.
+    pub group_rows: u32,
+    /// From how many rows on a commit loads them directly, 1 to 1,048,576.
+    pub direct_rows: u32,
+}
 
 /// A workload that is drawn: a script of statements.
 #[derive(Clone, Copy, Debug, PartialEq, Eq)]
@@ -18,8 +28,8 @@ pub struct Workload {
 /// What the program is to do.
 #[derive(Clone, Copy, Debug, PartialEq, Eq)]
 pub enum Order {
-    /// Replay the script of the input.
-    Replay,
+    /// Replay the script of the input, with row groups so large.
+    Replay(GroupSizes),
     /// Write the script of a workload.
     Generate(Workload),
 }
@@ -39,3 +49,9 @@ impl Order {
         mode.order(pairs)
     }
 }
+
+/// An order that words are has values in the ranges of its options. The function does nothing: its contract is a law that is
+/// proved.
+pub fn orders_are_in_range()
+    ensures { (words : Words) (order : Order) → IsOrder words order → IsInRange order }
+{}
