@@ -6,6 +6,7 @@ use Rattle.cs_model.specs.State.{begin_of}
 use Rattle.cs_model.specs.Text.{text}
 use Rattle.script_reader.specs.declared.script.Script.{Script}
 use Rattle.script_reader.specs.Scripts.{IsScript, IsBadLine}
+use Rattle.group_book.specs.Commits.{Sizes}
 use Rattle.script_runner.specs.Logs.{IsLogOf}
 use Rattle.columnstore.specs.declared.status.Status.{Status}
 use Rattle.columnstore.specs.declared.status.Status.TheVariants as status
@@ -24,12 +25,16 @@ are_words (word ∷ other ∷ words) = false
 abbrev pub limit : ℕ
 limit = 16777216
 
--- the script was run, and this is the text of the log of its run
+-- how large row groups are: at most 1,048,576 versions, and loaded directly from 102,400 rows on
+abbrev pub usual_sizes : Sizes
+usual_sizes = record { group_rows = 1048576; direct_rows = 102400 }
+
+-- the script was run, with row groups so large, and this is the text of the log of its run
 pub record Performed (bytes whole : List ℕ) : Type 0 where
   pub script : Script
   pub log : List Entry
   pub reads : IsScript bytes script
-  pub run : IsLogOf script log
+  pub run : IsLogOf usual_sizes script log
   pub is : whole ≡ text (begin_of script.schema) log
 
 -- ` error <number>`, for a refused setup statement

@@ -6,7 +6,7 @@ ghost use Rattle.cs_model.specs.Text.{text};
 ghost use Rattle.script_reader.specs.declared.script.Script.{Script};
 ghost use Rattle.script_reader.specs.Scripts.{IsScript, IsRunnable};
 ghost use Rattle.script_runner.specs.Logs.{IsLogOf, IsMadeOf};
-ghost use Rattle.columnstore.specs.Outcome.{IsAnswered, setup_error_text, bad_line_text};
+ghost use Rattle.columnstore.specs.Outcome.{usual_sizes, IsAnswered, setup_error_text, bad_line_text};
 
 use crate::status::Status;
 use cs_base::Memory;
@@ -17,6 +17,12 @@ use script_runner::{Runner, run_schedule};
 use statement_core::Core;
 use statement_work::Clerk;
 use std::alloc::Global;
+
+/// The most versions of a row group.
+const GROUP_ROWS: u64 = 1_048_576;
+
+/// From how many rows on a commit loads them directly.
+const DIRECT_ROWS: u64 = 102_400;
 
 /// Adds the number of a refused setup statement.
 fn append_setup_error(number: u32, line: &mut Line) -> Result<(), Memory>
@@ -47,11 +53,18 @@ fn bad_line(alloc: Global, line: u64, reason: u32, number: u32) -> Result<Line, 
 fn runner_for(alloc: Global, script: &Script) -> Result<Runner, Memory>
     requires { IsRunnable script.now }
     ensures schema { IfOk result (λ runner. runner.schema ≡ script.now.schema) }
+    ensures sizes { IfOk result (λ runner. runner.sizes ≡ usual_sizes) }
     ensures log { IfOk result (λ runner. runner.log ≡ []) }
     ensures sessions { IfOk result (λ runner. runner.sessions ≡ script.now.sessions) }
 {
     let schema = script.schema.copy()?;
-    let core = Core::new(alloc, schema, script.sessions.as_slice())?;
+    let core = Core::new(
+        alloc,
+        schema,
+        GROUP_ROWS,
+        DIRECT_ROWS,
+        script.sessions.as_slice(),
+    )?;
     Runner::new(alloc, core)
 }
 
@@ -62,9 +75,9 @@ fn run(alloc: Global, runner: &mut Runner, script: &Script) -> Result<Line, Memo
     requires schema { runner.old.schema ≡ script.now.schema }
     requires log { runner.old.log ≡ [] }
     requires sessions { runner.old.sessions ≡ script.now.sessions }
-    ensures whole { IfOk result (λ line. IsLogOf script.now runner.new.log) }
+    ensures whole { IfOk result (λ line. IsLogOf runner.old.sizes script.now runner.new.log) }
     ensures text { IfOk result (λ line. line ≡ text (begin_of script.now.schema) runner.new.log) }
-    ensures made { IsMadeOf script.now runner.new.log }
+    ensures made { IsMadeOf runner.old.sizes script.now runner.new.log }
 {
     run_schedule(runner, script, &Clerk)?;
     print_log(alloc, runner.schema(), runner.log())
@@ -73,7 +86,7 @@ fn run(alloc: Global, runner: &mut Runner, script: &Script) -> Result<Line, Memo
 /// The text of the log of a run of a script.
 fn replay(alloc: Global, script: &Script) -> Result<Line, Memory>
     requires { IsRunnable script.now }
-    ensures text { IfOk result (λ line. (log : List Entry) × IsLogOf script.now log × (line ≡ text (begin_of script.now.schema) log)) }
+    ensures text { IfOk result (λ line. (log : List Entry) × IsLogOf usual_sizes script.now log × (line ≡ text (begin_of script.now.schema) log)) }
 {
     let mut runner = runner_for(alloc, script)?;
     run(alloc, &mut runner, script)

@@ -7,7 +7,9 @@ use Rattle.cs_model.specs.declared.entry.Entry.{Entry}
 use Rattle.cs_model.specs.declared.entry.Entry.TheVariants.{End}
 use Rattle.cs_types.specs.declared.Schema.{Schema}
 use Rattle.cs_model.specs.State.{State, Begin, begin_of}
-use Rattle.cs_model.specs.Steps.{Legal}
+use Rattle.group_book.specs.Book.{Book}
+use Rattle.group_book.specs.Commits.{Sizes}
+use Rattle.group_log.specs.Followed.{ground_of, Followed}
 use Rattle.cs_model.specs.Actors.{entries_of, is_begun, has_ended}
 use Rattle.script_reader.specs.declared.script.Script.{Script}
 use Rattle.script_reader.specs.declared.script.Step.{Step}
@@ -108,16 +110,28 @@ front_of script first steps log of_first of_steps x =
 
 -- ---- the log
 
-pub log_of : (script : Script) (schema : Schema) (log : List Entry) → IsRunnable script → schema ≡ script.schema → (m : State) × Legal (begin_of schema) log m → Scheduled script log → IsLogOf script log
-log_of script schema log can same legal x = record {
-  history = record { state = legal.0; legal = subst (λ s. Legal (begin_of s) log legal.0) same legal.1; turns = has_turns script log x.0 can x.1 x.2 };
+pub log_of : (sizes : Sizes) (script : Script) (schema : Schema) (now : Sizes) (log : List Entry) → IsRunnable script → schema ≡ script.schema → now ≡ sizes
+    → (m : State) × (book : Book) × Followed (ground_of schema now) log m book → Scheduled script log → IsLogOf sizes script log
+log_of sizes script schema now log can same sized legal x = record {
+  history = record {
+    state = legal.0;
+    book = legal.1;
+    followed = subst (λ s. Followed (ground_of s sizes) log legal.0 legal.1) same (subst (λ z. Followed (ground_of schema z) log legal.0 legal.1) sized legal.2);
+    turns = has_turns script log x.0 can x.1 x.2;
+  };
   scheduled = x;
 }
 
-pub front_log_of : (script : Script) (schema : Schema) (log : List Entry) → IsRunnable script → schema ≡ script.schema → (m : State) × Legal (begin_of schema) log m → IsFrontRun (begin_of script.schema) script.lines log
-    → IsFrontLogOf script log
-front_log_of script schema log can same legal x =
-    record { state = legal.0; legal = subst (λ s. Legal (begin_of s) log legal.0) same legal.1; lines = x.0; followed = x.1; turns = has_front_turns script x.0 log can x.1 }
+pub front_log_of : (sizes : Sizes) (script : Script) (schema : Schema) (now : Sizes) (log : List Entry) → IsRunnable script → schema ≡ script.schema → now ≡ sizes
+    → (m : State) × (book : Book) × Followed (ground_of schema now) log m book → IsFrontRun (begin_of script.schema) script.lines log → IsFrontLogOf sizes script log
+front_log_of sizes script schema now log can same sized legal x = record {
+  state = legal.0;
+  book = legal.1;
+  followed = subst (λ s. Followed (ground_of s sizes) log legal.0 legal.1) same (subst (λ z. Followed (ground_of schema z) log legal.0 legal.1) sized legal.2);
+  lines = x.0;
+  pieces = x.1;
+  turns = has_front_turns script x.0 log can x.1;
+}
 
 pub on_ok : {T E : Type 0} (P Q : Type 0) (r : Result T E) → (P → Q) → OnOk r P → OnOk r Q
 on_ok P Q (Ok x) f h = f h

@@ -9,54 +9,62 @@ use Rattle.cs_model.specs.declared.entry.Entry.TheVariants.{Start, Finish, End, 
 use Rattle.cs_types.specs.declared.Schema.{Schema}
 use Rattle.cs_model.specs.State.{Begin, begin_of, with}
 use Rattle.cs_model.specs.Actors.{actor_of, is_turn, entries_of, begun_by, is_begun}
-use Rattle.cs_model.specs.Held.{IsFitTable}
-use Rattle.cs_model.specs.Ready.{IsReady}
-use Rattle.log_laws.specs.Started.{IsStarted}
+use Rattle.group_book.specs.Commits.{Sizes}
+use Rattle.log_laws.specs.Started.{Begun, IsStarted}
 use Rattle.log_laws.proofs.StartedOn.{started_on}
 use Rattle.statement_core.specs.declared.started.Started.{Started}
 use Rattle.statement_core.specs.declared.started.Outcome.{Outcome}
+use Rattle.statement_core.specs.Begun.{Hands, MayWork}
 use Rattle.statement_core.specs.Outcomes.{GivesOn}
+use Rattle.statement_core.specs.Terms.{sizes_of}
 use Rattle.statement_core.specs.Cores.{IsDone, IsStartOf}
 use Rattle.script_reader.specs.Schedule.{IsBound, IsStart, IsFinishOf}
-use Rattle.script_runner.specs.Running.{IsWaiting, Waits}
+use Rattle.script_runner.specs.Running.{Awaits, IsWaiting, Waits}
 use Rattle.script_runner.proofs.Pieces.{Does, begun_after, finish_does}
 
 and_false : (b : Bool) → (b && false) ≡ false
 and_false true = refl
 and_false false = refl
 
-waiting_on : (begin : Begin) (log : List Entry) (e : Entry) (s : ℕ) (o : Option Started) → (actor_of e == s) ≡ false → IsWaiting begin log s o → IsWaiting begin (log ++ e ∷ []) s o
-waiting_on begin log e s None other k = k
-waiting_on begin log e s (Some started) other k =
-    (started_on begin log e s started.bound.value started.short started.rows.entries (ap (λ b. is_turn e && b) other ∙ and_false (is_turn e)) k.0, k.1, k.2)
+waiting_on : (sizes : Sizes) (begin : Begin) (log : List Entry) (e : Entry) (s : ℕ) (o : Option Started) → (actor_of e == s) ≡ false → IsWaiting sizes begin log s o → IsWaiting sizes begin (log ++ e ∷ []) s o
+waiting_on sizes begin log e s None other k = k
+waiting_on sizes begin log e s (Some started) other k =
+    record {
+      terms = k.terms;
+      sized = k.sized;
+      begun = k.begun;
+      hands = k.hands;
+      works = k.works;
+      is = started_on begin log e s k.begun (ap (λ b. is_turn e && b) other ∙ and_false (is_turn e)) k.is;
+    }
 
 -- another session's statement waits as before
-others_wait : (begin : Begin) (log : List Entry) (e : Entry) (n s : ℕ) (o o' : Option Started) (waiting : ℕ → Option Started) → (n == s) ≡ false → actor_of e ≡ n → waiting s ≡ o → o' ≡ o
-    → Waits begin log waiting → is_begun (entries_of s (log ++ e ∷ [])) ≡ true → IsWaiting begin (log ++ e ∷ []) s o'
-others_wait begin log e n s o o' waiting other actor at_s is waits begun =
+others_wait : (sizes : Sizes) (begin : Begin) (log : List Entry) (e : Entry) (n s : ℕ) (o o' : Option Started) (waiting : ℕ → Option Started) → (n == s) ≡ false → actor_of e ≡ n → waiting s ≡ o → o' ≡ o
+    → Waits sizes begin log waiting → is_begun (entries_of s (log ++ e ∷ [])) ≡ true → IsWaiting sizes begin (log ++ e ∷ []) s o'
+others_wait sizes begin log e n s o o' waiting other actor at_s is waits begun =
     let apart : (actor_of e == s) ≡ false = ap (λ k. k == s) actor ∙ other in
     let was : is_begun (entries_of s log) ≡ true = sym (begun_after log e s ∙ ap (λ t. cond t (begun_by (is_begun (entries_of s log)) e) (is_begun (entries_of s log))) apart) ∙ begun in
-    subst (λ x. IsWaiting begin (log ++ e ∷ []) s x) (at_s ∙ sym is) (waiting_on begin log e s (waiting s) apart (waits s was))
+    subst (λ x. IsWaiting sizes begin (log ++ e ∷ []) s x) (at_s ∙ sym is) (waiting_on sizes begin log e s (waiting s) apart (waits s was))
 
-waits_start : (begin : Begin) (log : List Entry) (e : Entry) (n : ℕ) (waiting after : ℕ → Option Started) (started : Started) → Waits begin log waiting → Does n true e
-    → IsWaiting begin (log ++ e ∷ []) n (Some started) → after ≡ with waiting n (Some started) → Waits begin (log ++ e ∷ []) after
-waits_start begin log e n waiting after started waits d is put = λ s begun. at s (s == n) refl begun
+waits_start : (sizes : Sizes) (begin : Begin) (log : List Entry) (e : Entry) (n : ℕ) (waiting after : ℕ → Option Started) (started : Started) → Waits sizes begin log waiting → Does n true e
+    → IsWaiting sizes begin (log ++ e ∷ []) n (Some started) → after ≡ with waiting n (Some started) → Waits sizes begin (log ++ e ∷ []) after
+waits_start sizes begin log e n waiting after started waits d is put = λ s begun. at s (s == n) refl begun
   where
-    at : (s : ℕ) (t : Bool) → (s == n) ≡ t → is_begun (entries_of s (log ++ e ∷ [])) ≡ true → IsWaiting begin (log ++ e ∷ []) s (after s)
+    at : (s : ℕ) (t : Bool) → (s == n) ≡ t → is_begun (entries_of s (log ++ e ∷ [])) ≡ true → IsWaiting sizes begin (log ++ e ∷ []) s (after s)
     at s true t begun =
         let same : n ≡ s = grind (arith, nat_tests) in
         let has : after s ≡ Some started = (λ i. put i s) ∙ ap (λ b. cond b (Some started) (waiting s)) t in
-        subst (λ o. IsWaiting begin (log ++ e ∷ []) s o) (sym has) (subst (λ k. IsWaiting begin (log ++ e ∷ []) k (Some started)) same is)
+        subst (λ o. IsWaiting sizes begin (log ++ e ∷ []) s o) (sym has) (subst (λ k. IsWaiting sizes begin (log ++ e ∷ []) k (Some started)) same is)
     at s false t begun =
         let other : (n == s) ≡ false = grind (arith, nat_tests) in
         let has : after s ≡ waiting s = (λ i. put i s) ∙ ap (λ b. cond b (Some started) (waiting s)) t in
-        others_wait begin log e n s (waiting s) (after s) waiting other d.actor refl has waits begun
+        others_wait sizes begin log e n s (waiting s) (after s) waiting other d.actor refl has waits begun
 
-waits_finish : (begin : Begin) (log : List Entry) (e : Entry) (n : ℕ) (waiting after : ℕ → Option Started) → Waits begin log waiting → Does n false e
-    → after ≡ with waiting n None → Waits begin (log ++ e ∷ []) after
-waits_finish begin log e n waiting after waits d put = λ s begun. at s (s == n) refl begun
+waits_finish : (sizes : Sizes) (begin : Begin) (log : List Entry) (e : Entry) (n : ℕ) (waiting after : ℕ → Option Started) → Waits sizes begin log waiting → Does n false e
+    → after ≡ with waiting n None → Waits sizes begin (log ++ e ∷ []) after
+waits_finish sizes begin log e n waiting after waits d put = λ s begun. at s (s == n) refl begun
   where
-    at : (s : ℕ) (t : Bool) → (s == n) ≡ t → is_begun (entries_of s (log ++ e ∷ [])) ≡ true → IsWaiting begin (log ++ e ∷ []) s (after s)
+    at : (s : ℕ) (t : Bool) → (s == n) ≡ t → is_begun (entries_of s (log ++ e ∷ [])) ≡ true → IsWaiting sizes begin (log ++ e ∷ []) s (after s)
     at s true t begun =
         let same : (n == s) ≡ true = grind (arith, nat_tests) in
         let its : (actor_of e == s) ≡ true = ap (λ k. k == s) d.actor ∙ same in
@@ -65,7 +73,7 @@ waits_finish begin log e n waiting after waits d put = λ s begun. at s (s == n)
     at s false t begun =
         let other : (n == s) ≡ false = grind (arith, nat_tests) in
         let has : after s ≡ waiting s = (λ i. put i s) ∙ ap (λ b. cond b None (waiting s)) t in
-        others_wait begin log e n s (waiting s) (after s) waiting other d.actor refl has waits begun
+        others_wait sizes begin log e n s (waiting s) (after s) waiting other d.actor refl has waits begun
 
 -- ---- a Start
 
@@ -86,48 +94,46 @@ pub begun_is : (begin : Begin) (log new : List Entry) (session : ℕ) (text : Li
     → (e : Entry) × (new ≡ log ++ e ∷ []) × IsStart begin log session text e
 begun_is begin log new session text b short x means = (x.0, x.1, start_is begin log session text b short x.0 x.2 means)
 
-pub waits_begun : (schema now : Schema) (log new : List Entry) (n : ℕ) (b : Bound) (waiting after : ℕ → Option Started) (started : Started) → Waits (begin_of schema) log waiting → now ≡ schema
-    → (e : Entry) × (new ≡ log ++ e ∷ []) × IsStartOf n b started.short e → IsStarted (begin_of now) new n started.bound.value started.short started.rows.entries → IsFitTable now started.rows.entries
-    → started.bound.value ≡ b → IsReady schema b → after ≡ with waiting n (Some started) → Waits (begin_of schema) new after
-waits_begun schema now log new n b waiting after started waits same x is fit bound ready put =
-    subst (λ es. Waits (begin_of schema) es after) (sym x.1)
-    (waits_start (begin_of schema) log x.0 n waiting after started waits (start_of_does n b started.short x.0 x.2)
-    (subst (λ es. IsWaiting (begin_of schema) es n (Some started)) x.1
-    (subst (λ k. IsWaiting (begin_of k) new n (Some started)) same (is, fit, subst (λ k. IsReady k started.bound.value) (sym same) (subst (IsReady schema) (sym bound) ready)))) put)
+pub waits_begun : (sizes : Sizes) (schema : Schema) (log new : List Entry) (n : ℕ) (b : Bound) (waiting after : ℕ → Option Started) (started : Started) → Waits sizes (begin_of schema) log waiting
+    → (e : Entry) × (new ≡ log ++ e ∷ []) × IsStartOf n b started.short e → Awaits sizes (begin_of schema) new n started → after ≡ with waiting n (Some started) → Waits sizes (begin_of schema) new after
+waits_begun sizes schema log new n b waiting after started waits x is put =
+    subst (λ es. Waits sizes (begin_of schema) es after) (sym x.1)
+    (waits_start sizes (begin_of schema) log x.0 n waiting after started waits (start_of_does n b started.short x.0 x.2)
+    (subst (λ es. Awaits sizes (begin_of schema) es n started) x.1 is) put)
 
 -- ---- a Finish
 
 pub finished_is : (log new : List Entry) (session : ℕ) → (r : Reply) × (new ≡ log ++ Finish session r ∷ []) → (e : Entry) × (new ≡ log ++ e ∷ []) × IsFinishOf session e
 finished_is log new session x = (Finish session x.0, x.1, refl)
 
-pub waits_finished : (begin : Begin) (log new : List Entry) (n : ℕ) (waiting after : ℕ → Option Started) → Waits begin log waiting → (r : Reply) × (new ≡ log ++ Finish n r ∷ [])
-    → after ≡ with waiting n None → Waits begin new after
-waits_finished begin log new n waiting after waits x put =
-    subst (λ es. Waits begin es after) (sym x.1) (waits_finish begin log (Finish n x.0) n waiting after waits (finish_does n (Finish n x.0) refl) put)
+pub waits_finished : (sizes : Sizes) (begin : Begin) (log new : List Entry) (n : ℕ) (waiting after : ℕ → Option Started) → Waits sizes begin log waiting → (r : Reply) × (new ≡ log ++ Finish n r ∷ [])
+    → after ≡ with waiting n None → Waits sizes begin new after
+waits_finished sizes begin log new n waiting after waits x put =
+    subst (λ es. Waits sizes begin es after) (sym x.1) (waits_finish sizes begin log (Finish n x.0) n waiting after waits (finish_does n (Finish n x.0) refl) put)
 
 -- what waits in the seat of a session that has begun a statement
-pub waits_there : (begin : Begin) (log : List Entry) (waiting : ℕ → Option Started) (s : ℕ) (started : Started) → Waits begin log waiting → is_begun (entries_of s log) ≡ true → waiting s ≡ Some started
-    → IsWaiting begin log s (Some started)
-waits_there begin log waiting s started waits begun e = subst (λ o. IsWaiting begin log s o) e (waits s begun)
+pub waits_there : (sizes : Sizes) (begin : Begin) (log : List Entry) (waiting : ℕ → Option Started) (s : ℕ) (started : Started) → Waits sizes begin log waiting → is_begun (entries_of s log) ≡ true → waiting s ≡ Some started
+    → IsWaiting sizes begin log s (Some started)
+waits_there sizes begin log waiting s started waits begun e = subst (λ o. IsWaiting sizes begin log s o) e (waits s begun)
 
-pub waiting_done : (begin : Begin) (log : List Entry) (s : ℕ) (started : Started) (o : Outcome) → IsWaiting begin log s (Some started)
-    → GivesOn begin.schema started.bound.value started.short started.rows.entries o → IsDone begin log s o
-waiting_done begin log s started o w g = record { bound = started.bound.value; short = started.short; rows = started.rows.entries; started = w.0; gives = g }
+pub waiting_done : (sizes : Sizes) (begin : Begin) (log : List Entry) (s : ℕ) (started : Started) (o : Outcome) → IsWaiting sizes begin log s (Some started)
+    → ((begun : Begun) → Hands begun started → MayWork begun → GivesOn (sizes_of started.terms.value) begun o) → IsDone begin sizes log s o
+waiting_done sizes begin log s started o w g = record { begun = w.begun; started = w.is; gives = subst (λ z. GivesOn z w.begun o) w.sized (g w.begun w.hands w.works) }
 
 -- ---- no statement half done, and an End
 
-pub waits_first : (begin : Begin) (log : List Entry) (waiting : ℕ → Option Started) → log ≡ [] → Waits begin log waiting
-waits_first begin log waiting e = λ s begun. let none : is_begun (entries_of s log) ≡ false = ap (λ es. is_begun (entries_of s es)) e in absurd (cc (none, begun))
+pub waits_first : (sizes : Sizes) (begin : Begin) (log : List Entry) (waiting : ℕ → Option Started) → log ≡ [] → Waits sizes begin log waiting
+waits_first sizes begin log waiting e = λ s begun. let none : is_begun (entries_of s log) ≡ false = ap (λ es. is_begun (entries_of s es)) e in absurd (cc (none, begun))
 
 -- no Start was made
-pub waits_same : (begin : Begin) (log new : List Entry) (waiting after : ℕ → Option Started) → Waits begin log waiting → new ≡ log → after ≡ waiting → Waits begin new after
-waits_same begin log new waiting after waits is same = subst (λ es. Waits begin es after) (sym is) (subst (Waits begin log) (sym same) waits)
+pub waits_same : (sizes : Sizes) (begin : Begin) (log new : List Entry) (waiting after : ℕ → Option Started) → Waits sizes begin log waiting → new ≡ log → after ≡ waiting → Waits sizes begin new after
+waits_same sizes begin log new waiting after waits is same = subst (λ es. Waits sizes begin es after) (sym is) (subst (Waits sizes begin log) (sym same) waits)
 
-pub waits_end : (begin : Begin) (log new : List Entry) (n : ℕ) (waiting : ℕ → Option Started) → Waits begin log waiting → new ≡ log ++ End n ∷ [] → Waits begin new waiting
-waits_end begin log new n waiting waits is = subst (λ es. Waits begin es waiting) (sym is) (λ s begun. at s (n == s) refl begun)
+pub waits_end : (sizes : Sizes) (begin : Begin) (log new : List Entry) (n : ℕ) (waiting : ℕ → Option Started) → Waits sizes begin log waiting → new ≡ log ++ End n ∷ [] → Waits sizes begin new waiting
+waits_end sizes begin log new n waiting waits is = subst (λ es. Waits sizes begin es waiting) (sym is) (λ s begun. at s (n == s) refl begun)
   where
-    at : (s : ℕ) (t : Bool) → (n == s) ≡ t → is_begun (entries_of s (log ++ End n ∷ [])) ≡ true → IsWaiting begin (log ++ End n ∷ []) s (waiting s)
+    at : (s : ℕ) (t : Bool) → (n == s) ≡ t → is_begun (entries_of s (log ++ End n ∷ [])) ≡ true → IsWaiting sizes begin (log ++ End n ∷ []) s (waiting s)
     at s true t begun =
         let none : is_begun (entries_of s (log ++ End n ∷ [])) ≡ false = begun_after log (End n) s ∙ ap (λ b. cond b false (is_begun (entries_of s log))) t in
         absurd (cc (none, begun))
-    at s false t begun = others_wait begin log (End n) n s (waiting s) (waiting s) waiting t refl refl refl waits begun
+    at s false t begun = others_wait sizes begin log (End n) n s (waiting s) (waiting s) waiting t refl refl refl waits begun

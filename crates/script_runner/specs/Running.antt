@@ -4,31 +4,40 @@ use Rattle.cs_model.specs.declared.entry.Entry.{Entry}
 use Rattle.cs_model.specs.declared.entry.Entry.TheVariants.{End}
 use Rattle.cs_model.specs.Actors.{entries_of, is_begun, has_ended}
 use Rattle.cs_model.specs.State.{Begin}
-use Rattle.cs_model.specs.Ready.{IsReady}
-use Rattle.cs_model.specs.Held.{IsFitTable}
+use Rattle.group_book.specs.Commits.{Sizes}
 use Rattle.log_laws.specs.Laws.{AreDistinct}
-use Rattle.log_laws.specs.Started.{IsStarted}
+use Rattle.log_laws.specs.Started.{Begun, IsStarted}
 use Rattle.script_reader.specs.declared.script.Step.{Step}
-use Rattle.script_reader.specs.declared.script.Step.TheVariants.{Whole, Begun, Finished}
+use Rattle.script_reader.specs.declared.script.Step.TheVariants as step
 use Rattle.script_reader.specs.Scripts.{session_of, text_of, half_done, ArePaired}
 use Rattle.script_reader.specs.Schedule.{ArePieces}
 use Rattle.statement_core.specs.declared.started.Started.{Started}
+use Rattle.statement_core.specs.Begun.{Hands, MayWork}
+use Rattle.statement_core.specs.Terms.{sizes_of, AreTerms}
+
+-- a session has begun a statement, and what was started is handed what its work stands on
+pub record Awaits (sizes : Sizes) (begin : Begin) (log : List Entry) (session : ℕ) (started : Started) : Type 0 where
+  pub terms : AreTerms started.terms.value
+  pub sized : sizes_of started.terms.value ≡ sizes
+  pub begun : Begun
+  pub hands : Hands begun started
+  pub works : MayWork begun
+  pub is : IsStarted begin log session begun
 
 -- what a session has started is known to be so
-abbrev pub IsWaiting : Begin → List Entry → ℕ → Option Started → Type 0
-IsWaiting begin log session None = ⊥
-IsWaiting begin log session (Some started) =
-    IsStarted begin log session started.bound.value started.short started.rows.entries × IsFitTable begin.schema started.rows.entries × IsReady begin.schema started.bound.value
+abbrev pub IsWaiting : Sizes → Begin → List Entry → ℕ → Option Started → Type 0
+IsWaiting sizes begin log session None = ⊥
+IsWaiting sizes begin log session (Some started) = Awaits sizes begin log session started
 
 -- what was started stands ready for each statement that is half done
-abbrev pub Waits : Begin → List Entry → (ℕ → Option Started) → Type 0
-Waits begin log waiting = (session : ℕ) → is_begun (entries_of session log) ≡ true → IsWaiting begin log session (waiting session)
+abbrev pub Waits : Sizes → Begin → List Entry → (ℕ → Option Started) → Type 0
+Waits sizes begin log waiting = (session : ℕ) → is_begun (entries_of session log) ≡ true → IsWaiting sizes begin log session (waiting session)
 
 -- whether a step finishes a statement that was started before it
 abbrev pub finishes : Step → Bool
-finishes (Whole session text) = false
-finishes (Begun session text) = false
-finishes (Finished session) = true
+finishes (step.Whole session text) = false
+finishes (step.Begun session text) = false
+finishes (step.Finished session) = true
 
 -- these steps can be run by a core that serves these sessions
 pub record AreRunnable (sessions : List ℕ) (steps : List Step) : Type 0 where

@@ -23,6 +23,7 @@ fn run_steps<D: Desk>(runner: &mut Runner, steps: &[Step], desk: &D) -> Result<(
     ensures ran { OnOk result (Running (begin_of runner.old.schema) runner.new.log steps.now []) }
     ensures front { OnErr result (IsFrontRun (begin_of runner.old.schema) steps.now runner.new.log) }
     ensures schema { runner.new.schema ≡ runner.old.schema }
+    ensures sizes { runner.new.sizes ≡ runner.old.sizes }
     ensures sessions { runner.new.sessions ≡ runner.old.sessions }
 {
     for step in steps {
@@ -39,6 +40,7 @@ fn end_sessions(runner: &mut Runner, sessions: &[u32])
     requires going { (session : ℕ) → has_ended (entries_of session runner.old.log) ≡ false }
     ensures log { runner.new.log ≡ runner.old.log ++ map End sessions.now }
     ensures schema { runner.new.schema ≡ runner.old.schema }
+    ensures sizes { runner.new.sizes ≡ runner.old.sizes }
     ensures sessions { runner.new.sessions ≡ runner.old.sessions }
 {
     for session in sessions {
@@ -55,6 +57,7 @@ fn run_script<D: Desk>(runner: &mut Runner, script: &Script, desk: &D) -> Result
     ensures scheduled { OnOk result (Scheduled script.now runner.new.log) }
     ensures front { OnErr result (IsFrontRun (begin_of script.now.schema) script.now.lines runner.new.log) }
     ensures schema { runner.new.schema ≡ runner.old.schema }
+    ensures sizes { runner.new.sizes ≡ runner.old.sizes }
     ensures sessions { runner.new.sessions ≡ runner.old.sessions }
 {
     run_steps(runner, script.lines.as_slice(), desk)?;
@@ -70,9 +73,10 @@ pub fn run_schedule<D: Desk>(runner: &mut Runner, script: &Script, desk: &D) -> 
     requires empty { runner.old.log ≡ [] }
     requires schema { runner.old.schema ≡ script.now.schema }
     requires known { All (λ session. Contains runner.old.sessions session) script.now.sessions }
-    ensures log { OnOk result (IsLogOf script.now runner.new.log) }
-    ensures front { OnErr result (IsFrontLogOf script.now runner.new.log) }
+    ensures log { OnOk result (IsLogOf runner.old.sizes script.now runner.new.log) }
+    ensures front { OnErr result (IsFrontLogOf runner.old.sizes script.now runner.new.log) }
     ensures schema { runner.new.schema ≡ runner.old.schema }
+    ensures sizes { runner.new.sizes ≡ runner.old.sizes }
     ensures sessions { runner.new.sessions ≡ runner.old.sessions }
 {
     let result = run_script(runner, script, desk);

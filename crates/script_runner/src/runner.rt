@@ -6,7 +6,8 @@ ghost use Rattle.cs_model.specs.declared.entry.Entry.TheVariants.{End};
 ghost use Rattle.cs_model.specs.Actors.{entries_of, is_begun, has_ended};
 ghost use Rattle.cs_model.specs.Ready.{IsReady};
 ghost use Rattle.cs_model.specs.State.{State, begin_of};
-ghost use Rattle.cs_model.specs.Steps.{Legal};
+ghost use Rattle.group_book.specs.Book.{Book};
+ghost use Rattle.group_log.specs.Followed.{ground_of, Followed};
 ghost use Rattle.cs_model.specs.Text.{IsPrintableEntry};
 ghost use Rattle.script_reader.specs.Schedule.{IsBound, IsStart, IsFinishOf, IsPiece};
 ghost use Rattle.script_reader.specs.Scripts.{session_of, text_of};
@@ -46,11 +47,12 @@ fn begin(
     requires known { Contains core.old.sessions session }
     requires rests { is_begun (entries_of session core.old.log) ≡ false }
     requires going { has_ended (entries_of session core.old.log) ≡ false }
-    requires waits { Waits (begin_of core.old.schema) core.old.log (seat waiting.old) }
+    requires waits { Waits core.old.sizes (begin_of core.old.schema) core.old.log (seat waiting.old) }
     requires short { length text.now ≤ 65_536 }
     ensures log { OnOk result ((e : Entry) × (core.new.log ≡ core.old.log ++ e ∷ []) × IsStart (begin_of core.old.schema) core.old.log session text.now e) }
-    ensures waits { Waits (begin_of core.old.schema) core.new.log (seat waiting.new) }
+    ensures waits { Waits core.old.sizes (begin_of core.old.schema) core.new.log (seat waiting.new) }
     ensures schema { core.new.schema ≡ core.old.schema }
+    ensures sizes { core.new.sizes ≡ core.old.sizes }
     ensures sessions { core.new.sessions ≡ core.old.sessions }
     ensures err { OnErr result (core.new.log ≡ core.old.log) }
 {
@@ -72,15 +74,18 @@ fn finish<D: Desk>(
     requires schema { IsSchema core.old.schema }
     requires known { Contains core.old.sessions session }
     requires begun { is_begun (entries_of session core.old.log) ≡ true }
-    requires waits { Waits (begin_of core.old.schema) core.old.log (seat waiting.old) }
+    requires waits { Waits core.old.sizes (begin_of core.old.schema) core.old.log (seat waiting.old) }
     ensures log { (e : Entry) × (core.new.log ≡ core.old.log ++ e ∷ []) × IsFinishOf session e }
-    ensures waits { Waits (begin_of core.old.schema) core.new.log (seat waiting.new) }
+    ensures waits { Waits core.old.sizes (begin_of core.old.schema) core.new.log (seat waiting.new) }
     ensures schema { core.new.schema ≡ core.old.schema }
+    ensures sizes { core.new.sizes ≡ core.old.sizes }
     ensures sessions { core.new.sessions ≡ core.old.sessions }
 {
     match waiting.set(session, None) {
         Some(started) => {
-            let outcome = desk.work(alloc, core.schema(), &started);
+            let outcome = desk.work(alloc, &started);
+            // What was started shares the own writes and the groups, which else would be copied.
+            drop(started);
             core.finish(session, outcome);
         }
         None => unreachable!(),
@@ -100,11 +105,12 @@ fn run_step<D: Desk>(
     requires known { Contains core.old.sessions (session_of step.now) }
     requires follows { is_begun (entries_of (session_of step.now) core.old.log) ≡ finishes step.now }
     requires going { has_ended (entries_of (session_of step.now) core.old.log) ≡ false }
-    requires waits { Waits (begin_of core.old.schema) core.old.log (seat waiting.old) }
+    requires waits { Waits core.old.sizes (begin_of core.old.schema) core.old.log (seat waiting.old) }
     requires short { length (text_of step.now) ≤ 65_536 }
     ensures piece { OnOk result ((piece : List Entry) × IsPiece (begin_of core.old.schema) core.old.log step.now piece × (core.new.log ≡ core.old.log ++ piece)) }
-    ensures waits { Waits (begin_of core.old.schema) core.new.log (seat waiting.new) }
+    ensures waits { Waits core.old.sizes (begin_of core.old.schema) core.new.log (seat waiting.new) }
     ensures schema { core.new.schema ≡ core.old.schema }
+    ensures sizes { core.new.sizes ≡ core.old.sizes }
     ensures sessions { core.new.sessions ≡ core.old.sessions }
     ensures err { OnErr result (core.new.log ≡ core.old.log) }
 {
@@ -123,7 +129,7 @@ fn run_step<D: Desk>(
 }
 
 /// Runs the steps of sessions over a core, one by one; what a session has started and not finished waits in it. It is seen as
-/// its core: the table, the log of the events, and the sessions that it serves.
+/// its core: the table, how large groups are, the log of the events, and the sessions that it serves.
 #[derive(Drop)]
 pub struct Runner {
     alloc: Global,
@@ -148,7 +154,7 @@ impl Model for Runner {
     ghost use Rattle.statement_core.specs.Seats.{seat};
     ghost use Rattle.script_runner.specs.Running.{Waits};
 
-    ghost invariant = { λ r. Waits (begin_of r.core.schema) r.core.log (seat r.waiting) };
+    ghost invariant = { λ r. Waits r.core.sizes (begin_of r.core.schema) r.core.log (seat r.waiting) };
 }
 
 impl Runner {
@@ -177,6 +183,7 @@ impl Runner {
         requires short { length (text_of step.now) ≤ 65_536 }
         ensures piece { OnOk result ((piece : List Entry) × IsPiece (begin_of self.old.schema) self.old.log step.now piece × (self.new.log ≡ self.old.log ++ piece)) }
         ensures schema { self.new.schema ≡ self.old.schema }
+        ensures sizes { self.new.sizes ≡ self.old.sizes }
         ensures sessions { self.new.sessions ≡ self.old.sessions }
         ensures err { OnErr result (self.new.log ≡ self.old.log) }
     {
@@ -190,6 +197,7 @@ impl Runner {
         requires going { has_ended (entries_of session self.old.log) ≡ false }
         ensures log { self.new.log ≡ self.old.log ++ End session ∷ [] }
         ensures schema { self.new.schema ≡ self.old.schema }
+        ensures sizes { self.new.sizes ≡ self.old.sizes }
         ensures sessions { self.new.sessions ≡ self.old.sessions }
     {
         self.core.end(session);
@@ -202,10 +210,10 @@ impl Runner {
         self.core.schema()
     }
 
-    /// The log of the events, which is legal and can be printed.
+    /// The log of the events, which the row model and the book of groups follow, and which can be printed.
     pub fn log(&self) -> &[Entry]
         ensures log { result.now ≡ self.now.log }
-        ensures legal { (m : State) × Legal (begin_of self.now.schema) self.now.log m }
+        ensures followed { (m : State) × (book : Book) × Followed (ground_of self.now.schema self.now.sizes) self.now.log m book }
         ensures printable { All (IsPrintableEntry self.now.schema) self.now.log }
     {
         self.core.log()

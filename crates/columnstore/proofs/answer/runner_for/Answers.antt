@@ -1,13 +1,14 @@
-use Rattle.std.proofs.Common.{sym, subst, All, length, ◌<◌, ◌≤◌}
+use Rattle.std.proofs.Common.{sym, subst, All, length, ◌<◌, ◌≤◌, arith}
+use Rattle.cs_types.specs.Schemas.{IsSchema}
 use Rattle.log_laws.specs.Laws.{AreDistinct}
 use Rattle.script_runner.proofs.Sessions.{sessions_below, sessions_few, sessions_distinct}
 use Rattle.columnstore.proofs.answer.runner_for.Goals as goal
 
-pub new-requires-clause-numbers : goal.new-requires-clause-numbers
-new-requires-clause-numbers c = subst (All (λ session. session < 65)) (sym c.as_slice.ensures) (sessions_below c.args.script.now c.requires)
-
-pub new-requires-clause-few : goal.new-requires-clause-few
-new-requires-clause-few c = subst (λ sessions. length sessions ≤ 64) (sym c.as_slice.ensures) (sessions_few c.args.script.now c.requires)
-
-pub new-requires-clause-distinct : goal.new-requires-clause-distinct
-new-requires-clause-distinct c = subst AreDistinct (sym c.as_slice.ensures) (sessions_distinct c.args.script.now c.requires)
+pub new-requires : goal.new-requires
+new-requires c = record {
+  table = subst IsSchema (sym c.in_ok-schema.ensures) c.requires.schema;
+  sizes = record { least_group = omega arith; most_group = omega arith; least_direct = omega arith; most_direct = omega arith };
+  numbers = subst (All (λ session. session < 65)) (sym c.as_slice.ensures) (sessions_below c.args.script.now c.requires);
+  few = subst (λ sessions. length sessions ≤ 64) (sym c.as_slice.ensures) (sessions_few c.args.script.now c.requires);
+  distinct = subst AreDistinct (sym c.as_slice.ensures) (sessions_distinct c.args.script.now c.requires);
+}

@@ -10,12 +10,12 @@ pub returns-clause-log : goal.returns-clause-log
 returns-clause-log g c =
     let script = c.args.script.now in
     let log = c.run_script-result.new.runner.log in
-    on_ok (Scheduled script log) (IsLogOf script log) c.run_script-result.result
-    (log_of script c.run_script-result.new.runner.schema log c.requires.runnable (c.run_script-result.ensures.schema ∙ c.requires.schema) c.log-log.ensures.legal) c.run_script-result.ensures.scheduled
+    on_ok (Scheduled script log) (IsLogOf c.args.runner.now.sizes script log) c.run_script-result.result
+    (log_of c.args.runner.now.sizes script c.run_script-result.new.runner.schema c.run_script-result.new.runner.sizes log c.requires.runnable (c.run_script-result.ensures.schema ∙ c.requires.schema) c.run_script-result.ensures.sizes c.log-log.ensures.followed) c.run_script-result.ensures.scheduled
 
 pub returns-clause-front : goal.returns-clause-front
 returns-clause-front g c =
     let script = c.args.script.now in
     let log = c.run_script-result.new.runner.log in
-    on_err (IsFrontRun (begin_of script.schema) script.lines log) (IsFrontLogOf script log) c.run_script-result.result
-    (front_log_of script c.run_script-result.new.runner.schema log c.requires.runnable (c.run_script-result.ensures.schema ∙ c.requires.schema) c.log-log.ensures.legal) c.run_script-result.ensures.front
+    on_err (IsFrontRun (begin_of script.schema) script.lines log) (IsFrontLogOf c.args.runner.now.sizes script log) c.run_script-result.result
+    (front_log_of c.args.runner.now.sizes script c.run_script-result.new.runner.schema c.run_script-result.new.runner.sizes log c.requires.runnable (c.run_script-result.ensures.schema ∙ c.requires.schema) c.run_script-result.ensures.sizes c.log-log.ensures.followed) c.run_script-result.ensures.front

@@ -10,6 +10,7 @@ use Rattle.script_runner.proofs.run.run_steps.Goals as goal
 pub loop-step-init : goal.loop-step-init
 loop-step-init g c = record {
   schema = refl;
+  sizes = refl;
   sessions = refl;
   running = running_first (begin_of c.args.runner.now.schema) c.args.runner.now.log c.args.steps.now c.requires.empty c.requires.steps.paired;
 }
@@ -32,6 +33,7 @@ loop-step-preserved g c =
     let kept = c.loop-step.invariant in
     record {
       schema = c.step.ensures.schema ∙ kept.schema;
+      sizes = c.step.ensures.sizes ∙ kept.sizes;
       sessions = c.step.ensures.sessions ∙ kept.sessions;
       running = step_more (begin_of c.args.runner.now.schema) c.args.steps.now c.loop-step.step-index c.step-item.result c.loop-step-test.true c.step-item.is c.loop-step.runner.log kept.running
           (begin_of c.loop-step.runner.schema) c.step.new.self.log (ap begin_of kept.schema) c.in_ok-step.ensures.piece;

@@ -1,6 +1,7 @@
-use Rattle.std.proofs.Common.{refl, subst}
+use Rattle.std.proofs.Common.{refl, subst, ◌∙◌}
 use Rattle.cs_model.specs.Ready.{IsReady}
 use Rattle.cs_model.specs.State.{begin_of}
+use Rattle.log_laws.specs.Started.{IsStarted}
 use Rattle.script_reader.specs.Schedule.{IsBound}
 use Rattle.statement_core.specs.Seats.{seat}
 use Rattle.script_runner.proofs.Waiting.{begun_is, waits_begun, waits_same}
@@ -17,9 +18,10 @@ returns-clause-log c =
 pub returns-clause-waits : goal.returns-clause-waits
 returns-clause-waits c =
     let x = c.in_ok-started.ensures in
-    waits_begun c.args.core.now.schema c.start.new.self.schema c.args.core.now.log c.start.new.self.log c.args.session c.bound_of-bound.result (seat c.args.waiting.now) (seat c.set.new.self) c.in_ok-started.started
-    c.requires.waits x.schema x.log x.started x.fit x.bound (subst (λ s. IsReady s c.bound_of-bound.result) c.schema.ensures c.bound_of-bound.ensures.ready) c.set.ensures.after
+    waits_begun c.args.core.now.sizes c.args.core.now.schema c.args.core.now.log c.start.new.self.log c.args.session c.bound_of-bound.result (seat c.args.waiting.now) (seat c.set.new.self) c.in_ok-started.started
+    c.requires.waits x.log (record { terms = x.terms.0; sized = x.terms.1 ∙ x.sizes; begun = x.started.0; hands = x.started.1; works = x.started.2; is = subst (λ s. IsStarted (begin_of s) c.start.new.self.log c.args.session x.started.0) x.schema x.started.3 })
+    c.set.ensures.after
 
 pub returns-in_err-started-clause-waits : goal.returns-in_err-started-clause-waits
 returns-in_err-started-clause-waits c =
-    waits_same (begin_of c.args.core.now.schema) c.args.core.now.log c.start.new.self.log (seat c.args.waiting.now) (seat c.args.waiting.now) c.requires.waits c.in_err-started.ensures.err refl
+    waits_same c.args.core.now.sizes (begin_of c.args.core.now.schema) c.args.core.now.log c.start.new.self.log (seat c.args.waiting.now) (seat c.args.waiting.now) c.requires.waits c.in_err-started.ensures.err refl

@@ -7,5 +7,6 @@ use Rattle.script_runner.proofs.runner.Runner.end.Goals as goal
 
 pub invariant_of-self : goal.invariant_of-self
 invariant_of-self c =
-    subst (λ s. Waits (begin_of s) c.end.new.self.log (seat c.self.inside.waiting)) (sym c.end.ensures.schema)
-    (waits_end (begin_of c.self.inside.core.schema) c.self.inside.core.log c.end.new.self.log c.args.session (seat c.self.inside.waiting) c.self.invariant c.end.ensures.log)
+    subst (λ z. Waits z (begin_of c.end.new.self.schema) c.end.new.self.log (seat c.self.inside.waiting)) (sym c.end.ensures.sizes)
+    (subst (λ s. Waits c.self.inside.core.sizes (begin_of s) c.end.new.self.log (seat c.self.inside.waiting)) (sym c.end.ensures.schema)
+    (waits_end c.self.inside.core.sizes (begin_of c.self.inside.core.schema) c.self.inside.core.log c.end.new.self.log c.args.session (seat c.self.inside.waiting) c.self.invariant c.end.ensures.log))

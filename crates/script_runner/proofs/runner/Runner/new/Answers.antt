@@ -4,4 +4,4 @@ use Rattle.script_runner.proofs.Waiting.{waits_first}
 use Rattle.script_runner.proofs.runner.Runner.new.Goals as goal
 
 pub invariant_of-result : goal.invariant_of-result
-invariant_of-result c = waits_first (begin_of c.args.core.schema) c.args.core.log (seat c.in_ok-waiting.waiting) c.requires
+invariant_of-result c = waits_first c.args.core.sizes (begin_of c.args.core.schema) c.args.core.log (seat c.in_ok-waiting.waiting) c.requires
