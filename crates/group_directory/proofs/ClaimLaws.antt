@@ -8,7 +8,7 @@ use Rattle.cs_types.specs.declared.Key.{Key}
 use Rattle.cs_model.specs.declared.work.Actor.{Actor}
 use Rattle.cs_model.specs.Changes.{Change}
 use Rattle.group_book.specs.Book as book
-use Rattle.group_book.specs.Book.{Content, Book, is_opened}
+use Rattle.group_book.specs.Book.{Content, Book, is_compressed, is_opened}
 use Rattle.group_book.specs.Book.{Choice as kinds}
 use Rattle.group_book.specs.Book.{Content as shape}
 use Rattle.group_book.specs.Choices.{flushable, flush_sources, after_choice}
@@ -31,13 +31,14 @@ use Rattle.std.proofs.lemmas.Grind.{flat_map-append}
 use Rattle.group_view.specs.Parts.{ArePacked, Rowed, IsFitting}
 use Rattle.group_view.specs.Views.{endings_of, rowed_of}
 use Rattle.group_view.specs.Books.{versions_of, group_of, choice_of, claim_of, book_of, rowed_in_content, StandsAsLent}
+use Rattle.group_view.specs.Claims.{IsPackedPart}
 use Rattle.group_view.specs.Lists.{is_listed, listed, packed_of, packed_in, IsOpenAt, IsHeld}
 use Rattle.group_directory.specs.declared.claims.Turn.{Turn}
 use Rattle.group_directory.specs.declared.directory.Directory.{Directory}
 use Rattle.group_directory.specs.declared.movers.Claimed.TheVariants.{Lent}
 use Rattle.group_directory.specs.Calls.{IsAsBefore}
 use Rattle.group_directory.specs.Claimed.{IsTurnOf, IsTaken, IsSound}
-use Rattle.group_directory.specs.Claiming.{PartValue, valued, IsShareOf}
+use Rattle.group_directory.specs.Claiming.{PartValue, part_value, valued, IsShareOf}
 use Rattle.group_directory.specs.Claiming.PartValue.{PackedValue, StoreValue}
 use Rattle.group_directory.specs.Lending.{Keeps, place_of}
 use Rattle.group_directory.specs.Lent.{GroupsStay}
@@ -52,7 +53,7 @@ use Rattle.group_directory.proofs.LendLaws.{Rises, InOrder, IsDrawn, choice_in, 
 use Rattle.group_directory.proofs.LentLaws.{all_lent, each_held, lent_same, shared_ids, stay_claimed, stay_grown}
 use Rattle.group_directory.proofs.LookLaws.{stands_looked}
 use Rattle.group_directory.proofs.OpenLemmas.{IsShut}
-use Rattle.group_directory.proofs.PackedLaws.{packed_same}
+use Rattle.group_directory.proofs.PackedLaws.{packed_same, packed_view}
 use Rattle.group_directory.proofs.Shared.{map-through, same_groups, same_listed, same_open}
 use Rattle.group_directory.proofs.StandLaws.{stands_moved, floor_given}
 
@@ -76,30 +77,52 @@ share_claim actor claim other share = λ i. record {
     ids : map (λ (group : ℕ × GroupPart). group.0) other.view.groups ≡ map (λ (group : ℕ × GroupPart). group.0) claim.view.groups
     ids = sym (shared_ids other.view.groups) ∙ ap (map (λ (group : ℕ × PartValue). group.0)) share.groups ∙ shared_ids claim.view.groups
 
--- what fits is seen by what is shared
-abbrev FitsValue : ℕ × PartValue → Type 0
-FitsValue (id, PackedValue group marks) = length marks ≡ length group.rows
-FitsValue (id, StoreValue versions) = Unit {0}
-
-abbrev FitsPart : ℕ × GroupPart → Type 0
-FitsPart part = IsFitting part.1
-
-fits_to : (p : ℕ × GroupPart) → FitsPart p → FitsValue (valued p)
-fits_to (id, part.Packed group marks) fits = fits
-fits_to (id, part.Store store) fits = tt
-
-fits_from : (p : ℕ × GroupPart) → FitsValue (valued p) → FitsPart p
-fits_from (id, part.Packed group marks) fits = fits
-fits_from (id, part.Store store) fits = tt
-
 map_all : {X Y : Type 0} (Q : Y → Type 0) (f : X → Y) (xs : List X) → AllByRecursion (λ x. Q (f x)) xs → AllByRecursion Q (map f xs)
 map_all Q f [] all = tt
 map_all Q f (x ∷ xs) all = (all.0, map_all Q f xs all.1)
 
+-- what is said of a claim's parts by what is shared is true of those of a share
+pub shared_parts : (P : GroupPart → Type 0) (Q : PartValue → Type 0) → ((part : GroupPart) → P part → Q (part_value part)) → ((part : GroupPart) → Q (part_value part) → P part)
+    → (claim other : Claim) → IsShareOf claim other → All (λ (p : ℕ × GroupPart). P p.1) claim.view.groups → All (λ (p : ℕ × GroupPart). P p.1) other.view.groups
+shared_parts P Q to from claim other share all = All-from_recursion OfPart other.view.groups
+    (weaker (λ (p : ℕ × GroupPart). OfValue (valued p)) OfPart other.view.groups (λ p. from p.1) (all-mapped OfValue valued other.view.groups
+    (subst (AllByRecursion OfValue) (sym share.groups) (map_all OfValue valued claim.view.groups (weaker OfPart (λ (p : ℕ × GroupPart). OfValue (valued p)) claim.view.groups (λ p. to p.1) (recursion_from_All OfPart claim.view.groups all))))))
+  where
+    OfPart : ℕ × GroupPart → Type 0
+    OfPart p = P p.1
+
+    OfValue : ℕ × PartValue → Type 0
+    OfValue v = Q v.1
+
+abbrev FitsValue : PartValue → Type 0
+FitsValue (PackedValue group marks) = length marks ≡ length group.rows
+FitsValue (StoreValue versions) = Unit {0}
+
+fits_to : (p : GroupPart) → IsFitting p → FitsValue (part_value p)
+fits_to (part.Packed group marks) fits = fits
+fits_to (part.Store store) fits = tt
+
+fits_from : (p : GroupPart) → FitsValue (part_value p) → IsFitting p
+fits_from (part.Packed group marks) fits = fits
+fits_from (part.Store store) fits = tt
+
 pub share_fits : (claim other : Claim) → IsShareOf claim other → All (λ (p : ℕ × GroupPart). IsFitting p.1) claim.view.groups → All (λ (p : ℕ × GroupPart). IsFitting p.1) other.view.groups
-share_fits claim other share fits = All-from_recursion FitsPart other.view.groups
-    (weaker (λ (p : ℕ × GroupPart). FitsValue (valued p)) FitsPart other.view.groups fits_from (all-mapped FitsValue valued other.view.groups
-    (subst (AllByRecursion FitsValue) (sym share.groups) (map_all FitsValue valued claim.view.groups (weaker FitsPart (λ (p : ℕ × GroupPart). FitsValue (valued p)) claim.view.groups fits_to (recursion_from_All FitsPart claim.view.groups fits))))))
+share_fits claim other share fits = shared_parts IsFitting FitsValue fits_to fits_from claim other share fits
+
+abbrev IsPackedValue : PartValue → Type 0
+IsPackedValue (PackedValue group marks) = Unit {0}
+IsPackedValue (StoreValue versions) = ⊥
+
+packed_to : (p : GroupPart) → IsPackedPart p → IsPackedValue (part_value p)
+packed_to (part.Packed group marks) is = tt
+packed_to (part.Store store) is = is
+
+packed_from : (p : GroupPart) → IsPackedValue (part_value p) → IsPackedPart p
+packed_from (part.Packed group marks) is = tt
+packed_from (part.Store store) is = is
+
+pub share_packed : (claim other : Claim) → IsShareOf claim other → All (λ (p : ℕ × GroupPart). IsPackedPart p.1) claim.view.groups → All (λ (p : ℕ × GroupPart). IsPackedPart p.1) other.view.groups
+share_packed claim other share all = shared_parts IsPackedPart IsPackedValue packed_to packed_from claim other share all
 
 -- ---- the place of a new group
 
@@ -264,6 +287,13 @@ module _ (directory : Directory) (cs : List Change) (j : Stands directory cs) wh
         packed_kept : packed_in list.groups.items ≡ packed_in directory.list.groups.items
         packed_kept = packed_same list.groups.items (items ++ place_of fresh) k.seen_groups ∙ packed_place fresh items
 
+        -- a flush claims packed groups alone
+        flush_packed : kind ≡ kinds.Flush → All (λ (p : ℕ × GroupPart). IsPackedPart p.1) k.kept.view.groups
+        flush_packed flush = packed_view (picks sources) items k.kept.view.groups k.lends.view.groups k.lends.view.packed
+            (all-mapped (λ (group : book.Group). is_id_of sources group ≡ true → is_compressed group.content ≡ true) group_of items
+            (weaker (λ (group : book.Group). is_id_of sources group ≡ true → may_be_source kind group.content ≡ true) (λ (group : book.Group). is_id_of sources group ≡ true → is_compressed group.content ≡ true) whole.groups
+            (λ group may source. ap (λ (c : book.Choice). may_be_source c group.content) (sym flush) ∙ may source) each_source))
+
         module _ (flushes : kind ≡ kinds.Flush → endings_of entries ≡ entries_for whole.buffer (turns.versions_of sources whole.groups)) where
           loan_kept : IsLoanOf directory.schema.value cs (turn.actor, k.kept)
           loan_kept = loan_made directory cs j turn.actor k.kept (picks sources) sources k.lends.of_table k.lends.view.groups k.lends.view.packed k.lends.view.buffer kept_lent
@@ -271,7 +301,11 @@ module _ (directory : Directory) (cs : List Change) (j : Stands directory cs) wh
               ∙ sym (λ i. entries_for (endings_of (k.lends.view.buffer i)) (kept_lent i)))
 
           pub sound_kept : IsSound directory.schema.value cs turn.actor (Lent lent)
-          sound_kept = (share_fits k.kept lent k.share k.lends.view.fitting, loan_shared directory.schema.value cs turn.actor k.kept lent k.share loan_kept)
+          sound_kept = (
+            share_fits k.kept lent k.share k.lends.view.fitting,
+            loan_shared directory.schema.value cs turn.actor k.kept lent k.share loan_kept,
+            (λ flush. share_packed k.kept lent k.share (flush_packed (sym (ap choice_of (k.share.choice ∙ k.lends.choice)) ∙ flush))),
+          )
 
           pub stands_kept : (after : Book) → book_of list ≡ after → IsBookOf g after cs j.floor → GroupsStay sources whole after → ((claim : book.Claim) → Contains whole.claims claim → GroupsStay claim.sources whole after)
               → Stands (record directory { list = list }) cs

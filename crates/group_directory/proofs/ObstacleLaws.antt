@@ -1,5 +1,5 @@
 -- Why a key has an obstacle.
-use Rattle.std.proofs.Common.{◌≡◌, ◌≢◌, ℕ, ◌+◌, ◌<◌, ◌≤◌, ◌⊎◌, List, [], ◌∷◌, length, get_or, take, refl, sym, ap, ◌∙◌, subst, inl, inr, Bool, true, false, ◌||◌, cond, arith, Option, None, Some, Result, Ok, Err, Any, All, is_some, is_eq, Ordering, Less, Equal, Greater}
+use Rattle.std.proofs.Common.{◌≡◌, ◌≢◌, ℕ, ◌+◌, ◌<◌, ◌≤◌, ◌⊎◌, List, [], ◌∷◌, length, get_or, take, refl, sym, ap, ◌∙◌, subst, inl, inr, Bool, true, false, ◌||◌, cond, arith, Option, None, Some, Result, Ok, Err, Any, All, is_some, is_eq, Less, Equal, Greater}
 use Rattle.std.specs.Prelude.{◌==◌, is_ok, nat_lt}
 use Rattle.std.specs.List.{list_any}
 use Rattle.std.specs.List.Sorted.{IsSearchInRange, IsBinarySearchResult, IsNonDecreasingBy}
@@ -14,11 +14,11 @@ use Rattle.std.proofs.lemmas.List.Elements.{All-push}
 use Rattle.std.proofs.lemmas.List.Sorted.{searchable_from_sorted}
 use Rattle.cs_types.specs.declared.Key.{Key}
 use Rattle.cs_types.specs.Keys.{key_cmp, same_key}
-use Rattle.cs_types.proofs.KeyLemmas.{key_total, exact_key, one_key}
+use Rattle.cs_types.proofs.KeyLemmas.{key_total, one_key}
 use Rattle.cs_model.specs.declared.entry.Refusal.{Refusal}
 use Rattle.cs_model.specs.declared.entry.Refusal.TheVariants.{Reading, Valued, Locked, Changed, Duplicate, NoTxn, Memory}
-use Rattle.cs_model.specs.Changes.{Edit, Change, newest}
-use Rattle.cs_model.specs.Obstacles.{owns, is_above, IsOwner, IsLocked, IsFree, IsChange, IsObstacle, IsJudged}
+use Rattle.cs_model.specs.Changes.{Edit, Change}
+use Rattle.cs_model.specs.Obstacles.{owns, IsOwner, IsLocked, IsFree, IsObstacle, IsJudged}
 use Rattle.cs_model.specs.State as model
 use Rattle.cs_model.specs.State.{State}
 use Rattle.edit_laws.specs.Edits.{edits_of}

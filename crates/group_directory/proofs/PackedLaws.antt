@@ -1,5 +1,5 @@
 -- The packed groups of a list, where its groups change; and packed groups of a table, where a commit loads them.
-use Rattle.std.proofs.Common.{◌≡◌, ℕ, zero, suc, ◌<◌, ◌+◌, ◌==◌, Bool, true, false, cond, List, [], ◌∷◌, ◌++◌, map, filter, length, get_or, set, not, Option, None, Some, refl, sym, ap, subst, ◌∙◌, arith}
+use Rattle.std.proofs.Common.{◌≡◌, ℕ, zero, suc, ◌<◌, ◌≤◌, ◌+◌, ◌==◌, Bool, true, false, cond, List, [], ◌∷◌, ◌++◌, map, filter, length, get_or, set, not, Option, None, Some, refl, sym, ap, subst, ◌∙◌, arith}
 use Rattle.std.specs.Prelude.{IfSome}
 use Rattle.std.specs.List.{All, AllByRecursion, AllZip, flat_map}
 use Rattle.std.specs.declared.alloc.Global.{Global}
@@ -8,7 +8,7 @@ use Rattle.std.specs.declared.sync.Arc.{Arc}
 use Rattle.std.specs.Ordering.{nat_cmp, ordering_then}
 use Rattle.std.proofs.lemmas.Cmp.{nat_cmp_total, tied_itself}
 use Rattle.std.proofs.lemmas.Grind.{flat_map-append}
-use Rattle.std.proofs.lemmas.List.{map-append, get_or-map, length-map}
+use Rattle.std.proofs.lemmas.List.{map-append, get_or-map, length-append, length-map}
 use Rattle.std.proofs.lemmas.List.Elements.{All-map, All-append, recursion_from_All, All-from_recursion}
 use Rattle.std.proofs.lemmas.List.Folds.{flat_map-map}
 use Rattle.cs_types.specs.declared.Schema.{Schema}
@@ -29,13 +29,14 @@ use Rattle.group_view.specs.declared.parts.GroupPart.{GroupPart}
 use Rattle.group_view.specs.declared.parts.GroupPart.TheVariants.{Packed, Store}
 use Rattle.group_view.specs.Parts.{packed_parts, ArePacked, IsPackedGroup}
 use Rattle.group_view.specs.Books.{content_of, group_of}
+use Rattle.group_view.specs.Claims.{IsPackedPart}
 use Rattle.group_view.specs.Lists.{is_open, is_listed, packed_content, packed_of, packed_in}
 use Rattle.group_view.specs.Parcels.{HasOneBegin}
 use Rattle.group_directory.specs.Claiming.{PartValue, valued}
 use Rattle.group_directory.specs.Claiming.PartValue.{PackedValue, StoreValue}
 use Rattle.group_directory.specs.Committing.{Load, loaded, rebased, packed_groups, IsLoadOf}
 use Rattle.group_directory.specs.Installing as install
-use Rattle.group_directory.specs.Rows.{Seen, seen, is_shown, shows, packed_seen}
+use Rattle.group_directory.specs.Rows.{Seen, seen, is_shown, shows, entry_of, packed_seen, part_entry}
 use Rattle.group_directory.specs.Settling as settle
 use Rattle.group_directory.proofs.Books.{listed_kind}
 
@@ -269,3 +270,45 @@ packed_after schema c old new groups is one are was = mapped_back (packed_in new
   where
     mapped_back : (es : Entries) → All (IsPackedGroup schema) (map group_in es) → ArePacked schema es
     mapped_back es all k d inside = subst (IsPackedGroup schema) (get_or-map group_in es k d d.1 inside) (all k d.1 (omega (arith, inside, length-map es group_in)))
+
+-- ---- views of packed groups alone
+
+few_packed : (parts : List (ℕ × GroupPart)) → length (packed_parts parts) ≤ length parts
+few_packed [] = omega arith
+few_packed ((id, Packed group marks) ∷ parts) = let few = few_packed parts in omega (arith, few)
+few_packed ((id, Store store) ∷ parts) = let few = few_packed parts in omega (arith, few)
+
+-- where there are as many packed groups as parts, each part is one
+each_part : (parts : List (ℕ × GroupPart)) → length (packed_parts parts) ≡ length parts → AllByRecursion (λ (part : ℕ × GroupPart). IsPackedPart part.1) parts
+each_part [] many = tt
+each_part ((id, Packed group marks) ∷ parts) many = (tt, each_part parts (omega (arith, many)))
+each_part ((id, Store store) ∷ parts) many = absurd (let few = few_packed parts in omega (arith, many, few))
+
+abbrev IsPackedIf : (Seen → Bool) → Group → Type 0
+IsPackedIf test g = test (seen g) ≡ true → is_compressed (content_of g.content) ≡ true
+
+one_packed : (id : ℕ) (content : GroupContent) → is_compressed (content_of content) ≡ true → length (packed_content id content) ≡ 1
+one_packed id (Opened store) is = cc
+one_packed id (Closed store) is = cc
+one_packed id (Compressed packed marks) is = refl
+one_packed id Invisible is = cc
+one_packed id (Tombstone total deleted) is = cc
+
+as_many : (test : Seen → Bool) (gs : List Group) → AllByRecursion (IsPackedIf test) gs → length (packed_seen (filter test (map seen gs))) ≡ length (filter test (map seen gs))
+as_many test [] all = refl
+as_many test (g ∷ gs) all = step (test (seen g)) all.0 (as_many test gs all.1)
+  where
+    step : (t : Bool) → (t ≡ true → is_compressed (content_of g.content) ≡ true) → length (packed_seen (filter test (map seen gs))) ≡ length (filter test (map seen gs))
+        → length (packed_seen (cond t (seen g ∷ filter test (map seen gs)) (filter test (map seen gs)))) ≡ length (cond t (seen g ∷ filter test (map seen gs)) (filter test (map seen gs)))
+    step true is rest =
+        let both = length-append (packed_of g) (packed_seen (filter test (map seen gs))) in
+        let one = one_packed g.id g.content (is refl) in
+        omega (arith, both, one, rest)
+    step false is rest = rest
+
+-- a view of packed groups has packed parts
+pub packed_view : (test : Seen → Bool) (gs : List Group) (parts : List (ℕ × GroupPart)) → map part_entry parts ≡ map entry_of (filter test (map seen gs)) → packed_parts parts ≡ packed_seen (filter test (map seen gs)) → AllByRecursion (IsPackedIf test) gs
+    → All (λ (part : ℕ × GroupPart). IsPackedPart part.1) parts
+packed_view test gs parts entries packed all =
+    let long : length parts ≡ length (filter test (map seen gs)) = sym (length-map parts part_entry) ∙ ap length entries ∙ length-map (filter test (map seen gs)) entry_of in
+    All-from_recursion (λ (part : ℕ × GroupPart). IsPackedPart part.1) parts (each_part parts (ap length packed ∙ as_many test gs all ∙ sym long))

@@ -15,6 +15,7 @@ use Rattle.group_view.specs.declared.groups.GroupList.{GroupList}
 use Rattle.group_view.specs.declared.parts.GroupPart.{GroupPart}
 use Rattle.group_view.specs.Parts.{IsFitting}
 use Rattle.group_view.specs.Books.{choice_of, claim_of, book_of}
+use Rattle.group_view.specs.Claims.{IsPackedPart}
 use Rattle.group_directory.specs.declared.claims.Turn.{Turn}
 use Rattle.group_directory.specs.declared.directory.Directory.{Directory}
 use Rattle.group_directory.specs.declared.movers.Claimed.{Claimed}
@@ -45,9 +46,12 @@ KeepsClaim actor before after (Settled number) = after.claims.items ≡ before.c
 KeepsClaim actor before after (Cleared number) = after.claims.items ≡ before.claims.items
 KeepsClaim actor before after Nothing = after.claims.items ≡ before.claims.items
 
--- what is lent fits, and is what a claim of the table keeps
+-- what is lent fits, and is what a claim of the table keeps; a flush is lent packed groups alone
 abbrev pub IsSound : Schema → List Change → Actor → Claimed → Type 0
-IsSound schema changes actor (Lent claim) = All (λ (part : ℕ × GroupPart). IsFitting part.1) claim.view.groups × IsLoanOf schema changes (actor, claim)
+IsSound schema changes actor (Lent claim) =
+    All (λ (part : ℕ × GroupPart). IsFitting part.1) claim.view.groups
+    × IsLoanOf schema changes (actor, claim)
+    × (choice_of claim.choice ≡ Flush → All (λ (part : ℕ × GroupPart). IsPackedPart part.1) claim.view.groups)
 IsSound schema changes actor (Settled number) = Unit {0}
 IsSound schema changes actor (Cleared number) = Unit {0}
 IsSound schema changes actor Nothing = Unit {0}

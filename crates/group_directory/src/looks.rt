@@ -31,6 +31,7 @@ impl Directory {
         ensures view { IfOk result (λ view. (changes : List Change) → Stands self.old changes → IsView view) }
         ensures shows { IfOk result (λ view. (changes : List Change) → Stands self.old changes → ShowsTables (width_in self.old) view changes) }
         ensures book { book_of self.new.list ≡ book_of self.old.list }
+        ensures claims { self.new.list.claims.items ≡ self.old.list.claims.items }
         ensures rest { self.new ≡ record self.old { list = self.new.list } }
         ensures held { IsHeld self.new.list }
         ensures stands { (changes : List Change) → Stands self.old changes → Stands self.new changes }
@@ -55,6 +56,7 @@ impl Directory {
         ensures next { self.new.txns.next ≡ self.old.txns.next }
         ensures book { book_of self.new.list ≡ book_of self.old.list }
         ensures clock { self.new.clock ≡ self.old.clock }
+        ensures claims { self.new.list.claims.items ≡ self.old.list.claims.items }
         ensures rest { self.new ≡ record self.old { list = self.new.list; txns = self.new.txns } }
         ensures held { IsHeld self.new.list }
         ensures stands { (changes : List Change) → Stands self.old changes → Stands self.new changes }

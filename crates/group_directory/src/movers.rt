@@ -1,21 +1,24 @@
 // The calls of movers.
-ghost use Rattle.std.specs.Prelude.{◌≡◌, ℕ, List, IfOk, OnErr, IsSome, None, true};
+ghost use Rattle.std.specs.Prelude.{◌≡◌, ◌≢◌, ℕ, List, filter, not, option_copied, IfOk, OnErr, IsSome, None, true};
+ghost use Rattle.std.specs.Option.{option_map};
 ghost use Rattle.cs_model.specs.Changes.{Change};
 ghost use Rattle.cs_model.specs.Floors.{IsFloor};
 ghost use Rattle.txn_table.specs.Txns.{txn_of, snapshots_in};
-ghost use Rattle.group_book.specs.Book.Choice.{Clear, Flush, Settle};
+ghost use Rattle.group_book.specs.Book.Choice.{Clear, Flush, Idle, Settle};
 ghost use Rattle.group_book.specs.Choices.{choice};
 ghost use Rattle.group_book.specs.Invariant.{makes_group, AreSourcesOf};
-ghost use Rattle.group_book.specs.Turns.{claim_by, released};
+ghost use Rattle.group_book.specs.Turns.{claim_by, released, same_actor};
 ghost use Rattle.group_view.specs.Books.{book_of, choice_of};
 ghost use Rattle.group_view.specs.Lists.{listed, IsHeld};
 ghost use Rattle.group_directory.specs.Calls.{IsAsBefore};
 ghost use Rattle.group_directory.specs.Claimed.{IsSound, IsTaken, IsTurnOf};
+ghost use Rattle.group_directory.specs.Installing.{held_by};
 ghost use Rattle.group_directory.specs.Stands.{Stands};
 
 use crate::claims::{Turn, claim_flush, claim_groups};
 use crate::directory::Directory;
 use crate::events::{clear, release};
+use crate::lists::claim_place;
 use crate::settles::settle;
 use cs_base::Memory;
 use cs_model::Actor;
@@ -45,6 +48,7 @@ impl Directory {
         ensures sound { (changes : List Change) → Stands self.old changes → IfOk result (IsSound self.old.schema.value changes turn.actor) }
         ensures rest { self.new ≡ record self.old { list = self.new.list } }
         ensures same { OnErr result (IsAsBefore self.old self.new) }
+        ensures claims { OnErr result (self.new.list.claims.items ≡ self.old.list.claims.items) }
         ensures stands { (changes : List Change) → Stands self.old changes → Stands self.new changes }
     {
         let claim = claim_groups(self.alloc, &mut self.list, &self.schema, turn, sources)?;
@@ -60,6 +64,7 @@ impl Directory {
         ensures sound { (changes : List Change) → Stands self.old changes → IfOk result (IsSound self.old.schema.value changes turn.actor) }
         ensures rest { self.new ≡ record self.old { list = self.new.list } }
         ensures same { OnErr result (IsAsBefore self.old self.new) }
+        ensures claims { OnErr result (self.new.list.claims.items ≡ self.old.list.claims.items) }
         ensures stands { (changes : List Change) → Stands self.old changes → Stands self.new changes }
     {
         let sources = flush_sources(self.alloc, &self.list)?;
@@ -84,6 +89,7 @@ impl Directory {
         ensures sound { (changes : List Change) → IfOk result (IsSound self.old.schema.value changes turn.actor) }
         ensures rest { self.new ≡ record self.old { list = self.new.list } }
         ensures same { OnErr result (IsAsBefore self.old self.new) }
+        ensures claims { OnErr result (self.new.list.claims.items ≡ self.old.list.claims.items) }
         ensures stands { (changes : List Change) → Stands self.old changes → Stands self.new changes }
     {
         let number = settle(self.alloc, &mut self.list, turn.floor)?;
@@ -107,10 +113,12 @@ impl Directory {
     fn take(&mut self, turn: Turn) -> Result<Claimed, Memory>
         requires stands { (changes : List Change) × Stands self.old changes }
         requires turn { IsTurnOf self.old turn }
+        ensures busy { OnErr result (choice_of turn.choice ≢ Idle) }
         ensures taken { IfOk result (IsTaken (choice_of turn.choice) turn.floor turn.actor self.old self.new) }
         ensures sound { (changes : List Change) → Stands self.old changes → IfOk result (IsSound self.old.schema.value changes turn.actor) }
         ensures rest { self.new ≡ record self.old { list = self.new.list } }
         ensures same { OnErr result (IsAsBefore self.old self.new) }
+        ensures claims { OnErr result (self.new.list.claims.items ≡ self.old.list.claims.items) }
         ensures stands { (changes : List Change) → Stands self.old changes → Stands self.new changes }
     {
         match turn.choice {
@@ -130,14 +138,16 @@ impl Directory {
     /// kept, and lent by shares; where a group will be made, its place is taken and its id is drawn, last of all, so that the
     /// install takes no memory.
     ///
-    /// After `Memory` nothing has changed.
+    /// `Memory` comes only where there is something to do, and nothing has changed then.
     pub fn claim(&mut self, actor: Actor) -> Result<Claimed, Memory>
         requires none { claim_by actor (book_of self.old.list) ≡ None }
         requires stands { (changes : List Change) × Stands self.old changes }
+        ensures busy { (floor : ℕ) → IsFloor (snapshots_in (txn_of self.old.txns)) self.old.clock floor → OnErr result (choice floor self.old.sizes.group_rows actor (book_of self.old.list) ≢ Idle) }
         ensures taken { (floor : ℕ) → IsFloor (snapshots_in (txn_of self.old.txns)) self.old.clock floor → IfOk result (IsTaken (choice floor self.old.sizes.group_rows actor (book_of self.old.list)) floor actor self.old self.new) }
         ensures sound { (changes : List Change) → Stands self.old changes → IfOk result (IsSound self.old.schema.value changes actor) }
         ensures rest { self.new ≡ record self.old { list = self.new.list } }
         ensures same { OnErr result (IsAsBefore self.old self.new) }
+        ensures claims { OnErr result (self.new.list.claims.items ≡ self.old.list.claims.items) }
         ensures stands { (changes : List Change) → Stands self.old changes → Stands self.new changes }
     {
         let floor = self.floor();
@@ -150,6 +160,14 @@ impl Directory {
         })
     }
 
+    /// The claim that an actor holds. None exactly where it holds none.
+    pub fn claim_by(&self, actor: Actor) -> Option<&Claim>
+        ensures { option_copied result ≡ option_map (λ held. held.1) (held_by actor self.now.list.claims.items) }
+    {
+        let place = claim_place(&self.list.claims, actor)?;
+        Some(&self.list.claims[place].1)
+    }
+
     /// Gives the claim of an actor back: the group that it was to make is gone, its id is not drawn again, and nothing else
     /// changes. It takes no memory.
     pub fn release(&mut self, actor: Actor)
@@ -158,6 +176,7 @@ impl Directory {
         ensures book { book_of self.new.list ≡ released (claim_by actor (book_of self.old.list)) (book_of self.old.list) }
         ensures rest { self.new ≡ record self.old { list = self.new.list } }
         ensures listed { listed self.new.list.groups.items ≡ listed self.old.list.groups.items }
+        ensures claims { self.new.list.claims.items ≡ filter (λ held. not (same_actor held.0 actor)) self.old.list.claims.items }
         ensures held { IsHeld self.new.list }
         ensures stands { (changes : List Change) → Stands self.old changes → Stands self.new changes }
     {

@@ -72,9 +72,9 @@ IsProductOf claim (Marked marks) = (choice_of claim.choice ≡ Flush) × AllZip 
 
 -- ---- which claims may be worked on
 
--- the version has a row of the table, whose key is the version's
+-- in the table's cells the version has a row of the table, whose key is the version's
 pub record IsLentRow (schema : Schema) (rowed : Rowed) : Type 0 where
-  pub row : IsRowOf schema rowed.row
+  pub row : IsRowOf schema (padded (length schema.columns) rowed.row)
   pub key : key_in schema.key rowed.row ≡ rowed.version.key
 
 -- a packed group has the table's columns and its key

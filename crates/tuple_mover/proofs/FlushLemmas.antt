@@ -1,12 +1,11 @@
 -- Bitmaps with the ends of a flush.
 use Rattle.std.proofs.Common.{◌≡◌, ◌≢◌, ℕ, zero, suc, ◌+◌, ◌<◌, ◌≤◌, Bool, true, false, cond, ◌&&◌, ◌||◌, eqb, List, [], ◌∷◌, ◌++◌, map, take, get_or, set, length, Option, Some, None, inl, inr, refl, sym, ap, subst, ◌∙◌, arith}
 use Rattle.std.specs.Prelude.{slice_get, slice_index}
-use Rattle.std.specs.List.{All, list_any}
 use Rattle.std.specs.Prelude.{is_some}
 use Rattle.std.proofs.lemmas.Option.{slice_get-get_or, unwrap_or-slice_get}
 use Rattle.std.proofs.lemmas.Bool.{cases_eq, ne_eqb}
 use Rattle.std.proofs.lemmas.Bool.Decides.{nat_tests}
-use Rattle.std.proofs.lemmas.List.{map-append, take_more, length-map, length-set, get_or-map, get_or_default, get_or-set_same, get_or-set_other, same_lists}
+use Rattle.std.proofs.lemmas.List.{map-append, take_more, length-set, get_or_default, get_or-set_same, get_or-set_other, same_lists}
 use Rattle.cs_types.specs.declared.Key.{Key}
 use Rattle.cs_types.specs.Keys.{same_key}
 use Rattle.cs_types.specs.Rows.{key_in}
@@ -15,12 +14,12 @@ use Rattle.delete_bitmap.specs.declared.MarkedEnd.TheVariants.{Plain, Stamped}
 use Rattle.delete_bitmap.specs.Marks.{end_at}
 use Rattle.delete_buffer.specs.Entries.{Entry, IsLeastEnd}
 use Rattle.row_group.specs.Rows.{PackedRow}
-use Rattle.row_group.specs.Groups.{Group, row_at, ArePlacesOf, key_at_place}
+use Rattle.row_group.specs.Groups.{Group, row_at, ArePlacesOf}
 use Rattle.group_book.specs.Book.{End, Version, Ending}
 use Rattle.group_book.specs.Book.End.{At}
 use Rattle.group_book.specs.Turns.{least_entry, unless_ended, holds, end_in, flushed}
 use Rattle.group_book.proofs.Keys.{key_here, key_is}
-use Rattle.group_view.specs.Parts.{Rowed, end_of_mark, packed_versions}
+use Rattle.group_view.specs.Parts.{end_of_mark, packed_versions}
 use Rattle.group_view.specs.Views.{endings_of}
 use Rattle.group_view.specs.Books.{versions_of}
 use Rattle.tuple_mover.specs.Flushed.{mark_in, next_mark, next_marks}

@@ -1,14 +1,14 @@
 -- The rows of edits, and the group that is made of them.
-use Rattle.std.proofs.Common.{◌≡◌, ℕ, zero, suc, ◌+◌, ◌<◌, List, [], ◌∷◌, ◌++◌, map, take, get_or, length, Option, Some, None, refl, sym, ap, subst, ◌∙◌, arith}
+use Rattle.std.proofs.Common.{◌≡◌, ℕ, suc, ◌+◌, ◌<◌, List, [], ◌∷◌, ◌++◌, map, take, get_or, length, Some, None, refl, sym, ap, subst, ◌∙◌, arith}
 use Rattle.std.specs.Option.{option_map, option_to_list}
-use Rattle.std.specs.List.{All, AllByRecursion, range_with_len, filter, flat_map}
+use Rattle.std.specs.List.{All, AllByRecursion, filter}
 use Rattle.std.specs.List.Sorted.{IsPermutation}
-use Rattle.std.specs.Prelude.{Any, is_some}
+use Rattle.std.specs.Prelude.{is_some}
 use Rattle.std.proofs.lemmas.List.{map-append, take_more, length-append, get_or_append_left, get_or-append-add}
 use Rattle.std.proofs.lemmas.List.Concat.{flat_map-append}
 use Rattle.std.proofs.lemmas.List.Elements.{All-map, All-from_recursion, recursion_from_All, All-nil, All-cons, All-weaker, filter-append}
 use Rattle.std.proofs.lemmas.List.FromFn.{length-map-range_with_len, get_or-map-range_with_len}
-use Rattle.std.proofs.lemmas.List.Sorted.{IsPermutation-sym, IsPermutation-map, All-permutation}
+use Rattle.std.proofs.lemmas.List.Sorted.{IsPermutation-map, All-permutation}
 use Rattle.cs_types.specs.declared.Key.{Key}
 use Rattle.cs_types.specs.declared.Schema.{Schema}
 use Rattle.cs_types.specs.declared.Value.{Value}
@@ -19,12 +19,12 @@ use Rattle.cs_model.specs.Changes.{Edit}
 use Rattle.edit_laws.specs.Edits.{edit_of, edits_of}
 use Rattle.write_set.specs.declared.write.Write.{Write}
 use Rattle.row_group.specs.Rows.{PackedRow, begun_above}
-use Rattle.row_group.specs.Groups.{Group, HoldsRows}
+use Rattle.row_group.specs.Groups.{Group}
 use Rattle.row_group.proofs.PackerLemmas.{padded-fits}
 use Rattle.row_group.proofs.ShownLemmas.{cell_at-get_or, map-map}
 use Rattle.group_book.specs.Commits.{inserted_by}
 use Rattle.group_view.specs.Parts.{padded}
-use Rattle.group_view.specs.Parcels.{keys_in, HasOneBegin, packed_keys, packed_rows, IsGiven}
+use Rattle.group_view.specs.Parcels.{keys_in, HasOneBegin, packed_keys, IsGiven}
 use Rattle.group_view.proofs.Versions.{padded_itself}
 use Rattle.tuple_mover.specs.Inserts.{rows_given, IsEntryOf, FitsIn, direct_row, IsDirectOf}
 

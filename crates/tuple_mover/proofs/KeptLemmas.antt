@@ -1,13 +1,12 @@
 -- The versions that a new group keeps, one after the other.
-use Rattle.std.proofs.Common.{◌≡◌, ℕ, zero, suc, ◌+◌, ◌<◌, Bool, true, false, cond, not, List, [], ◌∷◌, ◌++◌, map, take, get_or, length, Option, Some, None, pos, refl, sym, ap, subst, ◌∙◌, arith}
-use Rattle.std.specs.Prelude.{slice_get, is_some}
-use Rattle.std.specs.List.{All, AllByRecursion, filter, flat_map}
+use Rattle.std.proofs.Common.{◌≡◌, ℕ, zero, suc, ◌+◌, ◌<◌, Bool, true, false, cond, not, List, [], ◌∷◌, ◌++◌, map, take, get_or, length, Option, Some, None, pos, refl, sym, ap, subst, ◌∙◌}
+use Rattle.std.specs.Prelude.{slice_get}
+use Rattle.std.specs.List.{All, AllByRecursion, flat_map}
 use Rattle.std.specs.Option.{option_map}
-use Rattle.std.proofs.lemmas.List.{append-nil, append_assoc, map-append, take_more, length-map, get_or_default}
+use Rattle.std.proofs.lemmas.List.{append-nil, append_assoc, map-append, take_more}
 use Rattle.std.proofs.lemmas.List.Concat.{flat_map-append}
-use Rattle.std.proofs.lemmas.List.Elements.{All-push, All-weaker, All-from_recursion, recursion_from_All, filter-append, filter_more}
-use Rattle.std.proofs.lemmas.Option.{same_Some, slice_get-get_or}
-use Rattle.cs_types.specs.declared.Value.{Value}
+use Rattle.std.proofs.lemmas.List.Elements.{All-push, All-weaker, recursion_from_All, filter-append, filter_more}
+use Rattle.std.proofs.lemmas.Option.{same_Some}
 use Rattle.row_group.specs.Rows.{PackedRow, padded}
 use Rattle.row_group.specs.Groups.{Group, row_at}
 use Rattle.row_group.specs.Packings.{Packing}
@@ -16,9 +15,9 @@ use Rattle.delete_bitmap.specs.declared.MarkedEnd.{MarkedEnd}
 use Rattle.delete_bitmap.specs.Marks.{end_at}
 use Rattle.delta_store.specs.declared.version.KeyedVersion.{KeyedVersion}
 use Rattle.cs_types.specs.declared.row.Version.{Version as Stored}
-use Rattle.group_book.specs.Book.{End, Version, Ending}
+use Rattle.group_book.specs.Book.{Version, Ending}
 use Rattle.group_view.specs.declared.parts.GroupPart.{GroupPart}
-use Rattle.group_view.specs.Parts.{Rowed, rowed_in, packed_version, packed_versions, stored_version, stored_versions}
+use Rattle.group_view.specs.Parts.{Rowed, rowed_in, packed_version, packed_versions, stored_versions}
 use Rattle.group_view.proofs.Versions.{version_in, packed_read, packed_within, padded_itself}
 use Rattle.tuple_mover.specs.declared.kept.Kept.{Kept}
 use Rattle.tuple_mover.specs.Kept.{HasKept, is_left_out, kept_of, rowed_at, packed_row, number_of, numbers_of, StandIn}

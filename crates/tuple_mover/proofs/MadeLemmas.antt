@@ -1,11 +1,10 @@
 -- The new group is made of the versions that are kept.
-use Rattle.std.proofs.Common.{◌≡◌, ◌≢◌, ℕ, zero, suc, ◌+◌, ◌<◌, ◌≤◌, Bool, true, false, cond, not, nat_le, leb, List, [], ◌∷◌, map, get_or, length, Option, Some, None, inl, inr, refl, sym, ap, subst, ◌∙◌, arith}
-use Rattle.std.specs.Prelude.{max, slice_get, is_some}
-use Rattle.std.specs.List.{All, AllByRecursion, AllPairs, filter}
+use Rattle.std.proofs.Common.{◌≡◌, ◌≢◌, ℕ, ◌<◌, Bool, cond, not, List, [], ◌∷◌, map, get_or, length, Option, Some, None, inl, inr, refl, sym, ap, subst, ◌∙◌, arith}
+use Rattle.std.specs.Prelude.{max}
+use Rattle.std.specs.List.{All}
 use Rattle.std.specs.List.Sorted.{IsPermutation}
-use Rattle.std.specs.Option.{unwrap_or}
 use Rattle.std.proofs.lemmas.Bool.{cases_lt, lt-leb, le-leb}
-use Rattle.std.proofs.lemmas.List.{length-map, get_or-map, get_or_default, same_lists}
+use Rattle.std.proofs.lemmas.List.{length-map, get_or-map, same_lists}
 use Rattle.std.proofs.lemmas.List.Elements.{All-map, All-weaker, All-filter}
 use Rattle.std.proofs.lemmas.List.Sorted.{IsPermutation-sym, length_permutation}
 use Rattle.std.proofs.lemmas.Option.{unwrap_or-slice_get}
@@ -19,9 +18,7 @@ use Rattle.delete_bitmap.specs.Marks.{end_at}
 use Rattle.row_group.specs.Rows.{PackedRow, begin_above, begun_above}
 use Rattle.row_group.specs.Groups.{Group, row_at, HoldsRows}
 use Rattle.row_group.specs.Packings.{StandAt}
-use Rattle.row_group.proofs.PackerLemmas.{padded-fits}
-use Rattle.row_group.proofs.ShownLemmas.{map-map}
-use Rattle.group_book.specs.Book.{End, Version}
+use Rattle.group_book.specs.Book.{End}
 use Rattle.group_book.specs.Book.End.{At, Plain}
 use Rattle.group_book.specs.Turns.{raised}
 use Rattle.group_view.specs.Parts.{Rowed, padded, end_of_mark, packed_version, packed_versions}
@@ -74,7 +71,7 @@ module _ (schema : Schema) (is_schema : IsSchema schema) (floor : ℕ) (rowed : 
   pub rows-fit : All (λ (row : PackedRow). IsRowOf schema row.cells) (map (packed_row width) rowed)
   rows-fit =
       All-map (λ (row : PackedRow). IsRowOf schema row.cells) (packed_row width) rowed
-      (All-weaker (IsKeptRow schema) (λ (version : Rowed). IsRowOf schema (padded width version.row)) (λ version is. padded-fits schema version.row version.version.begin is.lent.row) rowed kept)
+      (All-weaker (IsKeptRow schema) (λ (version : Rowed). IsRowOf schema (padded width version.row)) (λ version is. is.lent.row) rowed kept)
 
   abbrev given : List PackedRow
   given = map (begun_above floor) (map (packed_row width) rowed)

@@ -3,7 +3,7 @@ use Rattle.std.proofs.Common.{◌≡◌, ℕ, zero, suc, ◌+◌, ◌-◌, ◌<�
 use Rattle.std.specs.List.{All, AllZip}
 use Rattle.std.specs.List.Sorted.{IsPermutation}
 use Rattle.std.specs.Prelude.{min}
-use Rattle.std.proofs.lemmas.List.{append-nil, append_assoc, map-append, take-append-drop, get_or_append_left, get_or-append-add, take_all, take_at, drop_at, length-append, length-drop, length-map}
+use Rattle.std.proofs.lemmas.List.{append-nil, append_assoc, map-append, take-append-drop, get_or_append_left, get_or-append-add, take_all, take_at, drop_at, length-append, length-drop}
 use Rattle.std.proofs.lemmas.List.Elements.{All-append, All-weaker, All-cons, All-nil}
 use Rattle.std.proofs.lemmas.Bool.Decides.{nat_tests}
 use Rattle.cs_types.specs.declared.Key.{Key}
@@ -19,7 +19,7 @@ use Rattle.row_group.specs.Groups.{Group}
 use Rattle.group_book.specs.Commits.{Sizes, direct_parts, inserted_by}
 use Rattle.group_view.specs.declared.claim.Parcel.{Parcel}
 use Rattle.group_view.specs.Parts.{IsPackedGroup}
-use Rattle.group_view.specs.Parcels.{keys_in, HasOneBegin, packed_keys, packed_rows, parcel_rows, IsGiven, IsParcelOf, IsParcelFor}
+use Rattle.group_view.specs.Parcels.{HasOneBegin, packed_keys, packed_rows, parcel_rows, IsGiven, IsParcelFor}
 use Rattle.tuple_mover.specs.Inserts.{rows_given, FitsIn, IsDirectOf, IsEntryOf}
 use Rattle.tuple_mover.proofs.InsertLemmas.{given-keys, inserted-append, given-fit, given-itself, given-left, given-right, direct-keys, direct-begun, direct-given}
 

@@ -1,5 +1,5 @@
 -- The rows that own writes insert.
-use Rattle.std.specs.Prelude.{◌≡◌, ℕ, List, map, length, Some, IfSome}
+use Rattle.std.specs.Prelude.{◌≡◌, ℕ, List, map, length, IfSome}
 use Rattle.std.specs.List.{flat_map}
 use Rattle.std.specs.Option.{option_map, option_to_list}
 use Rattle.cs_types.specs.declared.Key.{Key}

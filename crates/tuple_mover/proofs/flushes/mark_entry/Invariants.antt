@@ -1,4 +1,4 @@
-use Rattle.std.proofs.Common.{◌≡◌, ◌<◌, ◌≤◌, ◌∷◌, ℕ, [], length, get_or, None}
+use Rattle.std.proofs.Common.{◌∷◌, []}
 use Rattle.group_view.specs.Views.{endings_of}
 use Rattle.tuple_mover.proofs.FlushLemmas.{AreMarking}
 use Rattle.tuple_mover.proofs.flushes.mark_entry.Given as goal

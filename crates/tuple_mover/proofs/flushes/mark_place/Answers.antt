@@ -1,8 +1,7 @@
-use Rattle.std.proofs.Common.{◌≡◌, ◌∙◌, ◌∷◌, ◌<◌, ℕ, [], length, set, true, false, Option, Some, None, sym, ap, subst, arith}
+use Rattle.std.proofs.Common.{◌≡◌, ◌∙◌, ◌∷◌, ◌<◌, ℕ, [], length, set, false, Option, Some, None, sym, ap, subst, arith}
 use Rattle.std.specs.Prelude.{is_some}
 use Rattle.std.specs.Result.{OnOk}
 use Rattle.delete_bitmap.specs.declared.MarkedEnd.{MarkedEnd}
-use Rattle.delete_bitmap.specs.declared.MarkedEnd.TheVariants.{Stamped}
 use Rattle.delete_bitmap.specs.Marks.{end_at}
 use Rattle.delete_buffer.specs.Entries.{IsLeastEnd}
 use Rattle.row_group.specs.Rows.{PackedRow}

@@ -1,4 +1,4 @@
-use Rattle.std.proofs.Common.{◌≡◌, ◌∙◌, ◌<◌, length, take, ap, arith}
+use Rattle.std.proofs.Common.{◌∙◌, ◌<◌, length, take, ap, arith}
 use Rattle.row_group.specs.Groups.{Group}
 use Rattle.group_view.specs.Views.{endings_of}
 use Rattle.tuple_mover.proofs.FlushLemmas.{marks-none, length-marks, entries-more}

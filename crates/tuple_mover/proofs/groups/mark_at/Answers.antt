@@ -1,4 +1,4 @@
-use Rattle.std.proofs.Common.{◌≡◌, ◌∙◌, ℕ, set, sym, ap, Option, None}
+use Rattle.std.proofs.Common.{◌∙◌, ℕ, set, sym, ap, Option, None}
 use Rattle.tuple_mover.specs.Kept.{mark_of}
 use Rattle.tuple_mover.proofs.GroupLemmas.{set-same}
 use Rattle.tuple_mover.proofs.groups.mark_at.Goals as goal

@@ -1,5 +1,4 @@
-use Rattle.std.proofs.Common.{◌≡◌, ◌∙◌, ◌<◌, length, get_or, set, ap, None, arith}
-use Rattle.tuple_mover.specs.Kept.{mark_of}
+use Rattle.std.proofs.Common.{◌∙◌, ◌<◌, length, arith}
 use Rattle.tuple_mover.proofs.GroupLemmas.{marks-more}
 use Rattle.tuple_mover.proofs.groups.marks_of.Goals as goal
 

@@ -1,4 +1,4 @@
-use Rattle.std.proofs.Common.{◌≡◌, ◌∙◌, ◌<◌, ℕ, List, Vec, [], length, map, true, false, Option, None, Some, refl, sym, ap, subst}
+use Rattle.std.proofs.Common.{◌≡◌, ◌∙◌, ◌<◌, ℕ, List, Vec, [], length, map, true, false, Option, refl, sym, ap, subst}
 use Rattle.std.specs.List.{All}
 use Rattle.std.specs.Option.{IfSome, IsNone}
 use Rattle.cs_types.specs.declared.Schema.{Schema}
@@ -9,7 +9,7 @@ use Rattle.row_group.specs.Rows.{PackedRow, begun_above}
 use Rattle.row_group.specs.Groups.{Group, HoldsRows}
 use Rattle.row_group.specs.Packings.{StandAt}
 use Rattle.tuple_mover.specs.Kept.{mark_of, ArePlaced}
-use Rattle.tuple_mover.proofs.MadeLemmas.{left-fit, none-left, left-counted, left-within, made-group, IsMade}
+use Rattle.tuple_mover.proofs.MadeLemmas.{left-fit, none-left, left-within, made-group, IsMade}
 use Rattle.tuple_mover.proofs.groups.new_group.Goals as goal
 
 pub pack_placed-requires-clause-fit : goal.pack_placed-requires-clause-fit

@@ -3,7 +3,6 @@ use Rattle.std.specs.List.{All}
 use Rattle.std.specs.Result.{OnOk}
 use Rattle.row_group.specs.Rows.{PackedRow}
 use Rattle.row_group.specs.Groups.{Group, row_at}
-use Rattle.row_group.specs.Packings.{Packing}
 use Rattle.group_view.specs.declared.parts.GroupPart.{GroupPart}
 use Rattle.group_view.specs.Parts.{packed_versions, rowed_in}
 use Rattle.tuple_mover.specs.Kept.{rowed_at, packed_row, IsWide}

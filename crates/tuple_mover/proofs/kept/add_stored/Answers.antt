@@ -1,5 +1,5 @@
-use Rattle.std.proofs.Common.{◌≡◌, ◌∙◌, ◌++◌, ◌∷◌, ◌<◌, ℕ, [], map, take, get_or, length, sym, ap, arith}
-use Rattle.row_group.specs.Rows.{PackedRow, padded}
+use Rattle.std.proofs.Common.{◌≡◌, ◌∙◌, ◌<◌, ℕ, get_or, length, ap, arith}
+use Rattle.row_group.specs.Rows.{padded}
 use Rattle.row_group.specs.Packings.{Packing}
 use Rattle.group_view.specs.Parts.{stored_versions}
 use Rattle.tuple_mover.specs.Kept.{rowed_at, packed_row}

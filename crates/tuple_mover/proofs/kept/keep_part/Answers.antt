@@ -1,7 +1,6 @@
-use Rattle.std.proofs.Common.{◌≡◌, ◌∙◌, ◌++◌, ℕ, List, map, ap, subst}
+use Rattle.std.proofs.Common.{◌≡◌, ◌++◌, ℕ, List, map, subst}
 use Rattle.std.specs.Result.{OnOk}
 use Rattle.std.proofs.lemmas.Result.{on_ok_weaker}
-use Rattle.row_group.specs.Packings.{Packing}
 use Rattle.group_view.specs.Parts.{Rowed, rowed_in}
 use Rattle.group_view.specs.Views.{endings_of}
 use Rattle.tuple_mover.specs.declared.kept.Kept.{Kept}

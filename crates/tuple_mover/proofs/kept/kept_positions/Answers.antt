@@ -1,4 +1,4 @@
-use Rattle.std.proofs.Common.{◌≡◌, ◌∙◌, ◌++◌, ◌+◌, ◌∷◌, ◌<◌, ℕ, List, [], cond, take, length, Option, sym, ap, subst, arith}
+use Rattle.std.proofs.Common.{◌∙◌, ◌++◌, ◌+◌, ◌∷◌, ◌<◌, ℕ, List, [], cond, take, length, Option, sym, ap, subst, arith}
 use Rattle.std.proofs.lemmas.List.{append_assoc}
 use Rattle.group_book.specs.Book.{Version}
 use Rattle.group_view.specs.Parts.{lived_version, rowed_in}

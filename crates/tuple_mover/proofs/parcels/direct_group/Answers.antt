@@ -1,7 +1,7 @@
-use Rattle.std.proofs.Common.{◌≡◌, ◌∙◌, ◌++◌, ◌<◌, ◌≤◌, ◌∷◌, List, [], length, map, take, Option, refl, sym, ap, subst, arith}
+use Rattle.std.proofs.Common.{◌≡◌, ◌∙◌, ◌≤◌, List, length, map, Option, refl, sym, ap, subst, arith}
 use Rattle.std.specs.List.{All}
 use Rattle.std.specs.Option.{IfSome, IsNone}
-use Rattle.std.proofs.lemmas.List.{take_all, length-map, map-append}
+use Rattle.std.proofs.lemmas.List.{take_all, length-map}
 use Rattle.cs_types.specs.declared.Key.{Key}
 use Rattle.cs_types.specs.declared.Value.{Value}
 use Rattle.cs_types.specs.Schemas.{IsRowOf}
@@ -9,10 +9,8 @@ use Rattle.edit_laws.specs.Edits.{edits_of}
 use Rattle.write_set.specs.declared.write.Write.{Write}
 use Rattle.row_group.specs.Rows.{PackedRow, begun_above}
 use Rattle.row_group.specs.Groups.{Group, HoldsRows}
-use Rattle.row_group.specs.Packings.{Packing}
-use Rattle.group_book.specs.Commits.{inserted_by}
 use Rattle.tuple_mover.specs.Inserts.{rows_given, direct_row}
-use Rattle.tuple_mover.proofs.InsertLemmas.{direct-fit, given-more, given-keys, rows-raised}
+use Rattle.tuple_mover.proofs.InsertLemmas.{direct-fit, given-keys, rows-raised}
 use Rattle.tuple_mover.proofs.parcels.direct_group.Goals as goal
 
 pub pack-requires-clause-fit : goal.pack-requires-clause-fit

@@ -1,5 +1,4 @@
-use Rattle.std.proofs.Common.{◌≡◌, ◌∙◌, ℕ, ◌++◌, ◌-◌, ◌<◌, ◌≤◌, ◌∷◌, List, [], length, get_or, take, drop, sym, ap, subst, arith}
-use Rattle.std.specs.Prelude.{min}
+use Rattle.std.proofs.Common.{◌≡◌, ◌∙◌, ℕ, ◌++◌, ◌<◌, List, [], length, get_or, take, drop, sym, ap, subst, arith}
 use Rattle.std.proofs.lemmas.List.{append-nil}
 use Rattle.cs_types.specs.declared.Key.{Key}
 use Rattle.cs_types.specs.declared.Value.{Value}
@@ -10,7 +9,7 @@ use Rattle.row_group.specs.Groups.{Group}
 use Rattle.group_book.specs.Commits.{Sizes, inserted_by}
 use Rattle.group_view.specs.declared.claim.Parcel.{Parcel}
 use Rattle.group_view.specs.Parcels.{IsParcelFor}
-use Rattle.tuple_mover.specs.Inserts.{rows_given, FitsIn, IsDirectOf}
+use Rattle.tuple_mover.specs.Inserts.{rows_given, FitsIn}
 use Rattle.tuple_mover.proofs.ParcelLemmas.{rest_parcel, parcel_step, edits-split, fit-front, fit-back, split-count}
 use Rattle.tuple_mover.proofs.parcels.parcel_of.Goals as goal
 

@@ -1,4 +1,4 @@
-use Rattle.std.proofs.Common.{◌≡◌, ◌∙◌, ◌<◌, Bool, false, List, map, get_or, length, ap, arith}
+use Rattle.std.proofs.Common.{◌≡◌, ◌∙◌, ◌<◌, Bool, false, map, get_or, length, ap, arith}
 use Rattle.group_book.specs.Book.{Ending}
 use Rattle.group_view.specs.Views.{endings_of}
 use Rattle.tuple_mover.proofs.SpentLemmas.{mark-at, marked-more}

@@ -10,6 +10,9 @@ claim_groups-requires-clause-named c =
 pub returns-in_err-claim-clause-same : goal.returns-in_err-claim-clause-same
 returns-in_err-claim-clause-same c = on_err _ c.from_residual.result (as_before c.args.self.now c.claim_groups.new.list c.in_err-claim.ensures.same)
 
+pub returns-in_err-claim-clause-claims : goal.returns-in_err-claim-clause-claims
+returns-in_err-claim-clause-claims c = let same = c.in_err-claim.ensures.same in on_err _ c.from_residual.result same.claims
+
 pub returns-in_err-claim-clause-stands : goal.returns-in_err-claim-clause-stands
 returns-in_err-claim-clause-stands c = λ changes j. stands_shared c.args.self.now changes j c.claim_groups.new.list c.in_err-claim.ensures.same
 

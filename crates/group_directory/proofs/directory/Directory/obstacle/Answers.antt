@@ -1,4 +1,4 @@
-use Rattle.std.proofs.Common.{◌≡◌, ◌≤◌, ◌+◌, ℕ, All, take, Some, None, true, false, sym, subst, ◌∙◌, arith, rules, is_some}
+use Rattle.std.proofs.Common.{◌≡◌, ◌≤◌, ◌+◌, All, take, Some, None, true, false, sym, subst, ◌∙◌, arith, rules, is_some}
 use Rattle.std.proofs.lemmas.List.{take_all}
 use Rattle.std.proofs.lemmas.Option.{same_Some}
 use Rattle.cs_model.specs.Obstacles.{IsObstacle, IsJudged}
