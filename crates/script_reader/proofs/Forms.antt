@@ -6,10 +6,10 @@ use Rattle.std.specs.Prelude.{Option, None, Some, codes, nat_eq, nat_lt, ◌||�
 use Rattle.std.specs.List.{list_all, prefix_len, take_while, starts_with}
 use Rattle.std.specs.Option.{option_map_or}
 use Rattle.cs_types.specs.Calendar.{is_digit, digits_value}
-use Rattle.script_reader.specs.declared.script.Step.TheVariants.{Whole, Begun}
+use Rattle.script_reader.specs.declared.script.Step.TheVariants.{Whole, Begun, Claiming, Installing}
 use Rattle.script_reader.specs.declared.form.Form.{Form}
 use Rattle.script_reader.specs.declared.form.Form.TheVariants.{Skipped, Setup, Ask, Other}
-use Rattle.script_reader.specs.Lines.{is_line_byte, line_reason, is_blank, unblanked, stripped, behind, some_text, blanked_text, finish_form, session_form, is_number, numbered_form, setup_form, bare_form, form_of}
+use Rattle.script_reader.specs.Lines.{is_line_byte, line_reason, is_blank, unblanked, stripped, behind, some_text, blanked_text, finish_form, session_form, is_number, mover_form, numbered_form, setup_form, named_form, bare_form, form_of}
 use Rattle.script_reader.specs.Reading.{IsShort}
 
 -- the digits that a line begins with are digits
@@ -59,11 +59,21 @@ module _ (n : ℕ) where
       at false true = finish_short session rest
       at false false = blanked_short (λ text. Ask (Whole session text)) (c ∷ rest) (λ t h. h) l
 
-  numbered_short : (line : List ℕ) → length line ≤ n → IsShort n (numbered_form line)
-  numbered_short line l = at (is_number (take_while is_digit line))
+  mover_short : (mover : ℕ) (rest : List ℕ) → IsShort n (mover_form mover rest)
+  mover_short mover [] = omega arith
+  mover_short mover (c ∷ []) = at (c == 62) (c == 60)
     where
-      at : (t : Bool) → IsShort n (cond t (session_form (digits_value (take_while is_digit line)) (drop (prefix_len is_digit line) line)) Other)
-      at true = session_short (digits_value (take_while is_digit line)) (drop (prefix_len is_digit line) line) (omega (arith, length-drop (prefix_len is_digit line) line))
+      at : (t u : Bool) → IsShort n (cond t (Ask (Claiming mover)) (cond u (Ask (Installing mover)) Other))
+      at true u = omega arith
+      at false true = omega arith
+      at false false = tt
+  mover_short mover (c ∷ d ∷ rest) = tt
+
+  numbered_short : (form : ℕ → List ℕ → Form) → ((number : ℕ) (rest : List ℕ) → length rest ≤ n → IsShort n (form number rest)) → (line : List ℕ) → length line ≤ n → IsShort n (numbered_form form line)
+  numbered_short form each line l = at (is_number (take_while is_digit line))
+    where
+      at : (t : Bool) → IsShort n (cond t (form (digits_value (take_while is_digit line)) (drop (prefix_len is_digit line) line)) Other)
+      at true = each (digits_value (take_while is_digit line)) (drop (prefix_len is_digit line) line) (omega (arith, length-drop (prefix_len is_digit line) line))
       at false = tt
 
   behind_short : (form : List ℕ → Form) (front line : List ℕ) (other : Form) → length line ≤ n → ((rest : List ℕ) → length rest ≤ n → IsShort n (form rest)) → IsShort n other → IsShort n (option_map_or form (behind front line) other)
@@ -73,12 +83,18 @@ module _ (n : ℕ) where
       at true = h (drop (length front) line) (omega (arith, length-drop (length front) line))
       at false = o
 
+  named_short : (line : List ℕ) → length line ≤ n → IsShort n (named_form line)
+  named_short line l =
+      behind_short setup_form (codes "setup") line _ l (λ rest m. blanked_short Setup rest (λ t h. h) m)
+      (behind_short (numbered_form session_form) (codes "s") line _ l (numbered_short session_form session_short)
+      (behind_short (numbered_form mover_form) (codes "m") line Other l (numbered_short mover_form (λ mover rest m. mover_short mover rest)) tt))
+
   bare_short : (line : List ℕ) → length line ≤ n → IsShort n (bare_form line)
   bare_short line l = at ((length line == 0) || starts_with nat_eq line (codes "--"))
     where
-      at : (t : Bool) → IsShort n (cond t Skipped (option_map_or setup_form (behind (codes "setup") line) (option_map_or numbered_form (behind (codes "s") line) Other)))
+      at : (t : Bool) → IsShort n (cond t Skipped (named_form line))
       at true = tt
-      at false = behind_short setup_form (codes "setup") line _ l (λ rest m. blanked_short Setup rest (λ t h. h) m) (behind_short numbered_form (codes "s") line Other l numbered_short tt)
+      at false = named_short line l
 
 not_long : (line : List ℕ) → line_reason line ≡ None → length line ≤ 65536
 not_long line e = at (nat_lt 65536 (length line)) refl e

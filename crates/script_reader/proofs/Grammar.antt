@@ -3,15 +3,15 @@ use Rattle.std.proofs.Common.{◌≡◌, ◌⊎◌, inl, inr, ℕ, ◌+◌, ◌<
 use Rattle.std.proofs.Math.Numerals.{one-add}
 use Rattle.std.proofs.Math.Seq.{take-append_seam, drop-append_seam}
 use Rattle.std.proofs.lemmas.Bool.{eqb-true, leb-true, ne_eqb}
-use Rattle.std.proofs.lemmas.List.{take-append-drop}
+use Rattle.std.proofs.lemmas.List.{append-nil, take-append-drop}
 use Rattle.std.specs.Prelude.{Option, None, Some, codes, nat_eq, nat_le, ◌==◌}
 use Rattle.std.specs.List.{list_all, prefix_len, take_while, starts_with}
 use Rattle.std.specs.Option.{option_map_or}
 use Rattle.cs_types.specs.Calendar.{is_digit, digits_value}
-use Rattle.script_reader.specs.declared.script.Step.TheVariants.{Whole, Begun, Finished}
+use Rattle.script_reader.specs.declared.script.Step.TheVariants.{Whole, Begun, Finished, Turn, Claiming, Installing}
 use Rattle.script_reader.specs.declared.form.Form.{Form}
 use Rattle.script_reader.specs.declared.form.Form.TheVariants.{Skipped, Setup, Ask, Other}
-use Rattle.script_reader.specs.Lines.{is_blank, unblanked, stripped, some_text, blanked_text, finish_form, session_form, is_number, numbered_form, setup_form, bare_form, form_of}
+use Rattle.script_reader.specs.Lines.{is_blank, unblanked, stripped, some_text, blanked_text, finish_form, session_form, is_number, mover_form, numbered_form, setup_form, named_form, bare_form, form_of}
 use Rattle.script_reader.specs.Grammar.{AreBlanks, IsText, IsNumber, IsOfForm}
 use Rattle.script_reader.proofs.Forms.{digits_all}
 
@@ -95,12 +95,23 @@ module _ (line digits : List ℕ) (session : ℕ) (number : IsNumber digits sess
       at false true e f = finish_sound rest (cut ∙ ap (λ b. codes "s" ++ (digits ++ (b ∷ rest))) (eqb-true c 60 f))
       at false false e f = whole_sound (c ∷ rest) cut
 
-numbered_sound : (line rest : List ℕ) → line ≡ codes "s" ++ rest → Sound line (numbered_form rest)
-numbered_sound line rest cut = at (is_number (take_while is_digit rest)) refl
+mover_sound : (line digits : List ℕ) (mover : ℕ) → IsNumber digits mover → (rest : List ℕ) → line ≡ codes "m" ++ (digits ++ rest) → Sound line (mover_form mover rest)
+mover_sound line digits mover number [] cut = inr (digits, cut ∙ ap (λ xs. codes "m" ++ xs) (append-nil digits), number)
+mover_sound line digits mover number (c ∷ []) cut = at (c == 62) (c == 60) refl refl
   where
-    at : (t : Bool) → is_number (take_while is_digit rest) ≡ t → Sound line (cond t (session_form (digits_value (take_while is_digit rest)) (drop (prefix_len is_digit rest) rest)) Other)
-    at true e = session_sound line (take_while is_digit rest) (digits_value (take_while is_digit rest)) (digits_all rest, e, refl) (drop (prefix_len is_digit rest) rest)
-        (cut ∙ ap (λ xs. codes "s" ++ xs) (sym (take-append-drop (prefix_len is_digit rest) rest)))
+    at : (t u : Bool) → (c == 62) ≡ t → (c == 60) ≡ u → Sound line (cond t (Ask (Claiming mover)) (cond u (Ask (Installing mover)) Other))
+    at true u e f = inr (digits, cut ∙ ap (λ b. codes "m" ++ (digits ++ (b ∷ []))) (eqb-true c 62 e), number)
+    at false true e f = inr (digits, cut ∙ ap (λ b. codes "m" ++ (digits ++ (b ∷ []))) (eqb-true c 60 f), number)
+    at false false e f = inl refl
+mover_sound line digits mover number (c ∷ d ∷ rest) cut = inl refl
+
+numbered_sound : (line front : List ℕ) (form : ℕ → List ℕ → Form) → ((digits : List ℕ) (number : ℕ) → IsNumber digits number → (rest : List ℕ) → line ≡ front ++ (digits ++ rest) → Sound line (form number rest))
+    → (rest : List ℕ) → line ≡ front ++ rest → Sound line (numbered_form form rest)
+numbered_sound line front form each rest cut = at (is_number (take_while is_digit rest)) refl
+  where
+    at : (t : Bool) → is_number (take_while is_digit rest) ≡ t → Sound line (cond t (form (digits_value (take_while is_digit rest)) (drop (prefix_len is_digit rest) rest)) Other)
+    at true e = each (take_while is_digit rest) (digits_value (take_while is_digit rest)) (digits_all rest, e, refl) (drop (prefix_len is_digit rest) rest)
+        (cut ∙ ap (λ xs. front ++ xs) (sym (take-append-drop (prefix_len is_digit rest) rest)))
     at false e = inl refl
 
 -- what stands behind a front
@@ -117,16 +128,23 @@ empty : (line : List ℕ) → (length line == 0) ≡ true → line ≡ []
 empty [] e = refl
 empty (c ∷ line) e = absurd (grind arith)
 
-bare_sound : (line : List ℕ) → Sound line (bare_form line)
-bare_sound line = at (length line == 0) (starts_with nat_eq line (codes "--")) (starts_with nat_eq line (codes "setup")) (starts_with nat_eq line (codes "s")) refl refl refl refl
+named_sound : (line : List ℕ) → Sound line (named_form line)
+named_sound line = at (starts_with nat_eq line (codes "setup")) (starts_with nat_eq line (codes "s")) (starts_with nat_eq line (codes "m")) refl refl refl
   where
-    at : (a b t u : Bool) → (length line == 0) ≡ a → starts_with nat_eq line (codes "--") ≡ b → starts_with nat_eq line (codes "setup") ≡ t → starts_with nat_eq line (codes "s") ≡ u
-        → Sound line (cond (a || b) Skipped (option_map_or setup_form (cond t (Some (drop 5 line)) None) (option_map_or numbered_form (cond u (Some (drop 1 line)) None) Other)))
-    at true b t u e f g h = inr (inl (empty line e))
-    at false true t u e f g h = inr (inr (drop 2 line, behind_is (codes "--") line f))
-    at false false true u e f g h = setup_sound line (drop 5 line) (behind_is (codes "setup") line g)
-    at false false false true e f g h = numbered_sound line (drop 1 line) (behind_is (codes "s") line h)
-    at false false false false e f g h = inl refl
+    at : (t u v : Bool) → starts_with nat_eq line (codes "setup") ≡ t → starts_with nat_eq line (codes "s") ≡ u → starts_with nat_eq line (codes "m") ≡ v
+        → Sound line (option_map_or setup_form (cond t (Some (drop 5 line)) None) (option_map_or (numbered_form session_form) (cond u (Some (drop 1 line)) None) (option_map_or (numbered_form mover_form) (cond v (Some (drop 1 line)) None) Other)))
+    at true u v e f g = setup_sound line (drop 5 line) (behind_is (codes "setup") line e)
+    at false true v e f g = numbered_sound line (codes "s") session_form (session_sound line) (drop 1 line) (behind_is (codes "s") line f)
+    at false false true e f g = numbered_sound line (codes "m") mover_form (mover_sound line) (drop 1 line) (behind_is (codes "m") line g)
+    at false false false e f g = inl refl
+
+bare_sound : (line : List ℕ) → Sound line (bare_form line)
+bare_sound line = at (length line == 0) (starts_with nat_eq line (codes "--")) refl refl
+  where
+    at : (a b : Bool) → (length line == 0) ≡ a → starts_with nat_eq line (codes "--") ≡ b → Sound line (cond (a || b) Skipped (named_form line))
+    at true b e f = inr (inl (empty line e))
+    at false true e f = inr (inr (drop 2 line, behind_is (codes "--") line f))
+    at false false e f = named_sound line
 
 pub form_sound : (line : List ℕ) → (form_of line ≡ Other) ⊎ IsOfForm (stripped line) (form_of line)
 unfolding form_of
@@ -163,9 +181,9 @@ digits_front [] tail all stop = stop
 digits_front (d ∷ digits) tail all stop = let both = both_true (is_digit d) (list_all is_digit digits) all in
     ap (λ b. cond b (1 + prefix_len is_digit (digits ++ tail)) 0) both.0 ∙ ap (λ n. 1 + n) (digits_front digits tail both.1 stop) ∙ one-add (length digits)
 
-numbered_is : (digits tail : List ℕ) (session : ℕ) → IsNumber digits session → prefix_len is_digit tail ≡ 0 → numbered_form (digits ++ tail) ≡ session_form session tail
-numbered_is digits tail session number stop =
-    rw (digits_front digits tail number.0 stop, take-append_seam digits tail, drop-append_seam digits tail, number.1) (ap (λ s. session_form s tail) (sym number.2))
+numbered_is : (form : ℕ → List ℕ → Form) (digits tail : List ℕ) (number : ℕ) → IsNumber digits number → prefix_len is_digit tail ≡ 0 → numbered_form form (digits ++ tail) ≡ form number tail
+numbered_is form digits tail number are stop =
+    rw (digits_front digits tail are.0 stop, take-append_seam digits tail, drop-append_seam digits tail, are.1) (ap (λ n. form n tail) (sym are.2))
 
 not_zero : (xs : List ℕ) (c : ℕ) → (length (c ∷ xs) == 0) ≡ false
 not_zero xs c = ne_eqb (length (c ∷ xs)) 0 (λ e. absurd (omega arith))
@@ -176,7 +194,10 @@ not_e d e = ne_eqb 101 d (λ same. let high = leb-true d 57 (both_true (nat_le 4
 session_is : (digits tail : List ℕ) (session : ℕ) → IsNumber digits session → prefix_len is_digit tail ≡ 0 → bare_form (codes "s" ++ (digits ++ tail)) ≡ session_form session tail
 session_is [] tail session number stop = let none = number.1 in absurd (cc)
 session_is (d ∷ digits) tail session number stop =
-    rw (not_zero (d ∷ (digits ++ tail)) 115, not_e d (both_true (is_digit d) (list_all is_digit digits) number.0).0) (numbered_is (d ∷ digits) tail session number stop)
+    rw (not_zero (d ∷ (digits ++ tail)) 115, not_e d (both_true (is_digit d) (list_all is_digit digits) number.0).0) (numbered_is session_form (d ∷ digits) tail session number stop)
+
+mover_is : (digits tail : List ℕ) (mover : ℕ) → IsNumber digits mover → prefix_len is_digit tail ≡ 0 → bare_form (codes "m" ++ (digits ++ tail)) ≡ mover_form mover tail
+mover_is digits tail mover number stop = rw (not_zero (digits ++ tail) 109) (numbered_is mover_form digits tail mover number stop)
 
 setup_is : (rest : List ℕ) → bare_form (codes "setup" ++ rest) ≡ setup_form rest
 setup_is rest = rw (not_zero (codes "etup" ++ rest) 115) refl
@@ -211,6 +232,9 @@ bare_whole line (Ask (Whole session text)) is = let w = whole_is is.1 text sessi
 bare_whole line (Ask (Begun session text)) is = ap bare_form is.2 ∙ session_is is.0 (codes ">" ++ (is.1 ++ text)) session is.3 refl
     ∙ ap (λ o. option_map_or (λ text. Ask (Begun session text)) o Other) (text_is is.1 text is.4 is.5)
 bare_whole line (Ask (Finished session)) is = ap bare_form is.1 ∙ session_is is.0 (codes "<") session is.2 refl
+bare_whole line (Ask (Turn mover)) is = ap bare_form (is.1 ∙ ap (λ xs. codes "m" ++ xs) (sym (append-nil is.0))) ∙ mover_is is.0 [] mover is.2 refl
+bare_whole line (Ask (Claiming mover)) is = ap bare_form is.1 ∙ mover_is is.0 (codes ">") mover is.2 refl
+bare_whole line (Ask (Installing mover)) is = ap bare_form is.1 ∙ mover_is is.0 (codes "<") mover is.2 refl
 bare_whole line Other is = absurd is
 
 pub form_whole : (line : List ℕ) (form : Form) → IsOfForm (stripped line) form → form_of line ≡ form

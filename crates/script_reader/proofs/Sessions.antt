@@ -1,32 +1,14 @@
 -- The sessions that steps name.
-use Rattle.std.proofs.Common.{◌≡◌, ℕ, zero, suc, ◌+◌, ◌-◌, ◌<◌, ◌≤◌, List, [], ◌∷◌, ◌++◌, length, get_or, set, take, refl, sym, ap, subst, ◌∙◌, cond, Bool, true, false, ◌||◌, arith, get_or-set_other, get_or-set_same}
-use Rattle.std.proofs.Math.Bool.{or-true}
+use Rattle.std.proofs.Common.{◌≡◌, ℕ, zero, suc, ◌+◌, ◌-◌, ◌<◌, ◌≤◌, List, [], ◌∷◌, ◌++◌, refl, sym, ap, subst, ◌∙◌, cond, Bool, true, false, arith}
 use Rattle.std.proofs.lemmas.Bool.{eqb-true, eqb-false, eq-eqb}
 use Rattle.std.proofs.lemmas.List.Elements.{filter-append, Contains-append_right}
-use Rattle.std.proofs.lemmas.List.Folds.{list_any_more, list_any-from_Any}
+use Rattle.std.proofs.lemmas.List.Folds.{list_any-from_Any}
 use Rattle.std.specs.Prelude.{◌==◌, filter, Contains}
+use Rattle.cs_model.specs.declared.work.Actor.{Actor}
+use Rattle.cs_model.specs.declared.work.Actor.TheVariants.{Session, Mover}
+use Rattle.group_book.specs.Turns.{same_actor}
 use Rattle.script_reader.specs.declared.script.Step.{Step}
-use Rattle.script_reader.specs.Scripts.{session_of, numbers, is_named, sessions_of}
-
-or_false : (b : Bool) → (b || false) ≡ b
-or_false true = refl
-or_false false = refl
-
--- ---- the table of them
-
-pub named_more : (named : List Bool) (steps : List Step) (i : ℕ) (step : Step) → length named ≡ 65 → ((session : ℕ) → session < 65 → get_or named session false ≡ is_named (take i steps) session)
-    → i < length steps → step ≡ get_or steps i step → session_of step < 65 → (session : ℕ) → session < 65 → get_or (set named (session_of step) true) session false ≡ is_named (take (i + 1) steps) session
-named_more named steps i step len h lt is placed session small = at (session_of step == session) refl ∙ sym (list_any_more (λ s. session_of s == session) steps i step lt ∙ ap (λ s. is_named (take i steps) session || (session_of s == session)) (sym is))
-  where
-    at : (t : Bool) → (session_of step == session) ≡ t → get_or (set named (session_of step) true) session false ≡ (is_named (take i steps) session || (session_of step == session))
-    at true e =
-        ap (λ k. get_or (set named (session_of step) true) k false) (sym (eqb-true (session_of step) session e)) ∙ get_or-set_same named (session_of step) true false (omega arith)
-        ∙ sym (ap (λ b. is_named (take i steps) session || b) e ∙ or-true (is_named (take i steps) session))
-    at false e =
-        get_or-set_other named (session_of step) session true false (λ s. eqb-false (session_of step) session e (sym s)) ∙ h session small
-        ∙ sym (ap (λ b. is_named (take i steps) session || b) e ∙ or_false (is_named (take i steps) session))
-
--- ---- the list of them
+use Rattle.script_reader.specs.Scripts.{taken_by, is_by, numbers, is_named, sessions_of, IsServed}
 
 numbers_more : (from n : ℕ) → numbers from (suc n) ≡ numbers from n ++ (from + n) ∷ []
 numbers_more from zero = ap (λ k. k ∷ []) (omega arith)
@@ -53,6 +35,11 @@ pub sessions_are : (steps : List Step) → filter (is_named steps) (numbers 1 64
 unfolding sessions_of
 sessions_are steps = refl
 
+-- an actor of scripts, by its number
+abbrev pub InRange : Actor → Type 0
+InRange (Session n) = (1 ≤ n) × (n ≤ 64)
+InRange (Mover n) = (1 ≤ n) × (n ≤ 8)
+
 found_among : (p : ℕ → Bool) (from n k : ℕ) → from ≤ k → k < from + n → p k ≡ true → Contains (filter p (numbers from n)) k
 found_among p from zero k l h e = absurd (omega arith)
 found_among p from (suc n) k l h e = at (from == k) refl (λ more. found_among p (from + 1) n k more (omega arith) e)
@@ -68,8 +55,12 @@ found_among p from (suc n) k l h e = at (from == k) refl (λ more. found_among p
     at true same has = let is : from ≡ k = eqb-true from k same in subst (λ b. Contains (cond b (from ∷ rest) rest) k) (sym (ap p is ∙ e)) (0, omega arith, is)
     at false same has = let other = eqb-false from k same in later (p from) (has (grind arith))
 
--- each step's session is one of them
-pub session_among : (steps : List Step) (step : Step) → Contains steps step → 1 ≤ session_of step → session_of step ≤ 64 → Contains (sessions_of steps) (session_of step)
-session_among steps step has low high =
-    subst (λ ks. Contains ks (session_of step)) (sessions_are steps)
-    (found_among (is_named steps) 1 64 (session_of step) low (omega arith) (list_any-from_Any (λ s. session_of s == session_of step) steps (has.0, step, has.1, has.2, eq-eqb (session_of step) (session_of step) refl)))
+-- who takes one of the steps is served
+pub served_among : (steps : List Step) (step : Step) (actor : Actor) → Contains steps step → taken_by step ≡ actor → InRange actor → IsServed (sessions_of steps) actor
+served_among steps step (Session n) has by range = (
+  range.0,
+  range.1,
+  subst (λ ks. Contains ks n) (sessions_are steps)
+      (found_among (is_named steps) 1 64 n range.0 (omega (arith, range.1)) (list_any-from_Any (is_by (Session n)) steps (has.0, step, has.1, has.2, ap (λ a. same_actor a (Session n)) by ∙ eq-eqb n n refl))),
+)
+served_among steps step (Mover n) has by range = range

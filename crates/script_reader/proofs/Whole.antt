@@ -1,13 +1,15 @@
 -- A script that was read whole, and why one was not.
-use Rattle.std.proofs.Common.{◌≡◌, ℕ, ◌+◌, ◌<◌, ◌≤◌, List, [], ◌∷◌, ◌++◌, length, get_or, refl, sym, ap, subst, ◌∙◌, cond, Bool, true, false, ◌&&◌, not, arith, append_assoc}
-use Rattle.std.proofs.lemmas.Bool.{leb-true, ne_eqb}
+use Rattle.std.proofs.Common.{◌≡◌, ℕ, ◌+◌, ◌≤◌, List, [], ◌∷◌, ◌++◌, length, get_or, refl, sym, ap, subst, ◌∙◌, cond, Bool, true, false, ◌&&◌, not, arith, append_assoc}
+use Rattle.std.proofs.lemmas.Bool.{leb-true}
 use Rattle.std.proofs.lemmas.List.{append-nil}
 use Rattle.std.proofs.lemmas.List.Elements.{All-nil, All-cons, All-weaker, All-contains_itself}
-use Rattle.std.specs.Prelude.{Option, None, Some, Result, Ok, Err, MatchResult, nat_le, All, Contains}
+use Rattle.std.specs.Prelude.{Option, None, Some, Result, Ok, Err, MatchResult, nat_le, All}
 use Rattle.std.specs.List.{cons_option}
 use Rattle.std.specs.Result.{IsErrAnd, IfErr}
 use Rattle.cs_types.specs.declared.Schema.{Schema}
 use Rattle.cs_types.specs.Schemas.{IsSchema}
+use Rattle.cs_model.specs.declared.work.Actor.{Actor}
+use Rattle.cs_model.specs.declared.work.Actor.TheVariants.{Session, Mover}
 use Rattle.tsql_create.specs.Tables.{IsTable}
 use Rattle.script_reader.specs.declared.form.Form.{Form}
 use Rattle.script_reader.specs.declared.form.Form.TheVariants.{Skipped, Setup, Ask, Other}
@@ -17,12 +19,12 @@ use Rattle.script_reader.specs.declared.script.Step.{Step}
 use Rattle.script_reader.specs.declared.script.ScriptRefusal.{ScriptRefusal}
 use Rattle.script_reader.specs.declared.script.ScriptRefusal.TheVariants.{Bad, Memory}
 use Rattle.script_reader.specs.Lines.{lines, line_reason, form_of}
-use Rattle.script_reader.specs.Scripts.{session_of, text_of, sessions_of, half_done, may_follow, ArePaired, setups, step_in, steps_of, is_session, step_reason, form_reason, IsGood, AreGood, IsScript, IsBadLine, bad_line, no_setup, left_half_done, RefusesScript, IsRunnable}
-use Rattle.script_reader.specs.Reading.{IsShort, AreMarked, IsOnlyTable, IsSetUp, IsRead, RefusesLine}
+use Rattle.script_reader.specs.Scripts.{taken_by, text_of, sessions_of, half_done, may_follow, ArePaired, setups, step_in, steps_of, is_actor, step_reason, form_reason, IsGood, AreGood, IsScript, IsBadLine, bad_line, no_setup, left_half_done, RefusesScript, IsServed, IsRunnable}
+use Rattle.script_reader.specs.Reading.{IsShort, HasPlace, IsOnlyTable, IsSetUp, IsRead, RefusesLine}
 use Rattle.script_reader.proofs.Behind.{good_at, steps_push, form_good, step_good, option_or_none}
 use Rattle.script_reader.proofs.Forms.{form_short}
-use Rattle.script_reader.proofs.Halves.{half_none}
-use Rattle.script_reader.proofs.Sessions.{session_among}
+use Rattle.script_reader.proofs.Halves.{none_half}
+use Rattle.script_reader.proofs.Sessions.{InRange, served_among}
 
 -- ---- the steps of good lines
 
@@ -37,15 +39,15 @@ module _ (P : Step → Type 0) (one : (before : List (List ℕ)) (line : List �
       at Other is all = all
       at (Ask step) is all = All-cons P step (steps_of lines) (one before line step g.0 is) all
 
-step_fine : (steps : List Step) (step : Step) → step_reason steps step ≡ None → (is_session (session_of step) ≡ true) × (may_follow steps step ≡ true)
-step_fine steps step e = at (is_session (session_of step)) (may_follow steps step) refl refl e
+step_fine : (steps : List Step) (step : Step) → step_reason steps step ≡ None → (is_actor (taken_by step) ≡ true) × (may_follow steps step ≡ true)
+step_fine steps step e = at (is_actor (taken_by step)) (may_follow steps step) refl refl e
   where
-    at : (s m : Bool) → is_session (session_of step) ≡ s → may_follow steps step ≡ m → cond {A = Option ℕ} (not s) (Some 4) (cond {A = Option ℕ} m None (Some 7)) ≡ None → (is_session (session_of step) ≡ true) × (may_follow steps step ≡ true)
+    at : (s m : Bool) → is_actor (taken_by step) ≡ s → may_follow steps step ≡ m → cond {A = Option ℕ} (not s) (Some 4) (cond {A = Option ℕ} m None (Some 7)) ≡ None → (is_actor (taken_by step) ≡ true) × (may_follow steps step ≡ true)
     at true true s m e = (s, m)
     at true false s m e = absurd (cc)
     at false m s f e = absurd (cc)
 
-fine_of : (before : List (List ℕ)) (line : List ℕ) (step : Step) → IsGood before line → form_of line ≡ Ask step → (is_session (session_of step) ≡ true) × (may_follow (steps_of before) step ≡ true)
+fine_of : (before : List (List ℕ)) (line : List ℕ) (step : Step) → IsGood before line → form_of line ≡ Ask step → (is_actor (taken_by step) ≡ true) × (may_follow (steps_of before) step ≡ true)
 fine_of before line step g is = step_fine (steps_of before) step (step_good (setups before) (steps_of before) step (form_good before line (Ask step) g.0 is))
 
 both_true : (a b : Bool) → (a && b) ≡ true → (a ≡ true) × (b ≡ true)
@@ -53,52 +55,54 @@ both_true true true e = (refl, refl)
 both_true true false e = absurd (cc)
 both_true false b e = absurd (cc)
 
-InRange : Step → Type 0
-InRange step = (1 ≤ session_of step) × (session_of step ≤ 64)
+between : (n most : ℕ) → (nat_le 1 n && nat_le n most) ≡ true → (1 ≤ n) × (n ≤ most)
+between n most e = let both = both_true (nat_le 1 n) (nat_le n most) e in (leb-true 1 n both.0, leb-true n most both.1)
 
-in_range : (step : Step) → is_session (session_of step) ≡ true → InRange step
-unfolding InRange
-in_range step e = let both = both_true (nat_le 1 (session_of step)) (nat_le (session_of step) 64) e in (leb-true 1 (session_of step) both.0, leb-true (session_of step) 64 both.1)
+in_range : (actor : Actor) → is_actor actor ≡ true → InRange actor
+in_range (Session n) e = between n 64 e
+in_range (Mover n) e = between n 8 e
 
-range_of : (lines : List (List ℕ)) → AreGood [] lines → All InRange (steps_of lines)
-range_of lines g = good_steps InRange (λ before line step good is. in_range step (fine_of before line step good is).0) [] lines g
+placed_in : (actor : Actor) → InRange actor → HasPlace actor
+placed_in (Session n) range = omega (arith, range.1)
+placed_in (Mover n) range = omega (arith, range.1)
 
-pub placed_of : (lines : List (List ℕ)) → AreGood [] lines → All (λ step. session_of step < 65) (steps_of lines)
-unfolding InRange
-placed_of lines g = All-weaker InRange (λ step. session_of step < 65) (λ step r. omega (arith, r.1)) (steps_of lines) (range_of lines g)
+range_of : (lines : List (List ℕ)) → AreGood [] lines → All (λ step. InRange (taken_by step)) (steps_of lines)
+range_of lines g = good_steps (λ step. InRange (taken_by step)) (λ before line step good is. in_range (taken_by step) (fine_of before line step good is).0) [] lines g
+
+pub placed_of : (lines : List (List ℕ)) → AreGood [] lines → All (λ step. HasPlace (taken_by step)) (steps_of lines)
+placed_of lines g = All-weaker (λ step. InRange (taken_by step)) (λ step. HasPlace (taken_by step)) (λ step. placed_in (taken_by step)) (steps_of lines) (range_of lines g)
 
 short_of : (lines : List (List ℕ)) → AreGood [] lines → All (λ step. length (text_of step) ≤ 65536) (steps_of lines)
 short_of lines g = good_steps (λ step. length (text_of step) ≤ 65536) (λ before line step good is. subst (IsShort 65536) is
     (form_short line (option_or_none (line_reason line) (form_reason (setups before) (steps_of before) (form_of line)) good.0).0)) [] lines g
 
-paired_of : (before lines : List (List ℕ)) (steps : List Step) → steps ≡ steps_of before → AreGood before lines → ((session : ℕ) → half_done session (steps ++ steps_of lines) ≡ false) → ArePaired steps (steps_of lines)
-paired_of before [] steps e g end = λ session. subst (λ xs. half_done session xs ≡ false) (append-nil steps) (end session)
+paired_of : (before lines : List (List ℕ)) (steps : List Step) → steps ≡ steps_of before → AreGood before lines → ((actor : Actor) → half_done actor (steps ++ steps_of lines) ≡ false) → ArePaired steps (steps_of lines)
+paired_of before [] steps e g end = λ actor. subst (λ xs. half_done actor xs ≡ false) (append-nil steps) (end actor)
 paired_of before (line ∷ lines) steps e g end = at (form_of line) refl (λ more is. paired_of (before ++ line ∷ []) lines more is g.1) end
   where
     at : (form : Form) → form_of line ≡ form
-        → ((more : List Step) → more ≡ steps_of (before ++ line ∷ []) → ((session : ℕ) → half_done session (more ++ steps_of lines) ≡ false) → ArePaired more (steps_of lines))
-        → ((session : ℕ) → half_done session (steps ++ cons_option (step_in form) (steps_of lines)) ≡ false) → ArePaired steps (cons_option (step_in form) (steps_of lines))
+        → ((more : List Step) → more ≡ steps_of (before ++ line ∷ []) → ((actor : Actor) → half_done actor (more ++ steps_of lines) ≡ false) → ArePaired more (steps_of lines))
+        → ((actor : Actor) → half_done actor (steps ++ cons_option (step_in form) (steps_of lines)) ≡ false) → ArePaired steps (cons_option (step_in form) (steps_of lines))
     at Skipped is all end = all steps (e ∙ sym (steps_push before line ∙ ap (λ form. steps_of before ++ cons_option (step_in form) []) is ∙ append-nil (steps_of before))) end
     at (Setup text) is all end = all steps (e ∙ sym (steps_push before line ∙ ap (λ form. steps_of before ++ cons_option (step_in form) []) is ∙ append-nil (steps_of before))) end
     at Other is all end = all steps (e ∙ sym (steps_push before line ∙ ap (λ form. steps_of before ++ cons_option (step_in form) []) is ∙ append-nil (steps_of before))) end
     at (Ask step) is all end = (
       ap (λ xs. may_follow xs step) e ∙ (fine_of before line step g.0 is).1,
       all (steps ++ step ∷ []) (ap (λ xs. xs ++ step ∷ []) e ∙ sym (steps_push before line ∙ ap (λ form. steps_of before ++ cons_option (step_in form) []) is))
-          (λ session. subst (λ xs. half_done session xs ≡ false) (sym (append_assoc steps (step ∷ []) (steps_of lines))) (end session)),
+          (λ actor. subst (λ xs. half_done actor xs ≡ false) (sym (append_assoc steps (step ∷ []) (steps_of lines))) (end actor)),
     )
 
 -- ---- a script
 
 -- a script with a schema that may be can be run
 pub runs_of : (bytes : List ℕ) (script : Script) → IsScript bytes script → IsSchema script.schema → IsRunnable script
-unfolding InRange
 runs_of bytes script s valid = record {
   schema = valid;
   short = subst (All (λ step. length (text_of step) ≤ 65536)) (sym s.steps) (short_of (lines bytes) s.good);
   sessions = s.sessions;
-  range = λ k d lt. let r = subst (All InRange) (sym s.steps) (range_of (lines bytes) s.good) k d lt in
-      (r.0, r.1, subst (λ ks. Contains ks (session_of (get_or script.lines k d))) (sym s.sessions) (session_among script.lines (get_or script.lines k d) (All-contains_itself script.lines k d lt) r.0 r.1));
-  paired = subst (ArePaired []) (sym s.steps) (paired_of [] (lines bytes) [] refl s.good (λ session. subst (λ xs. half_done session xs ≡ false) s.steps (s.finished session)));
+  range = λ k d lt. subst (λ ks. IsServed ks (taken_by (get_or script.lines k d))) (sym s.sessions)
+      (served_among script.lines (get_or script.lines k d) (taken_by (get_or script.lines k d)) (All-contains_itself script.lines k d lt) refl (subst (All (λ step. InRange (taken_by step))) (sym s.steps) (range_of (lines bytes) s.good) k d lt));
+  paired = subst (ArePaired []) (sym s.steps) (paired_of [] (lines bytes) [] refl s.good (λ actor. subst (λ xs. half_done actor xs ≡ false) s.steps (s.finished actor)));
 }
 
 -- the table that one setup line has
@@ -112,14 +116,6 @@ none_setup [] h = refl
 none_setup (text ∷ []) h = absurd h
 none_setup (text ∷ next ∷ texts) h = absurd h
 
--- a session that has no mark has no statement half done, and one over 64 is no step's
-unmarked : (marks : List Bool) (steps : List Step) → AreMarked marks steps → All (λ step. session_of step < 65) steps → ((session : ℕ) → session < 65 → get_or marks session false ≡ false) → (session : ℕ) → half_done session steps ≡ false
-unmarked marks steps m placed none session = at (nat_le 65 session) refl
-  where
-    at : (t : Bool) → nat_le 65 session ≡ t → half_done session steps ≡ false
-    at true e = let high = leb-true 65 session e in half_none session steps (λ k d lt. ne_eqb (session_of (get_or steps k d)) session (λ same. let p = placed k d lt in absurd (omega arith)))
-    at false e = let low : session < 65 = grind arith in sym (m.1 session low) ∙ none session low
-
 module _ (bytes : List ℕ) (reading : Reading) (r : IsRead (lines bytes) reading) where
   pub refused_none : (n : ℕ) (e : ScriptRefusal) → n ≡ length (lines bytes) + 1 → reading.schema ≡ None → e ≡ Bad n 2 0 → RefusesScript bytes e
   refused_none n e end none is = subst (RefusesScript bytes) (sym is) (subst (λ k. IsBadLine bytes k 2 0) (sym end) (no_setup r.good (none_setup (setups (lines bytes)) (subst (IsSetUp (setups (lines bytes))) none r.setup))))
@@ -127,22 +123,20 @@ module _ (bytes : List ℕ) (reading : Reading) (r : IsRead (lines bytes) readin
   pub none_only : (e : ScriptRefusal) (other : Script) → reading.schema ≡ None → IsScript bytes other → e ≡ Memory
   none_only e other none o = let both = sym o.setup ∙ none_setup (setups (lines bytes)) (subst (IsSetUp (setups (lines bytes))) none r.setup) in absurd (cc)
 
-  half_of : (session : ℕ) → session < 65 → get_or reading.half_done session false ≡ true → half_done session (steps_of (lines bytes)) ≡ true
-  half_of session low mark = ap (half_done session) (sym r.steps) ∙ sym (r.marked.1 session low) ∙ mark
+  half_of : (actor : Actor) → half_done actor reading.lines ≡ true → half_done actor (steps_of (lines bytes)) ≡ true
+  half_of actor half = ap (half_done actor) (sym r.steps) ∙ half
 
-  pub refused_half : (session n : ℕ) (e : ScriptRefusal) → session < length reading.half_done → get_or reading.half_done session false ≡ true → n ≡ length (lines bytes) + 1 → e ≡ Bad n 7 0 → RefusesScript bytes e
-  refused_half session n e low mark end is = let len = r.marked.0 in
-      subst (RefusesScript bytes) (sym is) (subst (λ k. IsBadLine bytes k 7 0) (sym end) (left_half_done session r.good (half_of session (omega arith) mark)))
+  pub refused_half : (actor : Actor) (n : ℕ) (e : ScriptRefusal) → half_done actor reading.lines ≡ true → n ≡ length (lines bytes) + 1 → e ≡ Bad n 7 0 → RefusesScript bytes e
+  refused_half actor n e half end is = subst (RefusesScript bytes) (sym is) (subst (λ k. IsBadLine bytes k 7 0) (sym end) (left_half_done actor r.good (half_of actor half)))
 
-  pub half_only : (session : ℕ) (e : ScriptRefusal) (other : Script) → session < length reading.half_done → get_or reading.half_done session false ≡ true → IsScript bytes other → e ≡ Memory
-  half_only session e other low mark o = let len = r.marked.0 in
-      let both = sym (half_of session (omega arith) mark) ∙ ap (half_done session) (sym o.steps) ∙ o.finished session in absurd (cc)
+  pub half_only : (actor : Actor) (e : ScriptRefusal) (other : Script) → half_done actor reading.lines ≡ true → IsScript bytes other → e ≡ Memory
+  half_only actor e other half o = let both = sym (half_of actor half) ∙ ap (half_done actor) (sym o.steps) ∙ o.finished actor in absurd (cc)
 
   module _ (schema : Schema) (set : reading.schema ≡ Some schema) where
     table_of : (text : List ℕ) × (setups (lines bytes) ≡ text ∷ []) × IsOnlyTable text schema
     table_of = only_setup (setups (lines bytes)) schema (subst (IsSetUp (setups (lines bytes))) set r.setup)
 
-    pub found_script : (sessions : List ℕ) → sessions ≡ sessions_of reading.lines → ((session : ℕ) → session < 65 → get_or reading.half_done session false ≡ false)
+    pub found_script : (sessions : List ℕ) → sessions ≡ sessions_of reading.lines → ((actor : Actor) → HasPlace actor → half_done actor reading.lines ≡ false)
         → IsScript bytes (record { schema = schema; lines = reading.lines; sessions = sessions })
     found_script sessions named none = let t = table_of in record {
       good = r.good;
@@ -150,7 +144,7 @@ module _ (bytes : List ℕ) (reading : Reading) (r : IsRead (lines bytes) readin
       setup = t.1;
       table = t.2.table;
       steps = r.steps;
-      finished = unmarked reading.half_done reading.lines r.marked (subst (All (λ step. session_of step < 65)) (sym r.steps) (placed_of (lines bytes) r.good)) none;
+      finished = none_half reading.lines (subst (All (λ step. HasPlace (taken_by step))) (sym r.steps) (placed_of (lines bytes) r.good)) none;
       sessions = named;
     }
 

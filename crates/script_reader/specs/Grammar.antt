@@ -2,7 +2,7 @@
 use Rattle.std.specs.Prelude.{◌≡◌, ◌⊎◌, ◌<◌, ℕ, List, [], ◌++◌, length, codes, true}
 use Rattle.std.specs.List.{list_all}
 use Rattle.cs_types.specs.Calendar.{is_digit, digits_value}
-use Rattle.script_reader.specs.declared.script.Step.TheVariants.{Whole, Begun, Finished}
+use Rattle.script_reader.specs.declared.script.Step.TheVariants.{Whole, Begun, Finished, Turn, Claiming, Installing}
 use Rattle.script_reader.specs.declared.form.Form.{Form}
 use Rattle.script_reader.specs.declared.form.Form.TheVariants.{Skipped, Setup, Ask, Other}
 use Rattle.script_reader.specs.Lines.{is_blank, unblanked, is_number}
@@ -15,9 +15,9 @@ AreBlanks blanks = list_all is_blank blanks ≡ true
 abbrev pub IsText : List ℕ → Type 0
 IsText text = (0 < length text) × (unblanked text ≡ text)
 
--- digits that write a session's number
+-- digits that write the number of a session or a mover
 abbrev pub IsNumber : List ℕ → ℕ → Type 0
-IsNumber digits session = (list_all is_digit digits ≡ true) × (is_number digits ≡ true) × (session ≡ digits_value digits)
+IsNumber digits number = (list_all is_digit digits ≡ true) × (is_number digits ≡ true) × (number ≡ digits_value digits)
 
 -- a line without blanks at its ends is of a form
 abbrev pub IsOfForm : List ℕ → Form → Type 0
@@ -26,4 +26,7 @@ IsOfForm line (Setup text) = (blanks : List ℕ) × (line ≡ codes "setup" ++ (
 IsOfForm line (Ask (Whole session text)) = (digits : List ℕ) × (blanks : List ℕ) × (line ≡ codes "s" ++ (digits ++ (blanks ++ text))) × IsNumber digits session × (0 < length blanks) × AreBlanks blanks × IsText text
 IsOfForm line (Ask (Begun session text)) = (digits : List ℕ) × (blanks : List ℕ) × (line ≡ codes "s" ++ (digits ++ (codes ">" ++ (blanks ++ text)))) × IsNumber digits session × AreBlanks blanks × IsText text
 IsOfForm line (Ask (Finished session)) = (digits : List ℕ) × (line ≡ codes "s" ++ (digits ++ codes "<")) × IsNumber digits session
+IsOfForm line (Ask (Turn mover)) = (digits : List ℕ) × (line ≡ codes "m" ++ digits) × IsNumber digits mover
+IsOfForm line (Ask (Claiming mover)) = (digits : List ℕ) × (line ≡ codes "m" ++ (digits ++ codes ">")) × IsNumber digits mover
+IsOfForm line (Ask (Installing mover)) = (digits : List ℕ) × (line ≡ codes "m" ++ (digits ++ codes "<")) × IsNumber digits mover
 IsOfForm line Other = ⊥

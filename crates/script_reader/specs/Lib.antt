@@ -2,5 +2,4 @@ pub mod Grammar
 pub mod Lines
 pub mod Next
 pub mod Scripts
-pub mod Schedule
 pub mod Reading

@@ -4,7 +4,7 @@ use Rattle.std.specs.List.{list_all, starts_with, prefix_len, take_while}
 use Rattle.std.specs.Option.{option_map_or}
 use Rattle.cs_types.specs.Calendar.{is_digit, digits_value}
 use Rattle.cs_types.specs.Kinds.{is_text_byte}
-use Rattle.script_reader.specs.declared.script.Step.TheVariants.{Whole, Begun, Finished}
+use Rattle.script_reader.specs.declared.script.Step.TheVariants.{Whole, Begun, Finished, Turn, Claiming, Installing}
 use Rattle.script_reader.specs.declared.form.Form.{Form}
 use Rattle.script_reader.specs.declared.form.Form.TheVariants.{Skipped, Setup, Ask, Other}
 
@@ -92,20 +92,33 @@ abbrev pub is_number : List ℕ → Bool
 is_number [] = false
 is_number (d ∷ digits) = not (d == 48) && nat_le (length digits) 8
 
--- behind `s`: a number, and what follows its digits
-abbrev pub numbered_form : List ℕ → Form
-numbered_form line = if is_number (take_while is_digit line) then session_form (digits_value (take_while is_digit line)) (drop (prefix_len is_digit line) line) else Other
+-- behind `m<n>`: nothing, or `>` or `<` alone
+abbrev pub mover_form : ℕ → List ℕ → Form
+mover_form mover [] = Ask (Turn mover)
+mover_form mover (c ∷ []) = if c == 62 then Ask (Claiming mover) else (if c == 60 then Ask (Installing mover) else Other)
+mover_form mover (c ∷ d ∷ rest) = Other
+
+-- behind `s` or `m`: a number, and what follows its digits
+abbrev pub numbered_form : (ℕ → List ℕ → Form) → List ℕ → Form
+numbered_form form line = if is_number (take_while is_digit line) then form (digits_value (take_while is_digit line)) (drop (prefix_len is_digit line) line) else Other
 
 -- behind `setup`: blanks and a text
 abbrev pub setup_form : List ℕ → Form
 setup_form rest = option_map_or Setup (blanked_text rest) Other
 
+-- what stands behind `setup`, `s` or `m`
+abbrev pub named_form : List ℕ → Form
+named_form line =
+    option_map_or setup_form (behind (codes "setup") line)
+    (option_map_or (numbered_form session_form) (behind (codes "s") line)
+    (option_map_or (numbered_form mover_form) (behind (codes "m") line) Other))
+
 -- the form of a line without blanks at its ends
 abbrev pub bare_form : List ℕ → Form
 bare_form line =
-    if (length line == 0) || starts_with nat_eq line (codes "--") then Skipped
-    else option_map_or setup_form (behind (codes "setup") line) (option_map_or numbered_form (behind (codes "s") line) Other)
+    if (length line == 0) || starts_with nat_eq line (codes "--") then Skipped else named_form line
 
--- the form of a line: skipped where it is empty or begins with `--`, `setup` with blanks and a text, a session's step, or none
+-- the form of a line: skipped where it is empty or begins with `--`, `setup` with blanks and a text, a step of a session or a
+-- mover, or none
 unfoldable pub form_of : List ℕ → Form
 form_of line = bare_form (stripped line)

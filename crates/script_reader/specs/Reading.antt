@@ -2,14 +2,17 @@
 use Rattle.std.specs.Prelude.{◌≡◌, ℕ, ◌≤◌, ◌<◌, List, [], ◌∷◌, length, Bool, false, slice_index_or, Option, None, Some}
 use Rattle.cs_types.specs.declared.Schema.{Schema}
 use Rattle.cs_types.specs.Schemas.{IsSchema}
+use Rattle.cs_model.specs.declared.work.Actor.{Actor}
+use Rattle.cs_model.specs.declared.work.Actor.TheVariants.{Session, Mover}
 use Rattle.tsql_create.specs.Tables.{IsTable, IsNoTable}
 use Rattle.script_reader.specs.declared.form.Form.{Form}
 use Rattle.script_reader.specs.declared.form.Form.TheVariants.{Skipped, Setup, Ask, Other}
+use Rattle.script_reader.specs.declared.read.HalfDone.{HalfDone}
 use Rattle.script_reader.specs.declared.read.Reading.{Reading}
 use Rattle.script_reader.specs.declared.script.Step.{Step}
 use Rattle.script_reader.specs.declared.script.ScriptRefusal.{ScriptRefusal}
 use Rattle.script_reader.specs.declared.script.ScriptRefusal.TheVariants.{Bad, Memory}
-use Rattle.script_reader.specs.Scripts.{half_done, session_of, text_of, setups, steps_of, AreGood, IsGood, IsBad}
+use Rattle.script_reader.specs.Scripts.{half_done, taken_by, text_of, setups, steps_of, AreGood, IsGood, IsBad}
 
 -- each text of the form has at most so many bytes
 abbrev pub IsShort : ℕ → Form → Type 0
@@ -18,16 +21,25 @@ IsShort most (Ask step) = length (text_of step) ≤ most
 IsShort most Skipped = Unit {0}
 IsShort most Other = Unit {0}
 
--- the session of the form's step has a place
+-- there is a place for the actor
+abbrev pub HasPlace : Actor → Type 0
+HasPlace (Session n) = n < 65
+HasPlace (Mover n) = n < 9
+
+-- the actor of the form's step has a place
 abbrev pub IsPlaced : Form → Type 0
-IsPlaced (Ask step) = session_of step < 65
+IsPlaced (Ask step) = HasPlace (taken_by step)
 IsPlaced (Setup text) = Unit {0}
 IsPlaced Skipped = Unit {0}
 IsPlaced Other = Unit {0}
 
--- each session's place says whether it has a statement half done behind these steps
-abbrev pub AreMarked : List Bool → List Step → Type 0
-AreMarked marks steps = (length marks ≡ 65) × ((session : ℕ) → session < 65 → slice_index_or marks session false ≡ half_done session steps)
+-- each place, by the actors' numbers, says whether its actor has something half done behind these steps
+abbrev pub AreMarkedFor : (ℕ → Actor) → ℕ → List Bool → List Step → Type 0
+AreMarkedFor actor places marks steps = (length marks ≡ places) × ((n : ℕ) → n < places → slice_index_or marks n false ≡ half_done (actor n) steps)
+
+pub record AreMarked (marks : HalfDone) (steps : List Step) : Type 0 where
+  pub sessions : AreMarkedFor Session 65 marks.sessions steps
+  pub movers : AreMarkedFor Mover 9 marks.movers steps
 
 -- the table of a setup statement, and of no other
 pub record IsOnlyTable (text : List ℕ) (schema : Schema) : Type 0 where

@@ -1,20 +1,20 @@
 // The form of a line.
 ghost use Rattle.std.specs.Prelude.{◌≡◌, ◌⊎◌, ◌≤◌, ◌<◌, ◌^◌, length, IfOk, IfSome, IsTrue, true, List, ℕ, reverse, codes, if◌then◌else◌, Some, None};
 ghost use Rattle.std.specs.List.{list_all, prefix_len, take_while};
-ghost use Rattle.std.specs.Option.{option_map};
+ghost use Rattle.std.specs.Option.{option_map, option_map_or};
 ghost use Rattle.cs_types.specs.Calendar.{is_digit, digits_value};
 ghost use Rattle.script_reader.specs.declared.form.Form.{Form};
 ghost use Rattle.script_reader.specs.declared.form.Form.TheVariants.{Other};
 ghost use Rattle.script_reader.specs.Grammar.{IsOfForm};
 ghost use Rattle.script_reader.specs.Lines as spec;
-ghost use Rattle.script_reader.specs.Lines.{is_blank, unblanked, stripped, is_number, session_form, numbered_form, form_of};
+ghost use Rattle.script_reader.specs.Lines.{is_blank, unblanked, stripped, is_number, session_form, mover_form, numbered_form, form_of};
 
 use crate::script::Step;
 use cs_base::{Items, Memory};
 use cs_types::Bytes;
 use std::alloc::Global;
 
-/// How many digits a session's number may have.
+/// How many digits the number of a session or a mover may have.
 const MOST_DIGITS: usize = 9;
 
 /// What a line says by its form.
@@ -24,7 +24,7 @@ pub enum Form {
     Skipped,
     /// The setup statement with this text.
     Setup(Bytes),
-    /// A session's step.
+    /// A step of a session or a mover.
     Ask(Step),
     /// No form of a script has it.
     Other,
@@ -134,15 +134,26 @@ fn session_form(alloc: Global, session: u32, rest: &[u8]) -> Result<Form, Memory
     Ok(step.map_or(Form::Other, Form::Ask))
 }
 
-/// The form of a line by what stands behind its `s`.
-fn numbered_form(alloc: Global, rest: &[u8]) -> Result<Form, Memory>
-    ensures { IfOk result (λ form. form ≡ numbered_form rest.now) }
+/// The form of a line by what stands behind its mover.
+fn mover_form(mover: u32, rest: &[u8]) -> Form
+    ensures { result ≡ mover_form mover rest.now }
 {
-    let (number, rest) = rest.split_at(digits(rest));
-    match number_of(number) {
-        Some(session) => session_form(alloc, session, rest),
-        None => Ok(Form::Other),
+    match rest {
+        [] => Form::Ask(Step::Turn { mover }),
+        [b'>'] => Form::Ask(Step::Claiming { mover }),
+        [b'<'] => Form::Ask(Step::Installing { mover }),
+        _ => Form::Other,
     }
+}
+
+/// The number that a line begins with, and what stands behind its digits; None where it begins with no number.
+fn numbered(line: &[u8]) -> Option<(u32, &[u8])>
+    // It gives each line its form by what stands behind `s` or `m`.
+    ensures { (form : ℕ → List ℕ → Form) → option_map_or (λ x. form x.0 x.1.now) result Other ≡ numbered_form form line.now }
+{
+    let (front, rest) = line.split_at(digits(line));
+    let number = number_of(front)?;
+    Some((number, rest))
 }
 
 /// The form of a line by what stands behind its `setup`.
@@ -155,6 +166,42 @@ fn setup_form(alloc: Global, rest: &[u8]) -> Result<Form, Memory>
     }
 }
 
+/// The form of a line by what stands behind its `s`.
+fn session_line(alloc: Global, rest: &[u8]) -> Result<Form, Memory>
+    ensures { IfOk result (λ form. form ≡ numbered_form session_form rest.now) }
+{
+    match numbered(rest) {
+        Some((session, rest)) => session_form(alloc, session, rest),
+        None => Ok(Form::Other),
+    }
+}
+
+/// The form of a line by what stands behind its `m`.
+fn mover_line(rest: &[u8]) -> Form
+    ensures { result ≡ numbered_form mover_form rest.now }
+{
+    match numbered(rest) {
+        Some((mover, rest)) => mover_form(mover, rest),
+        None => Form::Other,
+    }
+}
+
+/// The form of a line by what it begins with: `setup`, `s` or `m`.
+fn named_form(alloc: Global, line: &[u8]) -> Result<Form, Memory>
+    ensures { IfOk result (λ form. form ≡ spec.named_form line.now) }
+{
+    if let Some(rest) = behind(b"setup", line) {
+        return setup_form(alloc, rest);
+    }
+    if let Some(rest) = behind(b"s", line) {
+        return session_line(alloc, rest);
+    }
+    match behind(b"m", line) {
+        Some(rest) => Ok(mover_line(rest)),
+        None => Ok(Form::Other),
+    }
+}
+
 /// The form of a line without blanks at its ends.
 fn bare_form(alloc: Global, line: &[u8]) -> Result<Form, Memory>
     ensures { IfOk result (λ form. form ≡ spec.bare_form line.now) }
@@ -162,13 +209,7 @@ fn bare_form(alloc: Global, line: &[u8]) -> Result<Form, Memory>
     if line.is_empty() || line.starts_with(b"--") {
         return Ok(Form::Skipped);
     }
-    if let Some(rest) = behind(b"setup", line) {
-        return setup_form(alloc, rest);
-    }
-    match behind(b"s", line) {
-        Some(rest) => numbered_form(alloc, rest),
-        None => Ok(Form::Other),
-    }
+    named_form(alloc, line)
 }
 
 /// The form of a line, with copies of its texts. `Memory` comes where there is no room for them.

@@ -1,9 +1,9 @@
 //! Scripts: their lines, the table that the first one sets up, and the steps that the others ask for: a
-//! statement of a session, its start alone, or the finish of a started one.
+//! statement of a session, its start alone, or the finish of a started one; a turn of a mover, its first event alone, or its
+//! last one.
 //!
 //! Its one contract: `read_script` gives the script that the grammar has for the bytes, and else the first bad line and
-//! its reason. Which events a script asks for stands in specs/. It stands on `tsql_create` for the setup statement and on
-//! `tsql_binder` for what a statement's text means.
+//! its reason. It stands on `tsql_create` for the setup statement.
 #![tactic(auto)]
 
 mod form;

@@ -1,8 +1,9 @@
 // Scripts.
 ghost use Rattle.std.specs.Prelude.{◌≡◌};
-ghost use Rattle.script_reader.specs.Scripts.{session_of, text_of};
+ghost use Rattle.script_reader.specs.Scripts.{taken_by, text_of};
 
 use cs_base::{Items, Memory};
+use cs_model::Actor;
 use cs_types::{Bytes, Schema};
 use thiserror::Error;
 
@@ -26,28 +27,40 @@ pub enum Step {
     Begun { session: u32, text: Bytes },
     /// The finish of the statement that the session has half done.
     Finished { session: u32 },
+    /// A turn of a mover, from its first event to its last.
+    Turn { mover: u32 },
+    /// The first event of a mover's turn alone, by which it claims what it is to work on.
+    Claiming { mover: u32 },
+    /// The last event of the turn that the mover has half done, by which it installs what it made.
+    Installing { mover: u32 },
 }
 
 impl Step {
-    /// The session of the step.
-    pub fn session(&self) -> u32
-        ensures { result ≡ session_of self.now }
+    /// Who takes the step: a session or a mover.
+    pub fn taken_by(&self) -> Actor
+        ensures { result ≡ taken_by self.now }
     {
         match self {
-            Step::Whole { session, .. } => *session,
-            Step::Begun { session, .. } => *session,
-            Step::Finished { session } => *session,
+            Step::Whole { session, .. } => Actor::Session(*session),
+            Step::Begun { session, .. } => Actor::Session(*session),
+            Step::Finished { session } => Actor::Session(*session),
+            Step::Turn { mover } => Actor::Mover(*mover),
+            Step::Claiming { mover } => Actor::Mover(*mover),
+            Step::Installing { mover } => Actor::Mover(*mover),
         }
     }
 
-    /// The text of the step's statement; a finish has none.
+    /// The text of the step's statement; a finish and the steps of movers have none.
     pub fn text(&self) -> &[u8]
         ensures { result.now ≡ text_of self.now }
     {
         match self {
             Step::Whole { text, .. } => text.as_slice(),
             Step::Begun { text, .. } => text.as_slice(),
-            Step::Finished { .. } => &[],
+            Step::Finished { .. }
+            | Step::Turn { .. }
+            | Step::Claiming { .. }
+            | Step::Installing { .. } => &[],
         }
     }
 }

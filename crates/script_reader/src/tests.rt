@@ -102,8 +102,55 @@ fn forms(rt: HostRuntime) -> Result<(), Fail> {
 }
 
 #[test]
+fn mover_forms(rt: HostRuntime) -> Result<(), Fail> {
+    let cases: [(&[u8], &str); 13] = [
+        (b"m1", "[Turn { mover: 1 }] []"),
+        (b"m8\n", "[Turn { mover: 8 }] []"),
+        (b" \tm1\t \r\n", "[Turn { mover: 1 }] []"),
+        (b"m1\nm1", "[Turn { mover: 1 }, Turn { mover: 1 }] []"),
+        (
+            b"m1>\nm1<",
+            "[Claiming { mover: 1 }, Installing { mover: 1 }] []",
+        ),
+        (
+            b"\tm8> \n m8<\t\r\n",
+            "[Claiming { mover: 8 }, Installing { mover: 8 }] []",
+        ),
+        (
+            b"m1>\nm2\nm1<\nm1",
+            "[Claiming { mover: 1 }, Turn { mover: 2 }, Installing { mover: 1 }, Turn { mover: 1 }] []",
+        ),
+        (
+            b"m2>\nm1>\nm2<\nm1<",
+            "[Claiming { mover: 2 }, Claiming { mover: 1 }, Installing { mover: 2 }, Installing { mover: 1 }] []",
+        ),
+        (
+            b"m1>\nm1<\nm1>\nm1<",
+            "[Claiming { mover: 1 }, Installing { mover: 1 }, Claiming { mover: 1 }, Installing { mover: 1 }] []",
+        ),
+        (
+            b"m1\ns2 A",
+            "[Turn { mover: 1 }, Whole { session: 2, text: [65] }] [2]",
+        ),
+        (
+            b"s1>A\nm1>\ns1<\nm1<",
+            "[Begun { session: 1, text: [65] }, Claiming { mover: 1 }, Finished { session: 1 }, Installing { mover: 1 }] [1]",
+        ),
+        (
+            b"m1>\ns1>A\nm1<\ns1<",
+            "[Claiming { mover: 1 }, Begun { session: 1, text: [65] }, Installing { mover: 1 }, Finished { session: 1 }] [1]",
+        ),
+        (
+            b"s1>A\nm1\ns1<",
+            "[Begun { session: 1, text: [65] }, Turn { mover: 1 }, Finished { session: 1 }] [1]",
+        ),
+    ];
+    check_lines(&rt, rt.alloc(), &cases)
+}
+
+#[test]
 fn bad_steps(rt: HostRuntime) -> Result<(), Fail> {
-    let cases: [(&[u8], &str); 39] = [
+    let cases: [(&[u8], &str); 37] = [
         (b"abc", "Bad { line: 2, reason: 1, number: 0 }"),
         (b"-", "Bad { line: 2, reason: 1, number: 0 }"),
         (b"- -", "Bad { line: 2, reason: 1, number: 0 }"),
@@ -123,8 +170,6 @@ fn bad_steps(rt: HostRuntime) -> Result<(), Fail> {
         (b"s1> \t", "Bad { line: 2, reason: 1, number: 0 }"),
         (b"s1>A\ns1< A", "Bad { line: 3, reason: 1, number: 0 }"),
         (b"s1>A\ns1<<", "Bad { line: 3, reason: 1, number: 0 }"),
-        (b"m1", "Bad { line: 2, reason: 1, number: 0 }"),
-        (b"m1>", "Bad { line: 2, reason: 1, number: 0 }"),
         (b"setup", "Bad { line: 2, reason: 1, number: 0 }"),
         (b"setupA", "Bad { line: 2, reason: 1, number: 0 }"),
         (b"Setup A", "Bad { line: 2, reason: 1, number: 0 }"),
@@ -148,8 +193,65 @@ fn bad_steps(rt: HostRuntime) -> Result<(), Fail> {
 }
 
 #[test]
+fn bad_mover_steps(rt: HostRuntime) -> Result<(), Fail> {
+    let cases: [(&[u8], &str); 47] = [
+        (b"m", "Bad { line: 2, reason: 1, number: 0 }"),
+        (b"M1", "Bad { line: 2, reason: 1, number: 0 }"),
+        (b"m 1", "Bad { line: 2, reason: 1, number: 0 }"),
+        (b"m0", "Bad { line: 2, reason: 1, number: 0 }"),
+        (b"m01", "Bad { line: 2, reason: 1, number: 0 }"),
+        (b"m+1", "Bad { line: 2, reason: 1, number: 0 }"),
+        (b"m>", "Bad { line: 2, reason: 1, number: 0 }"),
+        (b"m<", "Bad { line: 2, reason: 1, number: 0 }"),
+        (b"m1234567890", "Bad { line: 2, reason: 1, number: 0 }"),
+        (b"m1 x", "Bad { line: 2, reason: 1, number: 0 }"),
+        (b"m1 m1", "Bad { line: 2, reason: 1, number: 0 }"),
+        (b"m1;", "Bad { line: 2, reason: 1, number: 0 }"),
+        (b"m1 -- c", "Bad { line: 2, reason: 1, number: 0 }"),
+        (b"m1x", "Bad { line: 2, reason: 1, number: 0 }"),
+        (b"m1 >", "Bad { line: 2, reason: 1, number: 0 }"),
+        (b"m1 <", "Bad { line: 2, reason: 1, number: 0 }"),
+        (b"m1>>", "Bad { line: 2, reason: 1, number: 0 }"),
+        (b"m1<>", "Bad { line: 2, reason: 1, number: 0 }"),
+        (b"m1> x", "Bad { line: 2, reason: 1, number: 0 }"),
+        (b"m1>x", "Bad { line: 2, reason: 1, number: 0 }"),
+        (b"m1>>x", "Bad { line: 2, reason: 1, number: 0 }"),
+        (b"mover", "Bad { line: 2, reason: 1, number: 0 }"),
+        (b"m1>\nm1< x", "Bad { line: 3, reason: 1, number: 0 }"),
+        (b"m1>\nm1<<", "Bad { line: 3, reason: 1, number: 0 }"),
+        (b"m1>\nm1 <", "Bad { line: 3, reason: 1, number: 0 }"),
+        (b"m9", "Bad { line: 2, reason: 4, number: 0 }"),
+        (b"m9>", "Bad { line: 2, reason: 4, number: 0 }"),
+        (b"m9<", "Bad { line: 2, reason: 4, number: 0 }"),
+        (b"m64", "Bad { line: 2, reason: 4, number: 0 }"),
+        (b"m65", "Bad { line: 2, reason: 4, number: 0 }"),
+        (b"m999999999", "Bad { line: 2, reason: 4, number: 0 }"),
+        (b"s65 A", "Bad { line: 2, reason: 4, number: 0 }"),
+        (b"m1>\ns65<", "Bad { line: 3, reason: 4, number: 0 }"),
+        (b"m1 \x7f", "Bad { line: 2, reason: 6, number: 0 }"),
+        (b"m1<", "Bad { line: 2, reason: 7, number: 0 }"),
+        (b"m1\nm1<", "Bad { line: 3, reason: 7, number: 0 }"),
+        (b"m1>\nm1<\nm1<", "Bad { line: 4, reason: 7, number: 0 }"),
+        (b"m1>\nm2<", "Bad { line: 3, reason: 7, number: 0 }"),
+        (b"m1>\nm1>", "Bad { line: 3, reason: 7, number: 0 }"),
+        (b"m1>\n--\nm1", "Bad { line: 4, reason: 7, number: 0 }"),
+        (b"m1>", "Bad { line: 3, reason: 7, number: 0 }"),
+        (
+            b"m1>\nm2\ns1 A\n--\n",
+            "Bad { line: 6, reason: 7, number: 0 }",
+        ),
+        (b"m1>\nm2>\nm2<", "Bad { line: 5, reason: 7, number: 0 }"),
+        (b"s1>A\nm1<", "Bad { line: 3, reason: 7, number: 0 }"),
+        (b"m1>\ns1<", "Bad { line: 3, reason: 7, number: 0 }"),
+        (b"s1>A\nm1>\nm1<", "Bad { line: 5, reason: 7, number: 0 }"),
+        (b"m1>\ns1>A\ns1<", "Bad { line: 5, reason: 7, number: 0 }"),
+    ];
+    check_lines(&rt, rt.alloc(), &cases)
+}
+
+#[test]
 fn setups(rt: HostRuntime) -> Result<(), Fail> {
-    let cases: [(&[u8], &str); 16] = [
+    let cases: [(&[u8], &str); 20] = [
         (b"", "Bad { line: 1, reason: 2, number: 0 }"),
         (b"\n", "Bad { line: 2, reason: 2, number: 0 }"),
         (b"\r", "Bad { line: 1, reason: 2, number: 0 }"),
@@ -159,6 +261,10 @@ fn setups(rt: HostRuntime) -> Result<(), Fail> {
         (b"s1 A", "Bad { line: 1, reason: 2, number: 0 }"),
         (b"--\ns1<", "Bad { line: 2, reason: 2, number: 0 }"),
         (b"s65 A", "Bad { line: 1, reason: 2, number: 0 }"),
+        (b"m1", "Bad { line: 1, reason: 2, number: 0 }"),
+        (b"m1<\nabc", "Bad { line: 1, reason: 2, number: 0 }"),
+        (b"m9>", "Bad { line: 1, reason: 2, number: 0 }"),
+        (b"m1 x", "Bad { line: 1, reason: 1, number: 0 }"),
         (b"s1 \x01", "Bad { line: 1, reason: 6, number: 0 }"),
         (b"setup A", "Bad { line: 1, reason: 8, number: 102 }"),
         (

@@ -1,7 +1,5 @@
-use Rattle.std.proofs.Common.{sym, refl, ◌∙◌, [], false, arith}
-use Rattle.std.proofs.lemmas.List.{get_or-replicate, length-replicate}
+use Rattle.std.proofs.Common.{sym, refl, [], arith}
 use Rattle.script_reader.specs.Lines.{lines}
-use Rattle.script_reader.proofs.Halves.{half_empty}
 use Rattle.script_reader.proofs.Whole.{refused_at, refused_only, handed}
 use Rattle.script_reader.proofs.read.read_lines.Goals as goal
 
@@ -14,7 +12,7 @@ loop-line-init c = record {
     good = tt;
     setup = tt;
     steps = c.new.ensures;
-    marked = rw c.new.ensures (length-replicate 65 false, λ session lt. get_or-replicate 65 session false false lt ∙ sym (half_empty session));
+    marked = rw c.new.ensures c.none.ensures;
   };
   small = omega arith;
 }
