@@ -3,7 +3,10 @@ use Rattle.std.proofs.Common.{◌≡◌, ◌≢◌, ℕ, ◌+◌, List, [], ◌�
 use Rattle.std.specs.Prelude.{IsSome, unwrap_or}
 use Rattle.std.proofs.Math.Seq.{drop-append_seam}
 use Rattle.std.proofs.lemmas.List.{append-nil}
+use Rattle.std.specs.declared.alloc.Global.{Global}
+use Rattle.std.specs.declared.vec.Vec.{Vec}
 use Rattle.cs_types.specs.declared.Key.{Key}
+use Rattle.cs_model.specs.declared.work.Actor.{Actor}
 use Rattle.cs_model.specs.Changes.{Edit, Change}
 use Rattle.cs_model.specs.State.{State}
 use Rattle.cs_model.specs.Steps.{commits, committed, gone, is_empty, numbered}
@@ -14,6 +17,7 @@ use Rattle.txn_table.specs.Txns.{Table, txn_of, own_of, with as with_txn}
 use Rattle.group_book.specs.Book.{Book}
 use Rattle.group_book.specs.Commits.{Sizes, replaced_by, inserted_by, after_commit, draws_past}
 use Rattle.group_book.specs.Orders.{IsReordered}
+use Rattle.group_view.specs.declared.claim.Claim.{Claim}
 use Rattle.group_view.specs.declared.claim.Parcel.{Parcel}
 use Rattle.group_view.specs.Books.{book_of}
 use Rattle.group_log.specs.Followed.{book_with, committed_edits, Commits}
@@ -27,7 +31,7 @@ use Rattle.group_directory.specs.Stands.{SayReplaced, Stands}
 use Rattle.group_directory.proofs.KeyLaws.{replaced_are}
 use Rattle.group_directory.proofs.WholeLemmas.{parcel_reordered}
 use Rattle.statement_core.specs.declared.core_state.CoreState.{CoreState}
-use Rattle.statement_core.specs.CoreState.{state_of, groups_of, IsStill}
+use Rattle.statement_core.specs.CoreState.{state_of, groups_of, claims_of, IsStill}
 use Rattle.statement_core.specs.Leaves.{commits_txn, committed_in, Leaves}
 use Rattle.statement_core.proofs.States.{same_state, txns_with}
 use Rattle.statement_core.proofs.Stills.{commits_none}
@@ -79,6 +83,7 @@ module _ (changes : List Change) (old new : CoreState) (session : ℕ) (number :
     (clock : new.directory.clock ≡ unwrap_or number old.directory.clock)
     (num : number ≡ commit_number old.directory.clock (own_of (txn_of old.directory.txns session)))
     (txns : txn_of new.directory.txns ≡ with_txn (txn_of old.directory.txns) session None) (next : new.directory.txns.next ≡ old.directory.txns.next)
+    (claims : new.directory.list.claims ≡ old.directory.list.claims)
     (book : (c : ℕ) → number ≡ Some c → book_of new.directory.list ≡ after_parcel old.directory.sizes.group_rows c (replaced_in (own_of (txn_of old.directory.txns session))) parcel (book_of old.directory.list))
     (none : own_of (txn_of old.directory.txns session) ≡ [] → new.directory ≡ record old.directory { txns = new.directory.txns })
     (stands : (txn : kept.Txn) → txn_of old.directory.txns session ≡ Some txn → Stands new.directory (changes ++ numbered (old.directory.clock + 1) txn.number (edits_of txn.own)))
@@ -98,6 +103,9 @@ module _ (changes : List Change) (old new : CoreState) (session : ℕ) (number :
   same_schema : new.directory.schema ≡ old.directory.schema
   same_schema = ap (λ (d : Directory). d.schema) rest
 
+  same_claims : claims_of new ≡ claims_of old
+  same_claims = ap (λ (some : Vec (Actor × Claim) Global). some.items) claims
+
   -- without own writes the transaction is over, and nothing else
   left_none : (txn : kept.Txn) → txn_of old.directory.txns session ≡ Some txn → own_of (txn_of old.directory.txns session) ≡ [] → Leaves changes old new (commits (state_of changes old) session (txn_as txn))
   left_none txn has empty =
@@ -112,6 +120,7 @@ module _ (changes : List Change) (old new : CoreState) (session : ℕ) (number :
         state = same_state (state_of changes new) (gone (state_of changes old) session) refl (ap (λ (d : Directory). d.clock) only) (txns_with (txn_of old.directory.txns) (txn_of new.directory.txns) session None txns)
             (ap (λ h. (state_of changes (record old { halves = h })).half) halves) refl next;
         commits = commits_none (sizes_of old.directory) (state_of changes old) changes (groups_of old) (groups_of new) refl (ap (λ (d : Directory). book_of d.list) only);
+        claims = same_claims;
         sizes = same_sizes;
         schema = same_schema;
       })
@@ -134,6 +143,7 @@ module _ (changes : List Change) (old new : CoreState) (session : ℕ) (number :
             (subst (λ b. Commits (sizes_of old.directory) (state_of changes old) (edits_of (own_of (txn_of old.directory.txns session))) (groups_of old) b) (sym made)
             (commits_some (sizes_of old.directory) (state_of changes old) (own_of (txn_of old.directory.txns session)) (book_of old.directory.list) _ some
             (reordered changes old.directory j (txn_of old.directory.txns session) parcel of says) (past some)));
+        claims = same_claims;
         sizes = same_sizes;
         schema = same_schema;
       })
@@ -149,11 +159,12 @@ module _ (changes : List Change) (old new : CoreState) (session : ℕ) (number :
 
 -- ---- after a refusal
 
-pub still_refused : (old new : CoreState) → ((changes : List Change) → Stands old.directory changes → Stands new.directory changes) → IsAsBefore old.directory new.directory
+pub still_refused : (old new : CoreState) → new.directory.list.claims ≡ old.directory.list.claims → ((changes : List Change) → Stands old.directory changes → Stands new.directory changes) → IsAsBefore old.directory new.directory
     → new.directory ≡ record old.directory { list = new.directory.list; txns = new.directory.txns; recent = new.directory.recent; clock = new.directory.clock } → IsStill old new
-still_refused old new stands same rest = record {
+still_refused old new claims stands same rest = record {
   stands = stands;
   same = record {
+    claims = ap (λ (some : Vec (Actor × Claim) Global). some.items) claims;
     groups = same.book;
     sizes = ap (λ (d : Directory). d.sizes) rest;
     schema = ap (λ (d : Directory). d.schema) rest;

@@ -171,6 +171,7 @@ module _ (begin : Begin) (changes : List Change) (old mid new : CoreState) (sess
       full = subst (λ (h : Option Half). IsFull (record { begin = begin; sizes = sizes_of old.directory; book = book }) (state_of changes old) (groups_of old) session h r) (sym is) (full book);
       shows = let s = said in s.shows;
     };
+    claims = leaves.claims ∙ same.claims;
     sizes = leaves.sizes ∙ same.sizes;
     schema = leaves.schema ∙ same.schema;
   }

@@ -1,5 +1,5 @@
 -- An event keeps what the core's type keeps.
-use Rattle.std.proofs.Common.{◌≡◌, ℕ, ◌+◌, ◌^◌, ◌<◌, ◌≤◌, List, [], ◌∷◌, ◌++◌, length, sym, ap, subst, ◌∙◌, arith, All, Contains, None, Some, true, false}
+use Rattle.std.proofs.Common.{◌≡◌, ℕ, ◌+◌, ◌^◌, ◌<◌, ◌≤◌, List, [], ◌∷◌, ◌++◌, map, length, refl, sym, ap, subst, ◌∙◌, arith, All, Contains, None, Some, true, false}
 use Rattle.std.specs.declared.alloc.Global.{Global}
 use Rattle.std.specs.declared.sync.Arc.{Arc}
 use Rattle.std.proofs.lemmas.List.{length-append}
@@ -10,7 +10,7 @@ use Rattle.cs_model.specs.declared.entry.Entry.{Entry}
 use Rattle.cs_model.specs.Actors.{owed}
 use Rattle.cs_model.specs.Changes.{Change}
 use Rattle.cs_model.specs.Kinds.{is_of_table}
-use Rattle.cs_model.specs.State.{Half, start, begin_of}
+use Rattle.cs_model.specs.State.{State, Half, start, begin_of}
 use Rattle.cs_model.specs.Steps.{Legal, IsStep}
 use Rattle.cs_model.specs.Text.{IsPrintableEntry}
 use Rattle.log_laws.specs.Laws.{AreDistinct, IsSound}
@@ -18,9 +18,10 @@ use Rattle.log_laws.proofs.Beginnings.{may_begin}
 use Rattle.log_laws.proofs.Numbers.{small}
 use Rattle.log_laws.proofs.Room.{owed_first}
 use Rattle.log_laws.proofs.Sound.{sound_from}
-use Rattle.group_book.specs.Book.{empty}
+use Rattle.group_book.specs.Book.{Book, empty}
 use Rattle.group_book.specs.Commits.{Sizes}
-use Rattle.group_log.specs.Followed.{ground_of, IsBookStep}
+use Rattle.group_view.specs.Books.{claim_of}
+use Rattle.group_log.specs.Followed.{ground_of, Followed, IsBookStep}
 use Rattle.group_log.proofs.Follow.{follows_leads, followed_on}
 use Rattle.group_directory.specs.Obstacles.{txn_in}
 use Rattle.group_directory.specs.Stands.{Stands}
@@ -28,7 +29,7 @@ use Rattle.statement_core.specs.declared.core_state.CoreState.{CoreState}
 use Rattle.statement_core.specs.declared.started.Outcome.{Outcome}
 use Rattle.statement_core.specs.declared.started.Terms.{Terms}
 use Rattle.statement_core.specs.Seats.{seat}
-use Rattle.statement_core.specs.CoreState.{state_of, groups_of, half_in, IsWithin, IsBare}
+use Rattle.statement_core.specs.CoreState.{state_of, groups_of, claims_of, half_in, IsWithin, IsBare}
 use Rattle.statement_core.specs.Fit.{IsFitting, IsReadyHalf, IsFitState}
 use Rattle.statement_core.specs.NewTable.{IsNewTable}
 use Rattle.statement_core.specs.Outcomes.{GivesOn}
@@ -80,7 +81,7 @@ module _ (made : Terms) (held : CoreState) (log : List Entry) (cap : ℕ) (sessi
 pub core_push : (made : Terms) (held after : CoreState) (log : List Entry) (cap new : ℕ) (sessions : List ℕ) (e : Entry) → (i : IsCore made held log cap sessions) → (later : List Change) → Stands after.directory later
     → after.directory.sizes ≡ held.directory.sizes → after.directory.schema ≡ held.directory.schema → IsStep (begin_of made.schema.value) (state_of i.changes held) e (state_of later after)
     → IsBookStep (ground_of made.schema.value (sizes_of made)) (state_of i.changes held) (groups_of held) e (state_of later after) (groups_of after)
-    → IsFitState made.schema.value (state_of later after) → IsPrintableEntry made.schema.value e → length log + 1 + owed (log ++ e ∷ []) sessions ≤ new → IsCore made after (log ++ e ∷ []) new sessions
+    → IsFitState made.schema.value (state_of later after) → IsPrintableEntry made.schema.value e → length log + 1 + owed (log ++ e ∷ []) sessions + length (claims_of after) ≤ new → IsCore made after (log ++ e ∷ []) new sessions
 core_push made held after log cap new sessions e i later stands sizes schema step moves fit prints len = record {
   terms = i.terms;
   table = i.table;
@@ -98,10 +99,37 @@ core_push made held after log cap new sessions e i later stands sizes schema ste
   printable = All-push (IsPrintableEntry made.schema.value) log e i.printable prints;
 }
 
+-- the groups have moved without an entry
+pub core_same : (made : Terms) (held after : CoreState) (log : List Entry) (cap new : ℕ) (sessions : List ℕ) → (i : IsCore made held log cap sessions) → Stands after.directory i.changes → after.directory.sizes ≡ held.directory.sizes
+    → after.directory.schema ≡ held.directory.schema → state_of i.changes after ≡ state_of i.changes held → groups_of after ≡ groups_of held → length log + owed log sessions + length (claims_of after) ≤ new → IsCore made after log new sessions
+core_same made held after log cap new sessions i stands sizes schema state groups len = record {
+  terms = i.terms;
+  table = i.table;
+  schema = ap (λ (s : Arc Schema Global). s.value) schema ∙ i.schema;
+  sizes = ap sizes_as sizes ∙ i.sizes;
+  changes = i.changes;
+  stands = stands;
+  followed = subst (λ (m : State). Followed (ground_of made.schema.value (sizes_of made)) log m (groups_of after)) (sym state) (subst (Followed (ground_of made.schema.value (sizes_of made)) log (state_of i.changes held)) (sym groups) i.followed);
+  bare = subst (λ (m : State). (session : ℕ) → IsBare (m.txns session)) (sym state) i.bare;
+  fit = subst (IsFitState made.schema.value) (sym state) i.fit;
+  room = len;
+  numbers = i.numbers;
+  few = i.few;
+  distinct = i.distinct;
+  printable = i.printable;
+}
+
 -- ---- a new core
 
 fit_start : (schema : Schema) → IsFitState schema start
 fit_start schema = record { changes = All-nil (λ (change : Change). IsFitting schema change.edit); txns = λ s. tt; halves = λ s. tt }
+
+none_mapped : {X Y : Type 0} (f : X → Y) (xs : List X) → map f xs ≡ [] → xs ≡ []
+none_mapped f [] is = refl
+none_mapped f (x ∷ xs) is = absurd (cc is)
+
+pub no_claims : (schema : Schema) (most least : ℕ) (held : CoreState) (made : Terms) → IsNewTable schema most least held.directory made → claims_of held ≡ []
+no_claims schema most least held made n = none_mapped claim_of (claims_of held) (ap (λ (b : Book). b.claims) n.groups)
 
 pub core_new : (schema : Schema) (most least : ℕ) (held : CoreState) (made : Terms) (cap : ℕ) (sessions : List ℕ) → IsNewTable schema most least held.directory made → IsSchema schema → AreTermsOf most least
     → ((s : ℕ) → seat held.halves s ≡ None) → 64 ≤ cap → All (λ s. s < 65) sessions → length sessions ≤ 64 → AreDistinct sessions → IsCore made held [] cap sessions
@@ -124,7 +152,7 @@ core_new schema most least held made cap sessions n table terms halves room numb
       followed = (first, n.groups);
       bare = λ s. subst IsBare (sym (ap txn_in (n.txns s))) tt;
       fit = subst (IsFitState made.schema.value) (sym first) (fit_start made.schema.value);
-      room = let o = owed_first sessions in omega (arith, o, room, few);
+      room = let o = owed_first sessions in let none = no_claims schema most least held made n in let e : length (claims_of held) ≡ 0 = ap length none in omega (arith, o, e, room, few);
       numbers = numbers;
       few = few;
       distinct = distinct;

@@ -17,3 +17,5 @@ pub mod Taking
 pub mod Finishing
 pub mod Fits
 pub mod Working
+pub mod Mending
+pub mod Turns

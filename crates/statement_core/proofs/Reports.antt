@@ -1,5 +1,5 @@
 -- The report on segments: it shows the core's book, and it can be printed where the table holds what is committed.
-use Rattle.std.proofs.Common.{◌≡◌, ◌<◌, ℕ, List, [], ◌∷◌, length, get_or, sym, ap, subst, ◌∙◌, cond, arith, IsTrue, Bool, true, false, Option, None, Some, Result, Ok, Err, All}
+use Rattle.std.proofs.Common.{◌≡◌, ◌<◌, ℕ, List, [], ◌∷◌, length, get_or, refl, sym, ap, subst, ◌∙◌, cond, arith, IsTrue, Bool, true, false, Option, None, Some, Result, Ok, Err, All}
 use Rattle.std.specs.Prelude.{IfOk, IfSome, fold, nat_le}
 use Rattle.std.specs.List.{AllByRecursion, flat_map}
 use Rattle.std.specs.Option.{option_map}
@@ -11,14 +11,15 @@ use Rattle.cs_types.specs.declared.Schema.{Schema}
 use Rattle.cs_types.specs.declared.Value.{Value}
 use Rattle.cs_types.specs.declared.Value.TheVariants.{Null}
 use Rattle.cs_types.specs.Keys.{same_key}
-use Rattle.cs_types.specs.Rows.{cell_at}
+use Rattle.cs_types.specs.Rows.{cell_at, key_in, number_in}
 use Rattle.cs_model.specs.declared.entry.Reply.{Reply}
 use Rattle.cs_model.specs.declared.entry.Reply.TheVariants as reply
 use Rattle.cs_model.specs.Changes.{Change, until, last_change, made}
-use Rattle.cs_model.specs.Held.{holds, IsHeld, IsFit, MayStand, AreFit}
+use Rattle.cs_model.specs.Held.{holds, IsHeld, IsRowAt, IsFit, MayStand, AreFit}
 use Rattle.cs_model.specs.Text.{IsPrintableReply}
 use Rattle.delete_bitmap.specs.declared.MarkedEnd.{MarkedEnd}
 use Rattle.row_group.specs.Rows.{PackedRow}
+use Rattle.group_book.proofs.Keys.{key_is}
 use Rattle.group_book.proofs.Lists.{all-left, all-right}
 use Rattle.group_log.specs.Followed.{ShowsBook}
 use Rattle.group_view.specs.declared.groups.Group.{Group}
@@ -41,22 +42,22 @@ use Rattle.statement_core.specs.Fit.{AreFitting}
 module _ (schema : Schema) where
   -- ---- the rows of changes
 
-  stand_held : (key : Key) (row : Option (List Value)) → MayStand schema key row → IfSome row (IsHeld schema)
-  stand_held key None h = tt
-  stand_held key (Some row) h = h.held
+  stand_row : (key : Key) (row : Option (List Value)) → MayStand schema key row → IfSome row (IsRowAt schema key)
+  stand_row key None h = tt
+  stand_row key (Some row) h = h
 
-  -- what the last of a key's changes made is held
-  made_from : (key : Key) (acc : Option Change) (xs : List Change) → IfSome (made acc) (IsHeld schema) → AllByRecursion (λ (change : Change). IsFit schema change.edit) xs
-      → IfSome (made (fold (λ last (change : Change). cond (same_key key change.edit.0) (Some change) last) acc xs)) (IsHeld schema)
+  -- what the last of a key's changes made is a row of that key
+  made_from : (key : Key) (acc : Option Change) (xs : List Change) → IfSome (made acc) (IsRowAt schema key) → AllByRecursion (λ (change : Change). IsFit schema change.edit) xs
+      → IfSome (made (fold (λ last (change : Change). cond (same_key key change.edit.0) (Some change) last) acc xs)) (IsRowAt schema key)
   made_from key acc [] h all = h
-  made_from key acc (x ∷ xs) h all = made_from key (cond (same_key key x.edit.0) (Some x) acc) xs (step (same_key key x.edit.0)) all.1
+  made_from key acc (x ∷ xs) h all = made_from key (cond (same_key key x.edit.0) (Some x) acc) xs (step (same_key key x.edit.0) refl) all.1
     where
-      step : (t : Bool) → IfSome (made (cond t (Some x) acc)) (IsHeld schema)
-      step true = stand_held x.edit.0 x.edit.1 all.0.1
-      step false = h
+      step : (t : Bool) → same_key key x.edit.0 ≡ t → IfSome (made (cond t (Some x) acc)) (IsRowAt schema key)
+      step true is = subst (λ (k : Key). IfSome x.edit.1 (IsRowAt schema k)) (key_is key x.edit.0 is) (stand_row x.edit.0 x.edit.1 all.0.1)
+      step false is = h
 
-  made_held : (changes : List Change) (key : Key) (s : ℕ) → AreFit schema changes → IfSome (made (last_change key s changes)) (IsHeld schema)
-  made_held changes key s fit =
+  pub made_row : (changes : List Change) (key : Key) (s : ℕ) → AreFit schema changes → IfSome (made (last_change key s changes)) (IsRowAt schema key)
+  made_row changes key s fit =
       let P = λ (change : Change). IsFit schema change.edit in
       made_from key None (until s changes) tt (recursion_from_All P (until s changes) (All-filter (λ (change : Change). nat_le change.commit s) P changes fit))
 
@@ -65,17 +66,24 @@ module _ (schema : Schema) where
   abbrev width : ℕ
   width = length schema.columns
 
-  cell_kept : (row : List Value) (i : ℕ) → i < width → get_or (padded width row) i Null ≡ cell_at row i
+  pub cell_kept : (row : List Value) (i : ℕ) → i < width → get_or (padded width row) i Null ≡ cell_at row i
   cell_kept row i within = get_or-map-range_with_len (cell_at row) 0 width i i Null within (omega arith)
 
-  -- a row that is in the table's cells one that is held
-  row_held : (row : List Value) (o : Option (List Value)) → IfSome o (IsHeld schema) → option_map (padded width) o ≡ Some (padded width row) → IsHeld schema row
-  row_held row None h is = absurd (none-some (padded width row) is)
-  row_held row (Some other) h is = λ i column found.
-      let within : i < width = slice_get_within schema.columns i column found in
-      let same : cell_at other i ≡ cell_at row i =
-      sym (cell_kept other i within) ∙ ap (λ (cells : List Value). get_or cells i Null) (same_Some (padded width other) (padded width row) is) ∙ cell_kept row i within in
-      subst (λ (cell : Value). IsTrue (holds column cell)) same (h i column found)
+  cell_same : (other row : List Value) (i : ℕ) → i < width → option_map (padded width) (Some other) ≡ Some (padded width row) → cell_at other i ≡ cell_at row i
+  cell_same other row i within is =
+      sym (cell_kept other i within) ∙ ap (λ (cells : List Value). get_or cells i Null) (same_Some (padded width other) (padded width row) is) ∙ cell_kept row i within
+
+  -- a row that is in the table's cells one of a key is held, and is of that key
+  pub row_held : (key : Key) (row : List Value) (o : Option (List Value)) → IfSome o (IsRowAt schema key) → option_map (padded width) o ≡ Some (padded width row) → IsHeld schema row
+  row_held key row None h is = absurd (none-some (padded width row) is)
+  row_held key row (Some other) h is = λ i column found.
+      let same = cell_same other row i (slice_get_within schema.columns i column found) is in
+      subst (λ (cell : Value). IsTrue (holds column cell)) same (h.held i column found)
+
+  pub row_under : (key : Key) (row : List Value) (o : Option (List Value)) → schema.key < width → IfSome o (IsRowAt schema key) → option_map (padded width) o ≡ Some (padded width row) → key_in schema.key row ≡ key
+  row_under key row None within h is = absurd (none-some (padded width row) is)
+  row_under key row (Some other) within h is =
+      ap (λ (cell : Value). let k : Key = record { 0 = number_in cell } in k) (sym (cell_same other row schema.key within is)) ∙ h.under
 
   module _ (changes : List Change) (fit : AreFit schema changes) where
     abbrev IsRowHeld : PackedRow → Type 0
@@ -86,7 +94,7 @@ module _ (schema : Schema) where
     rows_held key (row ∷ rows) [] long all = absurd (omega (arith, long))
     rows_held key (row ∷ rows) (mark ∷ marks) long all =
         let version = (packed_version key row mark).version in
-        All-cons IsRowHeld row rows (row_held row.cells (made (last_change version.key version.begin changes)) (made_held changes version.key version.begin fit) all.0)
+        All-cons IsRowHeld row rows (row_held version.key row.cells (made (last_change version.key version.begin changes)) (made_row changes version.key version.begin fit) all.0)
         (rows_held key rows marks (omega (arith, long)) all.1)
 
     abbrev IsGroupHeld : ℕ × List PackedRow → Type 0

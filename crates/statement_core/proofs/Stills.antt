@@ -1,11 +1,13 @@
 -- Where what is committed stands as before.
 use Rattle.std.proofs.Common.{◌≡◌, ℕ, ◌+◌, List, [], ◌∷◌, map, drop, length, refl, sym, ap, ◌∙◌, subst}
 use Rattle.std.proofs.Math.Seq.{drop-length}
+use Rattle.cs_model.specs.declared.work.Actor.{Actor}
 use Rattle.cs_model.specs.Changes.{Edit, Change}
 use Rattle.cs_model.specs.State.{State}
 use Rattle.group_book.specs.Book.{Book}
 use Rattle.group_book.specs.Commits.{Sizes, replaced_by, inserted_by, after_commit}
 use Rattle.group_book.specs.Orders.{IsReordered}
+use Rattle.group_view.specs.declared.claim.Claim.{Claim}
 use Rattle.group_view.specs.Books.{book_of}
 use Rattle.group_log.specs.Followed.{committed_edits, Commits}
 use Rattle.group_directory.specs.declared.directory.Directory.{Directory}
@@ -16,9 +18,14 @@ use Rattle.statement_core.specs.declared.core_state.CoreState.{CoreState}
 use Rattle.statement_core.specs.CoreState.{state_of, groups_of, IsSame, IsStill}
 use Rattle.statement_core.specs.Leaves.{Leaves}
 
+-- the claims of a directory
+abbrev pub claims_in : Directory → List (Actor × Claim)
+claims_in directory = let list = directory.list in list.claims.items
+
 -- the directory has other transactions alone
 pub same_from : (old new : CoreState) → new.directory ≡ record old.directory { txns = new.directory.txns } → IsSame old new
 same_from old new rest = record {
+  claims = ap claims_in rest;
   groups = ap (λ (d : Directory). book_of d.list) rest;
   sizes = ap (λ (d : Directory). d.sizes) rest;
   schema = ap (λ (d : Directory). d.schema) rest;
@@ -33,6 +40,7 @@ pub still_same : (old new : CoreState) → new.directory ≡ old.directory → I
 still_same old new rest = record {
   stands = λ changes j. subst (λ (d : Directory). Stands d changes) (sym rest) j;
   same = record {
+    claims = ap claims_in rest;
     groups = ap (λ (d : Directory). book_of d.list) rest;
     sizes = ap (λ (d : Directory). d.sizes) rest;
     schema = ap (λ (d : Directory). d.schema) rest;
@@ -42,6 +50,7 @@ still_same old new rest = record {
 
 pub same_then : (a b c : CoreState) → IsSame a b → IsSame b c → IsSame a c
 same_then a b c x y = record {
+  claims = y.claims ∙ x.claims;
   groups = y.groups ∙ x.groups;
   sizes = y.sizes ∙ x.sizes;
   schema = y.schema ∙ x.schema;
@@ -73,6 +82,7 @@ same_leaves changes old new after j same e = record {
   stands = j;
   state = e;
   commits = commits_none (sizes_of old.directory) (state_of changes old) after.changes (groups_of old) (groups_of new) (sym (ap (λ (x : State). x.changes) e)) same.groups;
+  claims = same.claims;
   sizes = same.sizes;
   schema = same.schema;
 }
@@ -99,6 +109,7 @@ leaves_over changes old mid new after same x = record {
       subst (λ (sizes : Sizes). Commits sizes (state_of changes old) (committed_edits (state_of changes old) after) (groups_of old) (groups_of new)) (sizes_same old mid same)
       (subst (λ book. Commits (sizes_of mid.directory) (state_of changes old) (committed_edits (state_of changes old) after) book (groups_of new)) same.groups
       (commits_alike (sizes_of mid.directory) (state_of changes mid) (state_of changes old) (committed_edits (state_of changes mid) after) (groups_of mid) (groups_of new) refl same.clock x.commits));
+  claims = x.claims ∙ same.claims;
   sizes = x.sizes ∙ same.sizes;
   schema = x.schema ∙ same.schema;
 }

@@ -1,8 +1,10 @@
 -- The state of the row model that the core's fields stand for, beside the committed changes.
 use Rattle.std.specs.Prelude.{◌≡◌, ◌<◌, ◌+◌, ◌^◌, ℕ, List, [], ◌==◌, true, false, Option, None, Some}
+use Rattle.cs_model.specs.declared.work.Actor.{Actor}
 use Rattle.cs_model.specs.Changes.{Change}
 use Rattle.cs_model.specs.State.{Txn, Half, State}
 use Rattle.group_book.specs.Book.{Book}
+use Rattle.group_view.specs.declared.claim.Claim.{Claim}
 use Rattle.group_view.specs.Books.{book_of}
 use Rattle.group_directory.specs.Obstacles.{txns_of}
 use Rattle.group_directory.specs.Stands.{Stands}
@@ -32,14 +34,19 @@ state_of changes held = let directory = held.directory in record {
 abbrev pub groups_of : CoreState → Book
 groups_of held = let directory = held.directory in book_of directory.list
 
+-- the claims that are out, with the actors that hold them
+abbrev pub claims_of : CoreState → List (Actor × Claim)
+claims_of held = let list = held.directory.list.claims in list.items
+
 -- the session has a seat, and no number runs over
 pub record IsWithin (held : CoreState) (session : ℕ) : Type 0 where
   pub seat : session < 65
   pub clock : held.directory.clock + 1 < 2 ^ 64
   pub next : held.directory.txns.next + 1 < 2 ^ 64
 
--- the groups, what the core was made with and the clock are as before
+-- the groups, the claims, what the core was made with and the clock are as before
 pub record IsSame (old new : CoreState) : Type 0 where
+  pub claims : claims_of new ≡ claims_of old
   pub groups : groups_of new ≡ groups_of old
   pub sizes : new.directory.sizes ≡ old.directory.sizes
   pub schema : new.directory.schema ≡ old.directory.schema

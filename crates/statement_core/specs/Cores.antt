@@ -17,13 +17,13 @@ use Rattle.group_directory.specs.Stands.{Stands}
 use Rattle.statement_core.specs.declared.core_state.CoreState.{CoreState}
 use Rattle.statement_core.specs.declared.started.Outcome.{Outcome}
 use Rattle.statement_core.specs.declared.started.Terms.{Terms}
-use Rattle.statement_core.specs.CoreState.{state_of, groups_of, IsBare}
+use Rattle.statement_core.specs.CoreState.{state_of, groups_of, claims_of, IsBare}
 use Rattle.statement_core.specs.Outcomes.{GivesOn}
 use Rattle.statement_core.specs.Fit.{IsFitState}
 use Rattle.statement_core.specs.Terms.{sizes_of, AreTerms}
 
 -- the log is followed, and leads to the state and the book that the fields stand for, with some committed changes; all of it
--- fits the table; and there is room for every Finish and End that is still owed
+-- fits the table; and there is room for every Finish and End that is still owed, and for the install of every claim that is out
 pub record IsCore (made : Terms) (held : CoreState) (log : List Entry) (capacity : ℕ) (sessions : List ℕ) : Type 0 where
   pub terms : AreTerms made
   pub table : IsSchema made.schema.value
@@ -34,7 +34,7 @@ pub record IsCore (made : Terms) (held : CoreState) (log : List Entry) (capacity
   pub followed : Followed (ground_of made.schema.value (sizes_of made)) log (state_of changes held) (groups_of held)
   pub bare : (session : ℕ) → IsBare ((state_of changes held).txns session)
   pub fit : IsFitState made.schema.value (state_of changes held)
-  pub room : length log + owed log sessions ≤ capacity
+  pub room : length log + owed log sessions + length (claims_of held) ≤ capacity
   pub numbers : All (λ session. session < 65) sessions
   pub few : length sessions ≤ 64
   pub distinct : AreDistinct sessions

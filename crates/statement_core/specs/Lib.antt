@@ -8,5 +8,7 @@ pub mod Settled
 pub mod Taken
 pub mod Fit
 pub mod CoreValue
+pub mod Turns
+pub mod Movers
 pub mod NewTable
 pub mod Cores

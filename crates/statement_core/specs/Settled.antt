@@ -25,7 +25,7 @@ use Rattle.group_directory.specs.Laws.{sizes_of}
 use Rattle.group_directory.specs.Stands.{Stands}
 use Rattle.statement_core.specs.declared.core_state.CoreState.{CoreState}
 use Rattle.statement_core.specs.declared.started.Outcome.{Outcome}
-use Rattle.statement_core.specs.CoreState.{state_of, groups_of, IsStill, IsBare}
+use Rattle.statement_core.specs.CoreState.{state_of, groups_of, IsStill, IsBare, claims_of}
 use Rattle.statement_core.specs.Leaves.{committed_in, Leaves}
 use Rattle.statement_core.specs.Outcomes.{GivesWrites, GivesOn}
 
@@ -103,6 +103,7 @@ pub record IsFinished (begin : Begin) (changes : List Change) (old : CoreState) 
   pub stands : Stands new.directory later
   pub step : IsStep begin (state_of changes old) (Finish session r) (state_of later new)
   pub moves : (book : Book) → Finishes (record { begin = begin; sizes = sizes_of old.directory; book = book }) (state_of changes old) (groups_of old) session r (state_of later new) (groups_of new)
+  pub claims : claims_of new ≡ claims_of old
   pub sizes : new.directory.sizes ≡ old.directory.sizes
   pub schema : new.directory.schema ≡ old.directory.schema
 

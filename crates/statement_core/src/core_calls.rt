@@ -1,9 +1,10 @@
 // The core: the log of events, and what stands for the state that it leads to.
-ghost use Rattle.std.specs.Prelude.{◌≡◌, ◌≤◌, ◌<◌, ◌++◌, ◌∷◌, [], length, All, Contains, OnErr, IfOk, false};
+ghost use Rattle.std.specs.Prelude.{◌≡◌, ◌≤◌, ◌<◌, ◌++◌, ◌∷◌, [], List, length, filter, not, All, Contains, OnErr, OnOk, IfOk, IsSome, None, true, false};
 ghost use Rattle.cs_types.specs.Schemas.{IsSchema};
 ghost use Rattle.cs_model.specs.declared.entry.Entry.TheVariants.{Finish, End};
 ghost use Rattle.cs_model.specs.declared.entry.Entry.{Entry};
 ghost use Rattle.cs_model.specs.declared.entry.Reply.{Reply};
+ghost use Rattle.cs_model.specs.declared.work.Actor.{Actor};
 ghost use Rattle.cs_model.specs.State.{State, begin_of};
 ghost use Rattle.cs_model.specs.Actors.{entries_of, is_begun, has_ended};
 ghost use Rattle.cs_model.specs.Ready.{IsReady};
@@ -12,21 +13,27 @@ ghost use Rattle.cs_model.specs.Text.{IsPrintableEntry};
 ghost use Rattle.log_laws.specs.Laws.{AreDistinct};
 ghost use Rattle.log_laws.specs.Started.{Begun, IsStarted};
 ghost use Rattle.group_book.specs.Book.{Book};
-ghost use Rattle.group_log.specs.Followed.{ground_of, Followed};
+ghost use Rattle.group_book.specs.Turns.{same_actor};
+ghost use Rattle.group_log.specs.Followed.{ground_of, is_mover, Followed};
+ghost use Rattle.group_directory.specs.Installing.{held_by};
 ghost use Rattle.statement_core.specs.Begun.{Hands, MayWork};
 ghost use Rattle.statement_core.specs.Cores.{IsDone, IsStartOf};
+ghost use Rattle.statement_core.specs.Movers.{GivesTurn, IsMended};
 ghost use Rattle.statement_core.specs.NewTable.{IsNewTable};
 ghost use Rattle.statement_core.specs.Terms.{sizes_of, AreTerms, AreTermsOf};
+ghost use Rattle.statement_core.specs.Turns.{BeginsTurn, EndsTurn};
 
 use crate::begin::start;
 use crate::core_state::CoreState;
 use crate::finish::{end, finish};
+use crate::movers::{Turned, claim, install_work, release_work};
 use crate::seats::Seats;
 use crate::started::{Outcome, Started, Terms};
 use cs_base::Memory;
-use cs_model::{Bound, Entry};
+use cs_model::{Actor, Bound, Entry};
 use cs_types::Schema;
 use group_directory::{Directory, Sizes};
+use group_view::Product;
 use std::alloc::Global;
 use std::marker::Model;
 use std::sync::Arc;
@@ -34,7 +41,7 @@ use std::sync::Arc;
 /// The most sessions, and so the most entries that can be owed beside a Start: a Finish and an End for each.
 const SESSIONS: usize = 64;
 
-/// Serves sessions over one table: each call makes one event. The log of the events is legal at any time, and the row groups
+/// Serves sessions and movers over one table: each call makes one event, or none. The log of the events is legal at any time, and the row groups
 /// follow it.
 #[derive(Drop)]
 pub struct Core {
@@ -58,9 +65,10 @@ impl Model for Core {
 
     ghost use Rattle.std.specs.Prelude.{vec_capacity};
     ghost use Rattle.statement_core.specs.Cores.{IsCore};
+    ghost use Rattle.statement_core.specs.CoreState.{claims_of};
     ghost use Rattle.statement_core.specs.Terms.{sizes_of};
 
-    ghost view = { λ c. record { schema = c.terms.value.schema.value; sizes = sizes_of c.terms.value; log = c.log.items; sessions = c.sessions.items } };
+    ghost view = { λ c. record { schema = c.terms.value.schema.value; sizes = sizes_of c.terms.value; log = c.log.items; sessions = c.sessions.items; claims = claims_of c.held } };
 
     ghost invariant = { λ c. IsCore c.terms.value c.held c.log.items (vec_capacity c.log) c.sessions.items };
 }
@@ -108,6 +116,7 @@ impl Core {
         ensures sizes { IfOk result (λ core. core.sizes ≡ record { group_rows = group_rows; direct_rows = direct_rows }) }
         ensures log { IfOk result (λ core. core.log ≡ []) }
         ensures sessions { IfOk result (λ core. core.sessions ≡ sessions.now) }
+        ensures claims { IfOk result (λ core. core.claims ≡ []) }
     {
         let (directory, terms) = new_table(alloc, schema, group_rows, direct_rows)?;
         let terms = match Arc::new(alloc, terms) {
@@ -145,6 +154,7 @@ impl Core {
         ensures schema { self.new.schema ≡ self.old.schema }
         ensures sizes { self.new.sizes ≡ self.old.sizes }
         ensures sessions { self.new.sessions ≡ self.old.sessions }
+        ensures claims { self.new.claims ≡ self.old.claims }
         ensures err { OnErr result (self.new.log ≡ self.old.log) }
     {
         let terms = Arc::try_clone(&self.terms)?;
@@ -154,7 +164,8 @@ impl Core {
         };
         let in_log = Arc::try_clone(&bound)?;
         let in_half = Arc::try_clone(&bound)?;
-        self.log.reserve(2 * SESSIONS + 2)?;
+        self.log
+            .reserve(2 * SESSIONS + 2 + self.held.directory.list.claims.len())?;
         let taken = start(&mut self.held, session, in_half)?;
         self.log.push_reserved(Entry::Start {
             session,
@@ -180,6 +191,7 @@ impl Core {
         ensures schema { self.new.schema ≡ self.old.schema }
         ensures sizes { self.new.sizes ≡ self.old.sizes }
         ensures sessions { self.new.sessions ≡ self.old.sessions }
+        ensures claims { self.new.claims ≡ self.old.claims }
     {
         let reply = finish(self.alloc, &mut self.held, session, outcome);
         self.log.push_reserved(Entry::Finish { session, reply });
@@ -194,9 +206,71 @@ impl Core {
         ensures schema { self.new.schema ≡ self.old.schema }
         ensures sizes { self.new.sizes ≡ self.old.sizes }
         ensures sessions { self.new.sessions ≡ self.old.sessions }
+        ensures claims { self.new.claims ≡ self.old.claims }
     {
         end(&mut self.held, session);
         self.log.push_reserved(Entry::End { session });
+    }
+
+    /// The first event of an actor's turn, by the first of the seven choices that there is (Larson et al., PVLDB 2015, section 4):
+    /// groups are lent, or ends become plain, or tombstones go; want of memory in the place of that; or none where there is
+    /// nothing to do. Room for the event that ends the turn is taken. `Memory`: the log had no room, and no event was made.
+    /// Conditions: the actor is a mover, and holds no claim.
+    pub fn claim(&mut self, actor: Actor) -> Result<Turned, Memory>
+        requires mover { is_mover actor ≡ true }
+        requires free { held_by actor self.old.claims ≡ None }
+        ensures begins { OnOk result ((piece : List Entry) × (self.new.log ≡ self.old.log ++ piece) × BeginsTurn (ground_of self.old.schema self.old.sizes) self.old.log actor piece) }
+        ensures turned { IfOk result (GivesTurn actor self.old.claims self.new.claims) }
+        ensures schema { self.new.schema ≡ self.old.schema }
+        ensures sizes { self.new.sizes ≡ self.old.sizes }
+        ensures sessions { self.new.sessions ≡ self.old.sessions }
+        ensures err { OnErr result (self.new ≡ self.old) }
+    {
+        let claims = self.held.directory.list.claims.len();
+        self.log.reserve(2 * SESSIONS + 2 + claims)?;
+        let (turned, work) = claim(&mut self.held, actor);
+        if let Some(work) = work {
+            self.log.push_reserved(Entry::Mover { actor, work });
+        }
+        Ok(turned)
+    }
+
+    /// The install of what the work on the actor's claim gave; the claim is over. It takes no memory. Conditions: the actor is a
+    /// mover that holds a claim, and the product is of a share of it.
+    pub fn install(&mut self, actor: Actor, product: Product)
+        requires mover { is_mover actor ≡ true }
+        requires product { IsMended (held_by actor self.old.claims) product }
+        ensures ends { (piece : List Entry) × (self.new.log ≡ self.old.log ++ piece) × EndsTurn (ground_of self.old.schema self.old.sizes) self.old.log actor piece }
+        ensures claims { self.new.claims ≡ filter (λ held. not (same_actor held.0 actor)) self.old.claims }
+        ensures schema { self.new.schema ≡ self.old.schema }
+        ensures sizes { self.new.sizes ≡ self.old.sizes }
+        ensures sessions { self.new.sessions ≡ self.old.sessions }
+    {
+        let work = match self.held.directory.claim_by(actor) {
+            Some(claim) => install_work(claim, &product),
+            None => unreachable!(),
+        };
+        self.held.directory.install(actor, product);
+        self.log.push_reserved(Entry::Mover { actor, work });
+    }
+
+    /// The release of the actor's claim: what it lent stays as it is, and the group that it was to make is gone. It takes no
+    /// memory. Conditions: the actor is a mover that holds a claim.
+    pub fn release(&mut self, actor: Actor)
+        requires mover { is_mover actor ≡ true }
+        requires holds { IsSome (held_by actor self.old.claims) }
+        ensures ends { (piece : List Entry) × (self.new.log ≡ self.old.log ++ piece) × EndsTurn (ground_of self.old.schema self.old.sizes) self.old.log actor piece }
+        ensures claims { self.new.claims ≡ filter (λ held. not (same_actor held.0 actor)) self.old.claims }
+        ensures schema { self.new.schema ≡ self.old.schema }
+        ensures sizes { self.new.sizes ≡ self.old.sizes }
+        ensures sessions { self.new.sessions ≡ self.old.sessions }
+    {
+        let work = match self.held.directory.claim_by(actor) {
+            Some(claim) => release_work(claim),
+            None => unreachable!(),
+        };
+        self.held.directory.release(actor);
+        self.log.push_reserved(Entry::Mover { actor, work });
     }
 
     /// The table that it serves.
@@ -222,6 +296,8 @@ impl Core {
         ensures legal { (m : State) × Legal (begin_of self.now.schema) self.now.log m }
         ensures followed { (m : State) × (book : Book) × Followed (ground_of self.now.schema self.now.sizes) self.now.log m book }
         ensures printable { All (IsPrintableEntry self.now.schema) self.now.log }
+        // An actor without a claim has no turn to end.
+        ensures free { (actor : Actor) → held_by actor self.now.claims ≡ None → EndsTurn (ground_of self.now.schema self.now.sizes) self.now.log actor [] }
     {
         self.log.as_slice()
     }

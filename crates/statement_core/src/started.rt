@@ -1,13 +1,16 @@
 // A statement that was started, and what its work gives.
+ghost use Rattle.std.specs.Prelude.{IfOk};
 ghost use Rattle.group_book.specs.Commits.{Sizes};
+ghost use Rattle.group_view.specs.Claims.{IsMendable, IsProductOf};
 ghost use Rattle.log_laws.specs.Started.{Begun};
 ghost use Rattle.statement_core.specs.Begun.{Hands, MayWork};
 ghost use Rattle.statement_core.specs.Outcomes.{GivesOn};
 ghost use Rattle.statement_core.specs.Terms.{sizes_of, AreTerms};
 
+use cs_base::Memory;
 use cs_model::{Bound, Reply};
 use cs_types::{Key, Schema};
-use group_view::{Parcel, Pinned};
+use group_view::{Claim, Parcel, Pinned, Product};
 use std::alloc::Global;
 use std::sync::Arc;
 use write_set::{Own, Write};
@@ -62,11 +65,17 @@ pub enum Outcome {
     Short,
 }
 
-/// Who does the work of statements.
+/// Who does the work of statements and of movers.
 pub trait Desk {
     /// The outcome of a statement that was started, over what it reads.
     fn work(&self, alloc: Global, started: &Started) -> Outcome
         requires terms { AreTerms started.now.terms.value }
         requires begun { (begun : Begun) × Hands begun started.now × MayWork begun }
         ensures { (begun : Begun) → Hands begun started.now → MayWork begun → GivesOn (sizes_of started.now.terms.value) begun result };
+
+    /// The product of the work on a claim that a core has lent: a new group, or new bitmaps. `Memory` where there is no room for
+    /// it.
+    fn mend(&self, alloc: Global, claim: &Claim) -> Result<Product, Memory>
+        requires { IsMendable claim.now }
+        ensures { IfOk result (IsProductOf claim.now) };
 }

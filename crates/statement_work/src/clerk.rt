@@ -9,13 +9,13 @@ ghost use Rattle.statement_work.specs.Clerks.{IsBegun};
 use crate::writes::{changed, refused, valued, written};
 use cs_base::Memory;
 use cs_model::{AnswerRefusal, Bound, InsertPlan, Pred, Query, Reply, UpdatePlan};
-use group_view::Pinned;
+use group_view::{Claim, Pinned, Product};
 use row_work::{answer, deleted, inserted, updated};
 use statement_core::{Desk, Outcome, Started};
 use std::alloc::Global;
-use tuple_mover::parcel_of;
+use tuple_mover::{parcel_of, work};
 
-/// Who does the work of statements, one row after the other, over what was pinned. It keeps nothing.
+/// Who does the work of statements, one row after the other, over what was pinned, and the work of movers. It keeps nothing.
 #[derive(Clone, Copy, Debug)]
 pub struct Clerk;
 
@@ -117,5 +117,9 @@ impl Desk for Clerk {
             | Bound::SegmentReport
             | Bound::Refused(_) => Outcome::Nothing,
         }
+    }
+
+    fn mend(&self, alloc: Global, claim: &Claim) -> Result<Product, Memory> {
+        work(alloc, claim)
     }
 }

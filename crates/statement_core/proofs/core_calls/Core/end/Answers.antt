@@ -1,4 +1,4 @@
-use Rattle.std.proofs.Common.{arith, subst, sym}
+use Rattle.std.proofs.Common.{ap, arith, length, subst, sym}
 use Rattle.cs_model.specs.declared.entry.Entry.TheVariants.{End}
 use Rattle.cs_model.specs.State.{begin_of}
 use Rattle.log_laws.proofs.Beginnings.{may_begin}
@@ -45,4 +45,4 @@ invariant_of-self c =
     rw c.push_reserved.ensures.items
     (core_push made inside.held c.end.new.held inside.log.items _ _ inside.sessions.items (End c.args.session) i i.changes (still.stands i.changes i.stands) same.sizes same.schema step same.groups
     (subst (IsFitState schema) (sym step.1) (fit_gone schema (state_of i.changes inside.held) c.args.session i.fit)) tt
-    (omega (arith, less, room, cap)))
+    (omega (arith, less, room, cap, ap length same.claims)))

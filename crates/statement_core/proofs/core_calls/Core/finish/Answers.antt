@@ -1,4 +1,4 @@
-use Rattle.std.proofs.Common.{◌≡◌, arith, sym, subst, ◌∙◌, ap, false, Some}
+use Rattle.std.proofs.Common.{◌≡◌, arith, length, sym, subst, ◌∙◌, ap, false, Some}
 use Rattle.cs_types.specs.declared.Schema.{Schema}
 use Rattle.cs_types.specs.Schemas.{IsSchema}
 use Rattle.cs_model.specs.declared.entry.Bound.TheVariants.{SegmentReport}
@@ -14,6 +14,7 @@ use Rattle.log_laws.proofs.StartedOn.{shows_begun}
 use Rattle.group_book.specs.Book.{empty}
 use Rattle.group_book.specs.Commits.{Sizes}
 use Rattle.group_log.specs.Followed.{Finishes}
+use Rattle.statement_core.specs.CoreValue.{CoreValue}
 use Rattle.statement_core.specs.CoreState.{state_of, groups_of}
 use Rattle.statement_core.specs.Fit.{IsReadyHalf}
 use Rattle.statement_core.proofs.Finishing.{never_short, done_of}
@@ -54,6 +55,15 @@ push_reserved-requires c =
     let room = i.room in
     omega (arith, less, room, inside.log.ok.0)
 
+pub returns-clause-claims : goal.returns-clause-claims
+returns-clause-claims c =
+    let inside = c.self.inside in
+    let i = c.self.invariant in
+    let made = inside.terms.value in
+    let done = rw (← c.self.view_is) at c.requires.outcome in
+    let f = c.finish-reply.ensures.finished (begin_of made.schema.value) i.changes (ready_at made inside.held inside.log.items _ inside.sessions.items i c.args.session c.args.outcome done) in
+    f.claims ∙ ap (λ (v : CoreValue). v.claims) c.self.view_is
+
 pub invariant_of-self : goal.invariant_of-self
 invariant_of-self c =
     let inside = c.self.inside in
@@ -89,4 +99,4 @@ invariant_of-self c =
     (core_push made old new inside.log.items _ _ inside.sessions.items (Finish s r) i f.later f.stands f.sizes f.schema f.step moves
     (fits_after (begin_of schema) i.changes old s half r shows.half c.args.outcome at c.finish-reply.ensures.short c.finish-reply.ensures.given (state_of f.later new) x fit)
     (prints_after (begin_of schema) i.changes old s half r shows.half c.args.outcome at c.finish-reply.ensures.short c.finish-reply.ensures.given (state_of f.later new) x bound_ready.0 segments)
-    (omega (arith, less, room, cap)))
+    (omega (arith, less, room, cap, ap length f.claims)))

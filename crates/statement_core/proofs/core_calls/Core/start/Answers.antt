@@ -1,4 +1,4 @@
-use Rattle.std.proofs.Common.{◌≡◌, ◌∙◌, ◌++◌, ◌∷◌, [], ap, arith, sym, subst, Bool}
+use Rattle.std.proofs.Common.{◌≡◌, ◌∙◌, ◌++◌, ◌∷◌, [], ap, arith, length, sym, subst, Bool}
 use Rattle.cs_model.specs.declared.entry.Entry.TheVariants.{Start}
 use Rattle.cs_model.specs.Ready.{IsReady}
 use Rattle.cs_model.specs.State.{begin_of}
@@ -53,7 +53,7 @@ invariant_of-self-2 c =
     rw (c.push_reserved.ensures.items, c.in_ok-reserve.ensures.items)
     (core_push made old new inside.log.items _ _ inside.sessions.items (Start s shared taken.short) i i.changes (still.stands i.changes i.stands) kept.sizes kept.schema step kept.groups
     (subst (IsFitState schema) (sym starts.state) (started_fits schema m s t.begun.bound t.begun.short i.fit is_ready starts.why)) tt
-    (omega (arith, more, most, few, c.push_reserved.ensures.capacity, c.in_ok-reserve.ensures.ok, inside.log.ok.0)))
+    (omega (arith, more, most, few, ap length kept.claims, c.push_reserved.ensures.capacity, c.in_ok-reserve.ensures.ok, inside.log.ok.0)))
 
 pub returns-clause-started : goal.returns-clause-started
 returns-clause-started c =
