@@ -1,24 +1,35 @@
--- What the definitions of logs say, at examples.
-use Rattle.std.proofs.Common.{ℕ, List, [], ◌∷◌, refl, false, inl, inr, Global}
+-- What the definitions of logs and schedules say, at examples.
+use Rattle.std.proofs.Common.{◌≡◌, ℕ, List, [], ◌∷◌, ◌++◌, length, refl, sym, ap, subst, Bool, false, inl, inr, arith, length-append, Global}
+use Rattle.std.proofs.lemmas.List.{append-nil}
+use Rattle.std.specs.Prelude.{None}
 use Rattle.std.specs.declared.sync.Arc.{Arc}
+use Rattle.cs_model.specs.declared.work.Actor.{Actor}
+use Rattle.cs_model.specs.declared.work.Actor.TheVariants as actor
+use Rattle.cs_model.specs.declared.work.Work.{Work}
 use Rattle.cs_model.specs.declared.entry.Bound.{Bound}
 use Rattle.cs_model.specs.declared.entry.Reply.{Reply}
-use Rattle.cs_model.specs.declared.entry.Entry.TheVariants.{Start, Finish, End}
-use Rattle.cs_model.specs.State.{State, begin_of, start}
+use Rattle.cs_model.specs.declared.entry.Entry.{Entry}
+use Rattle.cs_model.specs.declared.entry.Entry.TheVariants.{Start, Finish, End, Mover}
+use Rattle.cs_model.specs.Actors.{turns_of}
+use Rattle.cs_model.specs.Floors.{IsFloor, snapshots}
+use Rattle.cs_model.specs.State.{State, Begin, begin_of, start}
 use Rattle.group_book.specs.Book.{Book, empty}
+use Rattle.group_book.specs.Choices.{choice, choice_work}
 use Rattle.group_book.specs.Commits.{Sizes}
-use Rattle.group_log.specs.Followed.{ground_of, Followed}
+use Rattle.group_book.specs.Turns.{claim_by}
+use Rattle.group_log.specs.Followed.{Ground, ground_of, Followed}
 use Rattle.cs_types.specs.declared.Schema.{Schema}
 use Rattle.script_reader.specs.declared.script.Script.{Script}
-use Rattle.script_reader.specs.declared.script.Step.TheVariants.{Whole}
+use Rattle.script_reader.specs.declared.script.Step.TheVariants.{Whole, Finished, Turn, Claiming, Installing}
 use Rattle.script_reader.specs.Scripts.{IsRunnable}
-use Rattle.script_reader.specs.Schedule.{IsBoundAfter, ArePieces}
+use Rattle.script_runner.specs.Schedule.{IsBoundAfter, IsFinishOf, AreMoves, IsPiece, ArePieces, AreTurns, AreMeant}
 use Rattle.script_runner.specs.Logs.{IsMadeOf}
+use Rattle.statement_core.specs.Turns.{Moment, BeginsTurn, EndsTurn, IsFirst, IsLast}
 use Rattle.script_runner.proofs.Turning.{has_turns, has_front_turns}
 
 -- a run that stopped before its first line has made no step
 none_made : (sizes : Sizes) (script : Script) → IsRunnable script → IsMadeOf sizes script []
-none_made sizes script can = inr (record { state = start; book = empty; followed = (refl, refl); lines = 0; pieces = refl; turns = has_front_turns script 0 [] can refl })
+none_made sizes script can = inr (record { state = start; book = empty; followed = (refl, refl); lines = 0; pieces = refl; turns = has_front_turns sizes script 0 [] can refl })
 
 -- a script of one statement of session 1
 abbrev one_line : Schema → List ℕ → Script
@@ -28,9 +39,86 @@ module _ (sizes : Sizes) (schema : Schema) (text : List ℕ) (can : IsRunnable (
   -- its whole log, which is the log of a run also where the text of it found no room
   whole_made : Followed (ground_of schema sizes) (Start 1 bound false ∷ Finish 1 reply ∷ End 1 ∷ []) m book → IsMadeOf sizes (one_line schema text) (Start 1 bound false ∷ Finish 1 reply ∷ End 1 ∷ [])
   whole_made followed = inl (record {
-    history = record { state = m; book = book; followed = followed; turns = has_turns (one_line schema text) (Start 1 bound false ∷ Finish 1 reply ∷ End 1 ∷ []) (Start 1 bound false ∷ Finish 1 reply ∷ []) can pieces refl };
+    history = record { state = m; book = book; followed = followed; turns = has_turns sizes (one_line schema text) (Start 1 bound false ∷ Finish 1 reply ∷ End 1 ∷ []) (Start 1 bound false ∷ Finish 1 reply ∷ []) can pieces refl };
     scheduled = (Start 1 bound false ∷ Finish 1 reply ∷ [], pieces, refl);
   })
     where
-      pieces : ArePieces (begin_of schema) [] (Whole 1 text ∷ []) (Start 1 bound false ∷ Finish 1 reply ∷ [])
+      pieces : ArePieces (ground_of schema sizes) [] (Whole 1 text ∷ []) (Start 1 bound false ∷ Finish 1 reply ∷ [])
       pieces = (Start 1 bound false ∷ Finish 1 reply ∷ [], [], refl, (Start 1 bound false, Finish 1 reply ∷ [], refl, (refl, means), ([], Finish 1 reply, refl, refl, refl)), refl)
+
+-- ---- schedules
+
+-- a statement between whose Start and Finish a mover, or a move of any actor, has an entry, and then the End
+abbrev interrupted : Arc Bound Global → Bool → Actor → Work → Reply → List Entry
+interrupted bound short actor work reply = Start 1 bound short ∷ Mover actor work ∷ Finish 1 reply ∷ End 1 ∷ []
+
+-- its session has the turns of one statement
+one_turn : (bound : Arc Bound Global) (short : Bool) (actor : Actor) (work : Work) (reply : Reply) → AreTurns 1 1 (turns_of 1 (interrupted bound short actor work reply))
+one_turn bound short actor work reply = (Start 1 bound short, Finish 1 reply, End 1 ∷ [], refl, refl, refl, refl)
+
+-- no other session has one
+no_turn : (bound : Arc Bound Global) (short : Bool) (actor : Actor) (work : Work) (reply : Reply) → turns_of 2 (interrupted bound short actor work reply) ≡ []
+no_turn bound short actor work reply = refl
+
+-- and it is meant, where its statement is what the one text of the session means
+one_meaning : (begin : Begin) (text : List ℕ) (bound : Arc Bound Global) (short : Bool) (actor : Actor) (work : Work) (reply : Reply) → IsBoundAfter begin [] text bound.value
+    → AreMeant begin (Whole 1 text ∷ []) [] (interrupted bound short actor work reply)
+one_meaning begin text bound short actor work reply means = ((text, refl, means), (tt, (tt, (tt, tt))))
+
+-- an End before the last Finish is no turn
+no_early_end : (bound : Arc Bound Global) (short : Bool) (reply : Reply) → AreTurns 1 1 (Start 1 bound short ∷ End 1 ∷ Finish 1 reply ∷ []) → ⊥
+no_early_end bound short reply t = let is : t.1 ≡ End 1 = cc in subst (IsFinishOf 1) is t.5
+
+-- the events of a whole line with any moves that a session may make
+whole_line : (origin : Ground) (before moves : List Entry) (session : ℕ) (text : List ℕ) (bound : Arc Bound Global) (short : Bool) (reply : Reply) → IsBoundAfter origin.begin before text bound.value → AreMoves session moves
+    → IsPiece origin before (Whole session text) (Start session bound short ∷ (moves ++ Finish session reply ∷ []))
+whole_line origin before moves session text bound short reply means are =
+    (Start session bound short, moves ++ Finish session reply ∷ [], refl, (refl, means), (moves, Finish session reply, refl, are, refl))
+
+longer : (xs : List Entry) (b : Entry) → [] ≡ xs ++ b ∷ [] → ⊥
+longer xs b e = let none = ap length e in let some = length-append xs (b ∷ []) in omega (arith, none, some)
+
+-- whatever the moves are, they and their Finish are cut in one way
+cut_once : (moves others : List Entry) (a b : Entry) → moves ++ a ∷ [] ≡ others ++ b ∷ [] → (moves ≡ others) × (a ≡ b)
+cut_once [] [] a b e = (refl, cc)
+cut_once [] (y ∷ others) a b e = let rest : [] ≡ others ++ b ∷ [] = cc in absurd (longer others b rest)
+cut_once (x ∷ moves) [] a b e = let rest : [] ≡ moves ++ a ∷ [] = cc in absurd (longer moves a rest)
+cut_once (x ∷ moves) (y ∷ others) a b e =
+    let first : x ≡ y = cc in
+    let rest : moves ++ a ∷ [] ≡ others ++ b ∷ [] = cc in
+    let cut = cut_once moves others a b rest in
+    ((λ i. first i ∷ cut.0 i), cut.1)
+
+-- ---- turns of movers
+
+module _ (bound : Arc Bound Global) (short : Bool) (claimed installed : Work) (reply : Reply) where
+  -- a mover's whole turn between two statements of a session
+  abbrev between : List Entry
+  between = Start 1 bound short ∷ Finish 1 reply ∷ Mover (actor.Mover 1) claimed ∷ Mover (actor.Mover 1) installed ∷ Start 1 bound short ∷ Finish 1 reply ∷ End 1 ∷ []
+
+  -- leaves the session its two
+  two_turns : AreTurns 1 2 (turns_of 1 between)
+  two_turns = (Start 1 bound short, Finish 1 reply, Start 1 bound short ∷ Finish 1 reply ∷ End 1 ∷ [], refl, refl, refl, (Start 1 bound short, Finish 1 reply, End 1 ∷ [], refl, refl, refl, refl))
+
+  -- and the numbers of sessions and movers have nothing in common
+  no_session_65 : turns_of 65 between ≡ []
+  no_session_65 = refl
+
+-- a claim, the Finish of a session, and the install are three lines
+module _ (origin : Ground) (before claims installs : List Entry) (reply : Reply) (begins : BeginsTurn origin before (actor.Mover 1) claims)
+    (ends : EndsTurn origin ((before ++ claims) ++ Finish 1 reply ∷ []) (actor.Mover 1) installs) where
+  three_lines : ArePieces origin before (Claiming 1 ∷ Finished 1 ∷ Installing 1 ∷ []) (claims ++ Finish 1 reply ∷ (installs ++ []))
+  three_lines =
+      (claims, Finish 1 reply ∷ (installs ++ []), refl, begins, (Finish 1 reply ∷ [], installs ++ [], refl, ([], Finish 1 reply, refl, refl, refl), (installs, [], refl, ends, refl)))
+
+-- a whole turn has no entry where there is nothing to do
+module _ (origin : Ground) (before : List Entry) (mover : ℕ) (moment : Moment origin before) (floor : ℕ) (is : IsFloor (snapshots moment.state) (let state = moment.state in state.clock) floor)
+    (nothing : choice_work (choice floor origin.sizes.group_rows (actor.Mover mover) moment.book) floor moment.book ≡ None) (free : claim_by (actor.Mover mover) moment.book ≡ None) where
+  idle_turn : IsPiece origin before (Turn mover) []
+  idle_turn = record {
+    first = [];
+    last = [];
+    joined = refl;
+    begins = record { moment = moment; floor = floor; is_floor = is; first = subst (λ work. IsFirst (actor.Mover mover) work []) (sym nothing) refl };
+    ends = subst (λ log. EndsTurn origin log (actor.Mover mover) []) (sym (append-nil before)) (record { moment = moment; last = subst (λ claim. IsLast (actor.Mover mover) claim []) (sym free) refl });
+  }

@@ -1,5 +1,7 @@
 pub mod Waiting
 pub mod Pieces
+pub mod Claims
+pub mod Events
 pub mod Meanings
 pub mod Turning
 pub mod Sessions

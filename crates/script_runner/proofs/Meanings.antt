@@ -11,11 +11,12 @@ use Rattle.std.proofs.Math.Seq.{get_or-append_seam}
 use Rattle.cs_model.specs.declared.entry.Entry.{Entry}
 use Rattle.cs_model.specs.declared.entry.Entry.TheVariants.{Start, Finish, End, Mover}
 use Rattle.cs_model.specs.State.{Begin}
+use Rattle.group_log.specs.Followed.{Ground}
 use Rattle.cs_model.specs.Text.{is_start_of, statements_of}
 use Rattle.script_reader.specs.declared.script.Step.{Step}
-use Rattle.script_reader.specs.declared.script.Step.TheVariants.{Whole, Begun, Finished}
-use Rattle.script_reader.specs.Schedule.{IsStart, IsFinishOf, ArePieces, started_in, texts_of, IsMeant, AreMeant}
-use Rattle.script_runner.proofs.Pieces.{IsPlain, plain}
+use Rattle.script_reader.specs.declared.script.Step.TheVariants.{Whole, Begun, Finished, Turn, Claiming, Installing}
+use Rattle.script_runner.specs.Schedule.{IsStart, IsFinishOf, ArePieces, started_in, texts_of, IsMeant, AreMeant}
+use Rattle.script_runner.proofs.Pieces.{IsWork, AreWorks, IsPlain, plain}
 
 -- ---- how many statements a session began
 
@@ -30,6 +31,20 @@ starts_none session (Start k b short) s h = absurd h
 starts_none session (Finish k r) s h = refl
 starts_none session (End k) s h = absurd h
 starts_none session (Mover actor work) s h = absurd h
+
+-- works of movers begin no statement
+work_counted : (s : ℕ) (e : Entry) → IsWork e → is_start_of s e ≡ false
+work_counted s (Start k b short) w = absurd w
+work_counted s (Finish k r) w = refl
+work_counted s (End k) w = refl
+work_counted s (Mover actor work) w = refl
+
+works_counted : (s : ℕ) (piece : List Entry) → AreWorks piece → statements_of s piece ≡ 0
+works_counted s [] w = refl
+works_counted s (e ∷ es) w =
+    sum_by-append (λ x. cond (is_start_of s x) 1 0) (e ∷ []) es
+    ∙ ap (λ b. (0 + cond b 1 0) + statements_of s es) (work_counted s e w.0)
+    ∙ ap (λ n. 0 + n) (works_counted s es w.1)
 
 -- the events of a step begin the statements whose texts it has
 piece_counted : (begin : Begin) (before : List Entry) (step : Step) (piece : List Entry) (s : ℕ) → IsPlain begin before step piece → statements_of s piece ≡ length (texts_of s (step ∷ []))
@@ -48,6 +63,9 @@ piece_counted begin before (Begun session text) piece s p = ap (statements_of s)
     at true = refl
     at false = refl
 piece_counted begin before (Finished session) piece s p = ap (statements_of s) p.1 ∙ ap (λ b. 0 + cond b 1 0) (starts_none session p.0 s p.2)
+piece_counted begin before (Turn mover) piece s p = works_counted s piece p
+piece_counted begin before (Claiming mover) piece s p = works_counted s piece p
+piece_counted begin before (Installing mover) piece s p = works_counted s piece p
 
 -- the texts of one step more
 texts_push : (s : ℕ) (done : List Step) (step : Step) → length (texts_of s (done ++ step ∷ [])) ≡ length (texts_of s done) + length (texts_of s (step ∷ []))
@@ -61,24 +79,34 @@ at_seam xs x ys =
 
 -- ---- the statement of each Start
 
-module _ (begin : Begin) (steps : List Step) where
-  meant_append : (before xs ys : List Entry) → AreMeant begin steps before xs → AreMeant begin steps (before ++ xs) ys → AreMeant begin steps before (xs ++ ys)
-  meant_append before [] ys x y = subst (λ es. AreMeant begin steps es ys) (append-nil before) y
-  meant_append before (e ∷ xs) ys x y = (x.0, meant_append (before ++ e ∷ []) xs ys x.1 (subst (λ es. AreMeant begin steps es ys) (sym (append_assoc before (e ∷ []) xs)) y))
+module _ (origin : Ground) (steps : List Step) where
+  meant_append : (before xs ys : List Entry) → AreMeant origin.begin steps before xs → AreMeant origin.begin steps (before ++ xs) ys → AreMeant origin.begin steps before (xs ++ ys)
+  meant_append before [] ys x y = subst (λ es. AreMeant origin.begin steps es ys) (append-nil before) y
+  meant_append before (e ∷ xs) ys x y = (x.0, meant_append (before ++ e ∷ []) xs ys x.1 (subst (λ es. AreMeant origin.begin steps es ys) (sym (append_assoc before (e ∷ []) xs)) y))
 
-  ends_meant : (before : List Entry) (sessions : List ℕ) → AreMeant begin steps before (map End sessions)
+  ends_meant : (before : List Entry) (sessions : List ℕ) → AreMeant origin.begin steps before (map End sessions)
   ends_meant before [] = tt
   ends_meant before (n ∷ sessions) = (tt, ends_meant (before ++ End n ∷ []) sessions)
 
-  finish_meant : (before : List Entry) (session : ℕ) (e : Entry) → IsFinishOf session e → IsMeant begin steps before e
+  finish_meant : (before : List Entry) (session : ℕ) (e : Entry) → IsFinishOf session e → IsMeant origin.begin steps before e
   finish_meant before session (Start s b short) h = absurd h
   finish_meant before session (Finish s r) h = tt
   finish_meant before session (End s) h = absurd h
   finish_meant before session (Mover actor work) h = absurd h
 
+  work_meant : (before : List Entry) (e : Entry) → IsWork e → IsMeant origin.begin steps before e
+  work_meant before (Start s b short) w = absurd w
+  work_meant before (Finish s r) w = tt
+  work_meant before (End s) w = tt
+  work_meant before (Mover actor work) w = tt
+
+  works_meant : (before piece : List Entry) → AreWorks piece → AreMeant origin.begin steps before piece
+  works_meant before [] w = tt
+  works_meant before (e ∷ es) w = (work_meant before e w.0, works_meant (before ++ e ∷ []) es w.1)
+
   -- the text of a step that comes after these is its session's next
   start_meant : (before : List Entry) (session : ℕ) (text : List ℕ) (done more : List (List ℕ)) (e : Entry) → statements_of session before ≡ length done → texts_of session steps ≡ done ++ text ∷ more
-      → IsStart begin before session text e → IsMeant begin steps before e
+      → IsStart origin.begin before session text e → IsMeant origin.begin steps before e
   start_meant before session text done more (Start s b short) counted split h = (
     text,
     ap (λ k. slice_get (texts_of k steps) (statements_of k before)) h.0 ∙ (λ i. slice_get (split i) (counted i)) ∙ at_seam done text more,
@@ -97,36 +125,39 @@ module _ (begin : Begin) (steps : List Step) where
   starts_text : (session : ℕ) (text : List ℕ) → cond (session == session) (Some text) None ≡ Some text
   starts_text session text = ap (λ b. cond b (Some text) None) (eq-eqb session session refl)
 
-  piece_meant : (before : List Entry) (done left : List Step) (step : Step) (piece : List Entry) → steps ≡ done ++ step ∷ left → ((s : ℕ) → statements_of s before ≡ length (texts_of s done)) → IsPlain begin before step piece
-      → AreMeant begin steps before piece
-  piece_meant before done left (Whole session text) piece split counted p = subst (AreMeant begin steps before) (sym p.2) (
+  piece_meant : (before : List Entry) (done left : List Step) (step : Step) (piece : List Entry) → steps ≡ done ++ step ∷ left → ((s : ℕ) → statements_of s before ≡ length (texts_of s done)) → IsPlain origin.begin before step piece
+      → AreMeant origin.begin steps before piece
+  piece_meant before done left (Whole session text) piece split counted p = subst (AreMeant origin.begin steps before) (sym p.2) (
     start_meant before session text (texts_of session done) (texts_of session left) p.0 (counted session) (texts_at done left (Whole session text) session text split (starts_text session text)) p.3,
     (finish_meant (before ++ p.0 ∷ []) session p.1 p.4, tt),
   )
-  piece_meant before done left (Begun session text) piece split counted p = subst (AreMeant begin steps before) (sym p.1) (
+  piece_meant before done left (Begun session text) piece split counted p = subst (AreMeant origin.begin steps before) (sym p.1) (
     start_meant before session text (texts_of session done) (texts_of session left) p.0 (counted session) (texts_at done left (Begun session text) session text split (starts_text session text)) p.2,
     tt,
   )
-  piece_meant before done left (Finished session) piece split counted p = subst (AreMeant begin steps before) (sym p.1) (finish_meant before session p.0 p.2, tt)
+  piece_meant before done left (Finished session) piece split counted p = subst (AreMeant origin.begin steps before) (sym p.1) (finish_meant before session p.0 p.2, tt)
+  piece_meant before done left (Turn mover) piece split counted p = works_meant before piece p
+  piece_meant before done left (Claiming mover) piece split counted p = works_meant before piece p
+  piece_meant before done left (Installing mover) piece split counted p = works_meant before piece p
 
-  meant_in : (left done : List Step) (before entries : List Entry) → steps ≡ done ++ left → ((s : ℕ) → statements_of s before ≡ length (texts_of s done)) → ArePieces begin before left entries → AreMeant begin steps before entries
-  meant_in [] done before entries split counted is = subst (AreMeant begin steps before) (sym is) tt
+  meant_in : (left done : List Step) (before entries : List Entry) → steps ≡ done ++ left → ((s : ℕ) → statements_of s before ≡ length (texts_of s done)) → ArePieces origin before left entries → AreMeant origin.begin steps before entries
+  meant_in [] done before entries split counted is = subst (AreMeant origin.begin steps before) (sym is) tt
   meant_in (step ∷ left) done before entries split counted is =
-      let p = plain begin before step is.0 is.3 in
-      subst (AreMeant begin steps before) (sym is.2)
+      let p = plain origin before step is.0 is.3 in
+      subst (AreMeant origin.begin steps before) (sym is.2)
       (meant_append before is.0 is.1 (piece_meant before done left step is.0 split counted p)
       (meant_in left (done ++ step ∷ []) (before ++ is.0) is.1 (split ∙ sym (append_assoc done (step ∷ []) left)) (λ s. more s p) is.4))
     where
-      more : (s : ℕ) → IsPlain begin before step is.0 → statements_of s (before ++ is.0) ≡ length (texts_of s (done ++ step ∷ []))
+      more : (s : ℕ) → IsPlain origin.begin before step is.0 → statements_of s (before ++ is.0) ≡ length (texts_of s (done ++ step ∷ []))
       more s p =
-          sum_by-append (λ x. cond (is_start_of s x) 1 0) before is.0 ∙ (λ i. counted s i + piece_counted begin before step is.0 s p i)
+          sum_by-append (λ x. cond (is_start_of s x) 1 0) before is.0 ∙ (λ i. counted s i + piece_counted origin.begin before step is.0 s p i)
           ∙ sym (texts_push s done step)
 
   -- the events of the steps are meant
-  pub all_meant : (events : List Entry) → ArePieces begin [] steps events → AreMeant begin steps [] events
+  pub all_meant : (events : List Entry) → ArePieces origin [] steps events → AreMeant origin.begin steps [] events
   all_meant events is = meant_in steps [] [] events refl (λ s. refl) is
 
   -- and so are they with the Ends after them
-  pub whole_meant : (events log : List Entry) (sessions : List ℕ) → ArePieces begin [] steps events → log ≡ events ++ map End sessions → AreMeant begin steps [] log
+  pub whole_meant : (events log : List Entry) (sessions : List ℕ) → ArePieces origin [] steps events → log ≡ events ++ map End sessions → AreMeant origin.begin steps [] log
   whole_meant events log sessions pieces is =
-      subst (AreMeant begin steps []) (sym is) (meant_append [] events (map End sessions) (all_meant events pieces) (ends_meant events sessions))
+      subst (AreMeant origin.begin steps []) (sym is) (meant_append [] events (map End sessions) (all_meant events pieces) (ends_meant events sessions))

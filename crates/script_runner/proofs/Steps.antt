@@ -1,136 +1,188 @@
 -- A run of a script, one step more, and its end.
 use Rattle.std.proofs.lemmas.List.Elements.{All-contains}
 use Rattle.std.proofs.Common.{◌≡◌, ℕ, ◌+◌, ◌<◌, ◌≤◌, List, [], ◌∷◌, ◌++◌, length, get_or, take, drop, refl, sym, ap, subst, ◌∙◌, cond, Bool, true, false, map, Contains, All, arith}
+use Rattle.std.proofs.lemmas.Bool.{eq-eqb}
+use Rattle.std.proofs.lemmas.Bool.Decides.{nat_tests}
 use Rattle.std.proofs.lemmas.List.{take_more, drop_more}
-use Rattle.std.specs.Prelude.{Some, ◌==◌, Result, Ok, Err, OnOk, OnErr}
+use Rattle.std.specs.Prelude.{None, Some, ◌==◌, Result, Ok, Err, OnOk, OnErr}
 use Rattle.cs_model.specs.declared.entry.Entry.{Entry}
 use Rattle.cs_model.specs.declared.entry.Entry.TheVariants.{End}
+use Rattle.cs_model.specs.declared.work.Actor.{Actor}
+use Rattle.cs_model.specs.declared.work.Actor.TheVariants.{Session, Mover}
 use Rattle.cs_types.specs.declared.Schema.{Schema}
-use Rattle.cs_model.specs.State.{State, Begin, begin_of}
+use Rattle.cs_model.specs.State.{State}
 use Rattle.group_book.specs.Book.{Book}
 use Rattle.group_book.specs.Commits.{Sizes}
-use Rattle.group_log.specs.Followed.{ground_of, Followed}
+use Rattle.group_book.specs.Turns.{same_actor}
+use Rattle.group_directory.specs.Installing.{held_by}
+use Rattle.group_log.specs.Followed.{Ground, ground_of, Followed}
+use Rattle.group_view.specs.declared.claim.Claim.{Claim}
 use Rattle.cs_model.specs.Actors.{entries_of, is_begun, has_ended}
 use Rattle.script_reader.specs.declared.script.Script.{Script}
 use Rattle.script_reader.specs.declared.script.Step.{Step}
-use Rattle.script_reader.specs.declared.script.Step.TheVariants.{Whole, Begun, Finished}
+use Rattle.script_reader.specs.declared.script.Step.TheVariants.{Whole, Begun, Finished, Turn, Claiming, Installing}
 use Rattle.script_reader.specs.Scripts as reader
-use Rattle.script_reader.specs.Scripts.{session_of, text_of, half_done, ArePaired, IsRunnable}
-use Rattle.script_reader.specs.Schedule.{IsPiece, ArePieces, Scheduled}
+use Rattle.script_reader.specs.Scripts.{taken_by, text_of, half_done, may_follow, ArePaired, IsServed, IsRunnable}
 use Rattle.script_reader.proofs.Halves.{half_same, half_other, half_empty}
-use Rattle.script_runner.specs.Running.{Running, AreRunnable, IsFrontRun, finishes}
+use Rattle.script_runner.specs.Running.{Running, AreFree, AreRunnable, IsFrontRun, IsKnown, LeavesClaims, MayRun, OthersKeep}
+use Rattle.script_runner.specs.Schedule.{IsPiece, ArePieces, Scheduled}
 use Rattle.script_runner.specs.Logs.{IsLogOf, IsFrontLogOf}
-use Rattle.script_runner.proofs.Pieces.{begins, plain, piece_begun, piece_going, pieces_push, follows}
+use Rattle.script_runner.proofs.Pieces.{is_not, plain, piece_begun, piece_going, pieces_push}
 use Rattle.script_runner.proofs.Turning.{has_turns, has_front_turns}
+use Rattle.statement_core.specs.CoreValue.{CoreValue}
 
-begins_is : (step : Step) → begins step ≡ reader.is_begun (Some step)
-begins_is (Whole session text) = refl
-begins_is (Begun session text) = refl
-begins_is (Finished session) = refl
-
-pub running_first : (begin : Begin) (log : List Entry) (lines : List Step) → log ≡ [] → ArePaired [] lines → Running begin log [] lines
-running_first begin log lines e paired = record {
+pub running_first : (origin : Ground) (core : CoreValue) (lines : List Step) → core.log ≡ [] → core.claims ≡ [] → ArePaired [] lines → Running origin core [] lines
+running_first origin core lines e none paired = record {
   pieces = e;
-  begun = λ s. ap (λ es. is_begun (entries_of s es)) e ∙ sym (half_empty s);
+  begun = λ s. ap (λ es. is_begun (entries_of s es)) e ∙ sym (half_empty (Session s));
   going = λ s. ap (λ es. has_ended (entries_of s es)) e;
+  free = λ m half. ap (held_by (Mover m)) none;
   paired = paired;
 }
 
-pub running_push : (begin : Begin) (log new : List Entry) (done left : List Step) (step : Step) (piece : List Entry)
-    → Running begin log done (step ∷ left) → IsPiece begin log step piece → new ≡ log ++ piece → Running begin new (done ++ step ∷ []) left
-running_push begin log new done left step piece run p is = record {
-  pieces = subst (ArePieces begin [] (done ++ step ∷ [])) (sym is) (pieces_push begin [] done log step piece run.pieces p);
-  begun = λ s. ap (λ es. is_begun (entries_of s es)) is ∙ piece_begun begin step piece log s (plain begin log step piece p) ∙ at s (session_of step == s) refl;
-  going = λ s. ap (λ es. has_ended (entries_of s es)) is ∙ piece_going begin step piece log s (plain begin log step piece p) ∙ run.going s;
+-- ---- the claims after a step
+
+-- movers without anything half done hold no claim
+abbrev AreFreeBehind : List Step → List (Actor × Claim) → Type 0
+AreFreeBehind done claims = (m : ℕ) → half_done (Mover m) done ≡ false → held_by (Mover m) claims ≡ None
+
+-- the step of a session
+session_free : (done : List Step) (step : Step) (s : ℕ) (old new : List (Actor × Claim)) → taken_by step ≡ Session s → AreFreeBehind done old → new ≡ old → AreFreeBehind (done ++ step ∷ []) new
+session_free done step s old new by free is =
+    λ m half. ap (held_by (Mover m)) is ∙ free m (sym (half_other (Mover m) done step (ap (λ by. same_actor by (Mover m)) by)) ∙ half)
+
+-- the step of a mover, which holds no claim after it, if it has none half done
+mover_free : (done : List Step) (step : Step) (mover : ℕ) (old new : List (Actor × Claim)) → taken_by step ≡ Mover mover → AreFreeBehind done old
+    → (half_done (Mover mover) (done ++ step ∷ []) ≡ false → held_by (Mover mover) new ≡ None) → OthersKeep mover old new → AreFreeBehind (done ++ step ∷ []) new
+mover_free done step mover old new by free its others = λ m half. at m (m == mover) refl half
+  where
+    at : (m : ℕ) (t : Bool) → (m == mover) ≡ t → half_done (Mover m) (done ++ step ∷ []) ≡ false → held_by (Mover m) new ≡ None
+    at m true t half =
+        let same : mover ≡ m = grind (arith, nat_tests) in
+        subst (λ n. held_by (Mover n) new ≡ None) same (its (ap (λ n. half_done (Mover n) (done ++ step ∷ [])) same ∙ half))
+    at m false t half =
+        let apart : (mover == m) ≡ false = grind (arith, nat_tests) in
+        others m t ∙ free m (sym (half_other (Mover m) done step (ap (λ by. same_actor by (Mover m)) by ∙ apart)) ∙ half)
+
+-- a turn that was begun alone is half done
+claiming_half : (done : List Step) (mover : ℕ) → half_done (Mover mover) (done ++ Claiming mover ∷ []) ≡ true
+claiming_half done mover = half_same (Mover mover) done (Claiming mover) (eq-eqb mover mover refl)
+
+step_free : (done : List Step) (step : Step) (old new : List (Actor × Claim)) → AreFreeBehind done old → LeavesClaims step old new → AreFreeBehind (done ++ step ∷ []) new
+step_free done (Whole s text) old new free is = session_free done (Whole s text) s old new refl free is
+step_free done (Begun s text) old new free is = session_free done (Begun s text) s old new refl free is
+step_free done (Finished s) old new free is = session_free done (Finished s) s old new refl free is
+step_free done (Turn m) old new free is = mover_free done (Turn m) m old new refl free (λ half. is.0) is.1
+step_free done (Claiming m) old new free is = mover_free done (Claiming m) m old new refl free (λ half. let begun = claiming_half done m in absurd (cc (half, begun))) is
+step_free done (Installing m) old new free is = mover_free done (Installing m) m old new refl free (λ half. is.0) is.1
+
+-- ---- one step more
+
+pub running_push : (origin : Ground) (core new : CoreValue) (done left : List Step) (step : Step) (piece : List Entry)
+    → Running origin core done (step ∷ left) → IsPiece origin core.log step piece → new.log ≡ core.log ++ piece → LeavesClaims step core.claims new.claims → Running origin new (done ++ step ∷ []) left
+running_push origin core new done left step piece run p is leaves = record {
+  pieces = subst (ArePieces origin [] (done ++ step ∷ [])) (sym is) (pieces_push origin [] done core.log step piece run.pieces p);
+  begun = λ s. ap (λ es. is_begun (entries_of s es)) is ∙ piece_begun origin.begin step piece core.log s (plain origin core.log step piece p) ∙ at s (same_actor (taken_by step) (Session s)) refl;
+  going = λ s. ap (λ es. has_ended (entries_of s es)) is ∙ piece_going origin.begin step piece core.log s (plain origin core.log step piece p) ∙ run.going s;
+  free = step_free done step core.claims new.claims run.free leaves;
   paired = run.paired.1;
 }
   where
-    at : (s : ℕ) (t : Bool) → (session_of step == s) ≡ t → cond (session_of step == s) (begins step) (is_begun (entries_of s log)) ≡ half_done s (done ++ step ∷ [])
-    at s true e = ap (λ b. cond b (begins step) (is_begun (entries_of s log))) e ∙ begins_is step ∙ sym (half_same s done step e)
-    at s false e = ap (λ b. cond b (begins step) (is_begun (entries_of s log))) e ∙ run.begun s ∙ sym (half_other s done step e)
+    at : (s : ℕ) (t : Bool) → same_actor (taken_by step) (Session s) ≡ t
+        → cond (same_actor (taken_by step) (Session s)) (reader.is_begun (Some step)) (is_begun (entries_of s core.log)) ≡ half_done (Session s) (done ++ step ∷ [])
+    at s true e = ap (λ b. cond b (reader.is_begun (Some step)) (is_begun (entries_of s core.log))) e ∙ sym (half_same (Session s) done step e)
+    at s false e = ap (λ b. cond b (reader.is_begun (Some step)) (is_begun (entries_of s core.log))) e ∙ run.begun s ∙ sym (half_other (Session s) done step e)
 
 -- ---- the step at a place
 
--- what a step that comes next can be run by
-pub record IsNext (sessions : List ℕ) (log : List Entry) (step : Step) : Type 0 where
-  pub seat : session_of step < 65
-  pub known : Contains sessions (session_of step)
-  pub follows : is_begun (entries_of (session_of step) log) ≡ finishes step
-  pub going : has_ended (entries_of (session_of step) log) ≡ false
-  pub short : length (text_of step) ≤ 65536
+-- a step that comes next can be run
+may_run : (origin : Ground) (core : CoreValue) (done left : List Step) (step : Step) → Running origin core done (step ∷ left) → length (text_of step) ≤ 65536 → IsKnown core.sessions (taken_by step) → MayRun core step
+may_run origin core done left (Whole s text) run short known =
+    (record { seat = known.0; known = known.1; half = run.begun s ∙ is_not (half_done (Session s) done) run.paired.0; going = run.going s }, short)
+may_run origin core done left (Begun s text) run short known =
+    (record { seat = known.0; known = known.1; half = run.begun s ∙ is_not (half_done (Session s) done) run.paired.0; going = run.going s }, short)
+may_run origin core done left (Finished s) run short known = record { seat = known.0; known = known.1; half = run.begun s ∙ run.paired.0; going = run.going s }
+may_run origin core done left (Turn m) run short known = record { seat = known; free = run.free m (is_not (half_done (Mover m) done) run.paired.0) }
+may_run origin core done left (Claiming m) run short known = record { seat = known; free = run.free m (is_not (half_done (Mover m) done) run.paired.0) }
+may_run origin core done left (Installing m) run short known = known
 
-module _ (begin : Begin) (lines : List Step) (i : ℕ) (step : Step) (within : i < length lines) (is : step ≡ get_or lines i step) (log : List Entry)
-    (run : Running begin log (take i lines) (drop i lines)) where
-  comes : Running begin log (take i lines) (step ∷ drop (i + 1) lines)
-  comes = subst (Running begin log (take i lines)) (drop_more lines i step within ∙ ap (λ x. x ∷ drop (i + 1) lines) (sym is)) run
+module _ (origin : Ground) (lines : List Step) (i : ℕ) (step : Step) (within : i < length lines) (is : step ≡ get_or lines i step) (core : CoreValue)
+    (run : Running origin core (take i lines) (drop i lines)) where
+  comes : Running origin core (take i lines) (step ∷ drop (i + 1) lines)
+  comes = subst (Running origin core (take i lines)) (drop_more lines i step within ∙ ap (λ x. x ∷ drop (i + 1) lines) (sym is)) run
 
-  pub next_at : (sessions : List ℕ) → AreRunnable sessions lines → IsNext sessions log step
-  next_at sessions can =
-      let known = subst (λ x. (session_of x < 65) × Contains sessions (session_of x)) (sym is) (can.known i step within) in
-      record {
-        seat = known.0;
-        known = known.1;
-        follows = run.begun (session_of step) ∙ follows (take i lines) step comes.paired.0;
-        going = run.going (session_of step);
-        short = subst (λ x. length (text_of x) ≤ 65536) (sym is) (can.short i step within);
-      }
+  pub next_at : (sessions : List ℕ) → core.sessions ≡ sessions → AreRunnable sessions lines → MayRun core step
+  next_at sessions same can =
+      may_run origin core (take i lines) (drop (i + 1) lines) step comes (subst (λ x. length (text_of x) ≤ 65536) (sym is) (can.short i step within))
+      (subst (λ served. IsKnown served (taken_by step)) (sym same) (subst (λ x. IsKnown sessions (taken_by x)) (sym is) (can.known i step within)))
 
-  pub step_more : (now : Begin) (new : List Entry) → now ≡ begin → (piece : List Entry) × IsPiece now log step piece × (new ≡ log ++ piece)
-      → Running begin new (take (i + 1) lines) (drop (i + 1) lines)
-  step_more now new same x =
-      subst (λ done. Running begin new done (drop (i + 1) lines)) (sym (take_more lines i step within ∙ ap (λ s. take i lines ++ s ∷ []) (sym is)))
-      (running_push begin log new (take i lines) (drop (i + 1) lines) step x.0 comes (subst (λ s. IsPiece s log step x.0) same x.1) x.2)
+  pub step_more : (now : Ground) (new : CoreValue) → now ≡ origin → (piece : List Entry) × IsPiece now core.log step piece × (new.log ≡ core.log ++ piece) → LeavesClaims step core.claims new.claims
+      → Running origin new (take (i + 1) lines) (drop (i + 1) lines)
+  step_more now new same x leaves =
+      subst (λ done. Running origin new done (drop (i + 1) lines)) (sym (take_more lines i step within ∙ ap (λ s. take i lines ++ s ∷ []) (sym is)))
+      (running_push origin core new (take i lines) (drop (i + 1) lines) step x.0 comes (subst (λ s. IsPiece s core.log step x.0) same x.1) x.2 leaves)
 
 -- ---- the end
 
 -- after the last step no session has a statement half done
-pub all_rest : (begin : Begin) (log : List Entry) (done : List Step) → Running begin log done [] → (s : ℕ) → is_begun (entries_of s log) ≡ false
-all_rest begin log done run s = run.begun s ∙ run.paired s
+pub all_rest : (origin : Ground) (core : CoreValue) (done : List Step) → Running origin core done [] → (s : ℕ) → is_begun (entries_of s core.log) ≡ false
+all_rest origin core done run s = run.begun s ∙ run.paired (Session s)
+
+-- and no mover holds a claim
+pub all_free : (origin : Ground) (core : CoreValue) (done : List Step) (claims : List (Actor × Claim)) → Running origin core done [] → claims ≡ core.claims → AreFree claims
+all_free origin core done claims run is = λ m. ap (held_by (Mover m)) is ∙ run.free m (run.paired (Mover m))
+
+-- an actor of the script is known to a core with its sessions
+known_of : (own sessions : List ℕ) (by : Actor) → All (λ session. Contains sessions session) own → IsServed own by → IsKnown sessions by
+known_of own sessions (Session n) known served = (let high = served.1 in omega (arith, high), All-contains (λ session. Contains sessions session) own n known served.2)
+known_of own sessions (Mover n) known served = let high = served.1 in omega (arith, high)
 
 -- a script's steps can be run by a core with its sessions
 pub runnable_of : (script : Script) (sessions : List ℕ) → All (λ session. Contains sessions session) script.sessions → IsRunnable script → AreRunnable sessions script.lines
 runnable_of script sessions known can = record {
   short = can.short;
-  known = λ k d lt. let range = can.range k d lt in (let high = range.1 in omega (arith, high), All-contains (λ session. Contains sessions session) script.sessions _ known range.2);
+  known = λ k d lt. known_of script.sessions sessions (taken_by (get_or script.lines k d)) known (can.range k d lt);
   paired = can.paired;
 }
 
-pub scheduled_of : (script : Script) (first : Schema) (steps : List Step) (sessions : List ℕ) (events log : List Entry) → first ≡ script.schema → steps ≡ script.lines
-    → sessions ≡ script.sessions → Running (begin_of first) events steps [] → log ≡ events ++ map End sessions → Scheduled script log
-scheduled_of script first steps sessions events log of_first of_steps of_sessions run is = (
-  events,
-  subst (λ xs. ArePieces (begin_of script.schema) [] xs events) of_steps (subst (λ s. ArePieces (begin_of s) [] steps events) of_first run.pieces),
-  is ∙ ap (λ xs. events ++ map End xs) of_sessions,
+pub scheduled_of : (script : Script) (first : Schema) (sizes : Sizes) (steps : List Step) (sessions : List ℕ) (core : CoreValue) (log : List Entry) → first ≡ script.schema → steps ≡ script.lines
+    → sessions ≡ script.sessions → Running (ground_of first sizes) core steps [] → log ≡ core.log ++ map End sessions → Scheduled sizes script log
+scheduled_of script first sizes steps sessions core log of_first of_steps of_sessions run is = (
+  core.log,
+  subst (λ xs. ArePieces (ground_of script.schema sizes) [] xs core.log) of_steps (subst (λ s. ArePieces (ground_of s sizes) [] steps core.log) of_first run.pieces),
+  is ∙ ap (λ xs. core.log ++ map End xs) of_sessions,
 )
 
-pub front_of : (script : Script) (first : Schema) (steps : List Step) (log : List Entry) → first ≡ script.schema → steps ≡ script.lines → IsFrontRun (begin_of first) steps log
-    → IsFrontRun (begin_of script.schema) script.lines log
-front_of script first steps log of_first of_steps x =
-    (x.0, subst (λ xs. ArePieces (begin_of script.schema) [] (take x.0 xs) log) of_steps (subst (λ s. ArePieces (begin_of s) [] (take x.0 steps) log) of_first x.1))
+pub front_of : (script : Script) (first : Schema) (sizes : Sizes) (steps : List Step) (log : List Entry) → first ≡ script.schema → steps ≡ script.lines → IsFrontRun (ground_of first sizes) steps log
+    → IsFrontRun (ground_of script.schema sizes) script.lines log
+front_of script first sizes steps log of_first of_steps x = (
+  x.0,
+  subst (λ xs. ArePieces (ground_of script.schema sizes) [] (take x.0 xs) log) of_steps (subst (λ s. ArePieces (ground_of s sizes) [] (take x.0 steps) log) of_first x.1),
+)
 
 -- ---- the log
 
 pub log_of : (sizes : Sizes) (script : Script) (schema : Schema) (now : Sizes) (log : List Entry) → IsRunnable script → schema ≡ script.schema → now ≡ sizes
-    → (m : State) × (book : Book) × Followed (ground_of schema now) log m book → Scheduled script log → IsLogOf sizes script log
+    → (m : State) × (book : Book) × Followed (ground_of schema now) log m book → Scheduled sizes script log → IsLogOf sizes script log
 log_of sizes script schema now log can same sized legal x = record {
   history = record {
     state = legal.0;
     book = legal.1;
     followed = subst (λ s. Followed (ground_of s sizes) log legal.0 legal.1) same (subst (λ z. Followed (ground_of schema z) log legal.0 legal.1) sized legal.2);
-    turns = has_turns script log x.0 can x.1 x.2;
+    turns = has_turns sizes script log x.0 can x.1 x.2;
   };
   scheduled = x;
 }
 
 pub front_log_of : (sizes : Sizes) (script : Script) (schema : Schema) (now : Sizes) (log : List Entry) → IsRunnable script → schema ≡ script.schema → now ≡ sizes
-    → (m : State) × (book : Book) × Followed (ground_of schema now) log m book → IsFrontRun (begin_of script.schema) script.lines log → IsFrontLogOf sizes script log
+    → (m : State) × (book : Book) × Followed (ground_of schema now) log m book → IsFrontRun (ground_of script.schema sizes) script.lines log → IsFrontLogOf sizes script log
 front_log_of sizes script schema now log can same sized legal x = record {
   state = legal.0;
   book = legal.1;
   followed = subst (λ s. Followed (ground_of s sizes) log legal.0 legal.1) same (subst (λ z. Followed (ground_of schema z) log legal.0 legal.1) sized legal.2);
   lines = x.0;
   pieces = x.1;
-  turns = has_front_turns script x.0 log can x.1;
+  turns = has_front_turns sizes script x.0 log can x.1;
 }
 
 pub on_ok : {T E : Type 0} (P Q : Type 0) (r : Result T E) → (P → Q) → OnOk r P → OnOk r Q

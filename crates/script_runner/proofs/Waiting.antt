@@ -1,5 +1,6 @@
 -- What was started stands ready, one entry more.
-use Rattle.std.proofs.Common.{◌≡◌, ℕ, List, [], ◌∷◌, ◌++◌, refl, sym, ap, subst, ◌∙◌, cond, Bool, true, false, arith}
+use Rattle.std.proofs.Common.{◌≡◌, ℕ, List, [], ◌∷◌, ◌++◌, refl, sym, ap, subst, ◌∙◌, cond, Bool, true, false, arith, append_assoc}
+use Rattle.std.proofs.lemmas.List.{append-nil}
 use Rattle.std.specs.Prelude.{Option, None, Some, ◌==◌, ◌&&◌}
 use Rattle.std.proofs.lemmas.Bool.Decides.{nat_tests}
 use Rattle.cs_model.specs.declared.entry.Bound.{Bound}
@@ -10,7 +11,7 @@ use Rattle.cs_types.specs.declared.Schema.{Schema}
 use Rattle.cs_model.specs.State.{Begin, begin_of, with}
 use Rattle.cs_model.specs.Actors.{actor_of, is_turn, entries_of, begun_by, is_begun}
 use Rattle.group_book.specs.Commits.{Sizes}
-use Rattle.log_laws.specs.Started.{Begun, IsStarted}
+use Rattle.log_laws.specs.Started.{Begun}
 use Rattle.log_laws.proofs.StartedOn.{started_on}
 use Rattle.statement_core.specs.declared.started.Started.{Started}
 use Rattle.statement_core.specs.declared.started.Outcome.{Outcome}
@@ -18,15 +19,16 @@ use Rattle.statement_core.specs.Begun.{Hands, MayWork}
 use Rattle.statement_core.specs.Outcomes.{GivesOn}
 use Rattle.statement_core.specs.Terms.{sizes_of}
 use Rattle.statement_core.specs.Cores.{IsDone, IsStartOf}
-use Rattle.script_reader.specs.Schedule.{IsBound, IsStart, IsFinishOf}
+use Rattle.script_runner.specs.Schedule.{IsBound, IsStart, IsFinishOf}
 use Rattle.script_runner.specs.Running.{Awaits, IsWaiting, Waits}
-use Rattle.script_runner.proofs.Pieces.{Does, begun_after, finish_does}
+use Rattle.script_runner.proofs.Pieces.{Does, IsWork, AreWorks, begun_after, finish_does, work_begun}
 
 and_false : (b : Bool) → (b && false) ≡ false
 and_false true = refl
 and_false false = refl
 
-waiting_on : (sizes : Sizes) (begin : Begin) (log : List Entry) (e : Entry) (s : ℕ) (o : Option Started) → (actor_of e == s) ≡ false → IsWaiting sizes begin log s o → IsWaiting sizes begin (log ++ e ∷ []) s o
+-- a statement waits as before where the entry is no turn of its session
+waiting_on : (sizes : Sizes) (begin : Begin) (log : List Entry) (e : Entry) (s : ℕ) (o : Option Started) → (is_turn e && (actor_of e == s)) ≡ false → IsWaiting sizes begin log s o → IsWaiting sizes begin (log ++ e ∷ []) s o
 waiting_on sizes begin log e s None other k = k
 waiting_on sizes begin log e s (Some started) other k =
     record {
@@ -35,7 +37,7 @@ waiting_on sizes begin log e s (Some started) other k =
       begun = k.begun;
       hands = k.hands;
       works = k.works;
-      is = started_on begin log e s k.begun (ap (λ b. is_turn e && b) other ∙ and_false (is_turn e)) k.is;
+      is = started_on begin log e s k.begun other k.is;
     }
 
 -- another session's statement waits as before
@@ -44,7 +46,8 @@ others_wait : (sizes : Sizes) (begin : Begin) (log : List Entry) (e : Entry) (n 
 others_wait sizes begin log e n s o o' waiting other actor at_s is waits begun =
     let apart : (actor_of e == s) ≡ false = ap (λ k. k == s) actor ∙ other in
     let was : is_begun (entries_of s log) ≡ true = sym (begun_after log e s ∙ ap (λ t. cond t (begun_by (is_begun (entries_of s log)) e) (is_begun (entries_of s log))) apart) ∙ begun in
-    subst (λ x. IsWaiting sizes begin (log ++ e ∷ []) s x) (at_s ∙ sym is) (waiting_on sizes begin log e s (waiting s) apart (waits s was))
+    subst (λ x. IsWaiting sizes begin (log ++ e ∷ []) s x) (at_s ∙ sym is)
+    (waiting_on sizes begin log e s (waiting s) (ap (λ b. is_turn e && b) apart ∙ and_false (is_turn e)) (waits s was))
 
 waits_start : (sizes : Sizes) (begin : Begin) (log : List Entry) (e : Entry) (n : ℕ) (waiting after : ℕ → Option Started) (started : Started) → Waits sizes begin log waiting → Does n true e
     → IsWaiting sizes begin (log ++ e ∷ []) n (Some started) → after ≡ with waiting n (Some started) → Waits sizes begin (log ++ e ∷ []) after
@@ -137,3 +140,24 @@ waits_end sizes begin log new n waiting waits is = subst (λ es. Waits sizes beg
         let none : is_begun (entries_of s (log ++ End n ∷ [])) ≡ false = begun_after log (End n) s ∙ ap (λ b. cond b false (is_begun (entries_of s log))) t in
         absurd (cc (none, begun))
     at s false t begun = others_wait sizes begin log (End n) n s (waiting s) (waiting s) waiting t refl refl refl waits begun
+
+-- ---- works of movers
+
+-- a work is no turn of a session
+no_turn : (e : Entry) (s : ℕ) → IsWork e → (is_turn e && (actor_of e == s)) ≡ false
+no_turn (Start n b short) s w = absurd w
+no_turn (Finish n r) s w = absurd w
+no_turn (End n) s w = absurd w
+no_turn (Mover by work) s w = refl
+
+work_waits : (sizes : Sizes) (begin : Begin) (log : List Entry) (e : Entry) (waiting : ℕ → Option Started) → IsWork e → Waits sizes begin log waiting → Waits sizes begin (log ++ e ∷ []) waiting
+work_waits sizes begin log e waiting w waits = λ s begun. waiting_on sizes begin log e s (waiting s) (no_turn e s w) (waits s (sym (work_begun log e s w) ∙ begun))
+
+-- what was started waits as before behind works of movers
+works_wait : (sizes : Sizes) (begin : Begin) (log piece : List Entry) (waiting : ℕ → Option Started) → AreWorks piece → Waits sizes begin log waiting → Waits sizes begin (log ++ piece) waiting
+works_wait sizes begin log [] waiting w waits = subst (λ es. Waits sizes begin es waiting) (sym (append-nil log)) waits
+works_wait sizes begin log (e ∷ es) waiting w waits =
+    subst (λ xs. Waits sizes begin xs waiting) (append_assoc log (e ∷ []) es) (works_wait sizes begin (log ++ e ∷ []) es waiting w.1 (work_waits sizes begin log e waiting w.0 waits))
+
+pub waits_works : (sizes : Sizes) (begin : Begin) (log new piece : List Entry) (waiting : ℕ → Option Started) → Waits sizes begin log waiting → new ≡ log ++ piece → AreWorks piece → Waits sizes begin new waiting
+waits_works sizes begin log new piece waiting waits is w = subst (λ es. Waits sizes begin es waiting) (sym is) (works_wait sizes begin log piece waiting w waits)

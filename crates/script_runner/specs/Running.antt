@@ -1,18 +1,26 @@
 -- A run of a script's steps so far.
-use Rattle.std.specs.Prelude.{◌≡◌, ◌≤◌, ◌<◌, ℕ, List, [], ◌++◌, length, map, take, All, Contains, Bool, true, false, Option, None, Some}
+use Rattle.std.specs.Prelude.{◌≡◌, ◌≤◌, ◌<◌, ℕ, List, [], ◌++◌, ◌==◌, length, map, take, All, Contains, Bool, true, false, Option, None, Some}
 use Rattle.cs_model.specs.declared.entry.Entry.{Entry}
 use Rattle.cs_model.specs.declared.entry.Entry.TheVariants.{End}
+use Rattle.cs_model.specs.declared.work.Actor.{Actor}
+use Rattle.cs_model.specs.declared.work.Actor.TheVariants.{Session, Mover}
 use Rattle.cs_model.specs.Actors.{entries_of, is_begun, has_ended}
 use Rattle.cs_model.specs.State.{Begin}
 use Rattle.group_book.specs.Commits.{Sizes}
+use Rattle.group_log.specs.Followed.{Ground}
+use Rattle.group_view.specs.declared.claim.Claim.{Claim}
+use Rattle.group_view.specs.Claims.{IsMendable}
+use Rattle.group_directory.specs.Claiming.{IsShareOf}
+use Rattle.group_directory.specs.Installing.{held_by}
 use Rattle.log_laws.specs.Laws.{AreDistinct}
 use Rattle.log_laws.specs.Started.{Begun, IsStarted}
 use Rattle.script_reader.specs.declared.script.Step.{Step}
 use Rattle.script_reader.specs.declared.script.Step.TheVariants as step
-use Rattle.script_reader.specs.Scripts.{session_of, text_of, half_done, ArePaired}
-use Rattle.script_reader.specs.Schedule.{ArePieces}
+use Rattle.script_reader.specs.Scripts.{taken_by, text_of, half_done, ArePaired}
+use Rattle.script_runner.specs.Schedule.{ArePieces}
 use Rattle.statement_core.specs.declared.started.Started.{Started}
 use Rattle.statement_core.specs.Begun.{Hands, MayWork}
+use Rattle.statement_core.specs.CoreValue.{CoreValue}
 use Rattle.statement_core.specs.Terms.{sizes_of, AreTerms}
 
 -- a session has begun a statement, and what was started is handed what its work stands on
@@ -33,28 +41,79 @@ IsWaiting sizes begin log session (Some started) = Awaits sizes begin log sessio
 abbrev pub Waits : Sizes → Begin → List Entry → (ℕ → Option Started) → Type 0
 Waits sizes begin log waiting = (session : ℕ) → is_begun (entries_of session log) ≡ true → IsWaiting sizes begin log session (waiting session)
 
--- whether a step finishes a statement that was started before it
-abbrev pub finishes : Step → Bool
-finishes (step.Whole session text) = false
-finishes (step.Begun session text) = false
-finishes (step.Finished session) = true
+-- the core serves this session, which goes on, and has a statement half done or none
+pub record IsGoing (core : CoreValue) (session : ℕ) (begun : Bool) : Type 0 where
+  pub seat : session < 65
+  pub known : Contains core.sessions session
+  pub half : is_begun (entries_of session core.log) ≡ begun
+  pub going : has_ended (entries_of session core.log) ≡ false
+
+-- a mover of this number has a seat, and holds no claim
+pub record IsFree (core : CoreValue) (mover : ℕ) : Type 0 where
+  pub seat : mover < 65
+  pub free : held_by (Mover mover) core.claims ≡ None
+
+-- the step can be run
+abbrev pub MayRun : CoreValue → Step → Type 0
+MayRun core (step.Whole session text) = IsGoing core session false × (length text ≤ 65536)
+MayRun core (step.Begun session text) = IsGoing core session false × (length text ≤ 65536)
+MayRun core (step.Finished session) = IsGoing core session true
+MayRun core (step.Turn mover) = IsFree core mover
+MayRun core (step.Claiming mover) = IsFree core mover
+MayRun core (step.Installing mover) = mover < 65
+
+-- ---- claims
+
+-- what a claim lent stands ready for its mover, and can be worked on; there is none where no claim is held
+abbrev pub IsReadyFor : Option (Actor × Claim) → Option Claim → Type 0
+IsReadyFor None lent = lent ≡ None
+IsReadyFor (Some held) None = ⊥
+IsReadyFor (Some held) (Some lent) = IsShareOf held.1 lent × IsMendable lent
+
+abbrev pub AreReady : List (Actor × Claim) → (ℕ → Option Claim) → Type 0
+AreReady claims waiting = (mover : ℕ) → mover < 65 → IsReadyFor (held_by (Mover mover) claims) (waiting mover)
+
+-- the claims of the other movers are as before
+abbrev pub OthersKeep : ℕ → List (Actor × Claim) → List (Actor × Claim) → Type 0
+OthersKeep mover old new = (other : ℕ) → (other == mover) ≡ false → held_by (Mover other) new ≡ held_by (Mover other) old
+
+-- what a step makes of the claims: a session's, nothing; a mover's is over, but after the first event of a turn alone
+abbrev pub LeavesClaims : Step → List (Actor × Claim) → List (Actor × Claim) → Type 0
+LeavesClaims (step.Whole session text) old new = new ≡ old
+LeavesClaims (step.Begun session text) old new = new ≡ old
+LeavesClaims (step.Finished session) old new = new ≡ old
+LeavesClaims (step.Turn mover) old new = (held_by (Mover mover) new ≡ None) × OthersKeep mover old new
+LeavesClaims (step.Claiming mover) old new = OthersKeep mover old new
+LeavesClaims (step.Installing mover) old new = (held_by (Mover mover) new ≡ None) × OthersKeep mover old new
+
+-- no mover holds a claim
+abbrev pub AreFree : List (Actor × Claim) → Type 0
+AreFree claims = (mover : ℕ) → held_by (Mover mover) claims ≡ None
+
+-- ---- steps
+
+-- the actor has a seat, and a session is one of these
+abbrev pub IsKnown : List ℕ → Actor → Type 0
+IsKnown sessions (Session n) = (n < 65) × Contains sessions n
+IsKnown sessions (Mover n) = n < 65
 
 -- these steps can be run by a core that serves these sessions
 pub record AreRunnable (sessions : List ℕ) (steps : List Step) : Type 0 where
   pub short : All (λ step. length (text_of step) ≤ 65536) steps
-  pub known : All (λ step. (session_of step < 65) × Contains sessions (session_of step)) steps
+  pub known : All (λ step. IsKnown sessions (taken_by step)) steps
   pub paired : ArePaired [] steps
 
 -- the steps done have their pieces in the log, and those left may follow
-pub record Running (begin : Begin) (log : List Entry) (done left : List Step) : Type 0 where
-  pub pieces : ArePieces begin [] done log
-  pub begun : (session : ℕ) → is_begun (entries_of session log) ≡ half_done session done
-  pub going : (session : ℕ) → has_ended (entries_of session log) ≡ false
+pub record Running (origin : Ground) (core : CoreValue) (done left : List Step) : Type 0 where
+  pub pieces : ArePieces origin [] done core.log
+  pub begun : (session : ℕ) → is_begun (entries_of session core.log) ≡ half_done (Session session) done
+  pub going : (session : ℕ) → has_ended (entries_of session core.log) ≡ false
+  pub free : (mover : ℕ) → half_done (Mover mover) done ≡ false → held_by (Mover mover) core.claims ≡ None
   pub paired : ArePaired done left
 
 -- the log follows the first of these steps
-abbrev pub IsFrontRun : Begin → List Step → List Entry → Type 0
-IsFrontRun begin steps log = (n : ℕ) × ArePieces begin [] (take n steps) log
+abbrev pub IsFrontRun : Ground → List Step → List Entry → Type 0
+IsFrontRun origin steps log = (n : ℕ) × ArePieces origin [] (take n steps) log
 
 -- the Ends of the first of these sessions came behind the first log
 pub record Ending (first now : List Entry) (done left : List ℕ) : Type 0 where

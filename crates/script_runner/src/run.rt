@@ -3,11 +3,11 @@ ghost use Rattle.std.specs.Prelude.{All, ◌≡◌, ◌++◌, [], ℕ, map, Cont
 ghost use Rattle.cs_types.specs.Schemas.{IsSchema};
 ghost use Rattle.cs_model.specs.declared.entry.Entry.TheVariants.{End};
 ghost use Rattle.cs_model.specs.Actors.{entries_of, is_begun, has_ended};
-ghost use Rattle.cs_model.specs.State.{begin_of};
+ghost use Rattle.group_log.specs.Followed.{ground_of};
 ghost use Rattle.log_laws.specs.Laws.{AreDistinct};
-ghost use Rattle.script_reader.specs.Schedule.{Scheduled};
 ghost use Rattle.script_reader.specs.Scripts.{IsRunnable};
-ghost use Rattle.script_runner.specs.Running.{Running, AreRunnable, IsFrontRun};
+ghost use Rattle.script_runner.specs.Running.{Running, AreFree, AreRunnable, IsFrontRun};
+ghost use Rattle.script_runner.specs.Schedule.{Scheduled};
 ghost use Rattle.script_runner.specs.Logs.{IsLogOf, IsFrontLogOf};
 
 use crate::runner::Runner;
@@ -18,10 +18,11 @@ use statement_core::Desk;
 /// Runs the steps, in order.
 fn run_steps<D: Desk>(runner: &mut Runner, steps: &[Step], desk: &D) -> Result<(), Memory>
     requires empty { runner.old.log ≡ [] }
+    requires free { runner.old.claims ≡ [] }
     requires schema { IsSchema runner.old.schema }
     requires steps { AreRunnable runner.old.sessions steps.now }
-    ensures ran { OnOk result (Running (begin_of runner.old.schema) runner.new.log steps.now []) }
-    ensures front { OnErr result (IsFrontRun (begin_of runner.old.schema) steps.now runner.new.log) }
+    ensures ran { OnOk result (Running (ground_of runner.old.schema runner.old.sizes) runner.new steps.now []) }
+    ensures front { OnErr result (IsFrontRun (ground_of runner.old.schema runner.old.sizes) steps.now runner.new.log) }
     ensures schema { runner.new.schema ≡ runner.old.schema }
     ensures sizes { runner.new.sizes ≡ runner.old.sizes }
     ensures sessions { runner.new.sessions ≡ runner.old.sessions }
@@ -39,6 +40,7 @@ fn end_sessions(runner: &mut Runner, sessions: &[u32])
     requires rests { (session : ℕ) → is_begun (entries_of session runner.old.log) ≡ false }
     requires going { (session : ℕ) → has_ended (entries_of session runner.old.log) ≡ false }
     ensures log { runner.new.log ≡ runner.old.log ++ map End sessions.now }
+    ensures claims { runner.new.claims ≡ runner.old.claims }
     ensures schema { runner.new.schema ≡ runner.old.schema }
     ensures sizes { runner.new.sizes ≡ runner.old.sizes }
     ensures sessions { runner.new.sessions ≡ runner.old.sessions }
@@ -52,10 +54,12 @@ fn end_sessions(runner: &mut Runner, sessions: &[u32])
 fn run_script<D: Desk>(runner: &mut Runner, script: &Script, desk: &D) -> Result<(), Memory>
     requires runnable { IsRunnable script.now }
     requires empty { runner.old.log ≡ [] }
+    requires free { runner.old.claims ≡ [] }
     requires schema { runner.old.schema ≡ script.now.schema }
     requires known { All (λ session. Contains runner.old.sessions session) script.now.sessions }
-    ensures scheduled { OnOk result (Scheduled script.now runner.new.log) }
-    ensures front { OnErr result (IsFrontRun (begin_of script.now.schema) script.now.lines runner.new.log) }
+    ensures scheduled { OnOk result (Scheduled runner.old.sizes script.now runner.new.log) }
+    ensures free { OnOk result (AreFree runner.new.claims) }
+    ensures front { OnErr result (IsFrontRun (ground_of script.now.schema runner.old.sizes) script.now.lines runner.new.log) }
     ensures schema { runner.new.schema ≡ runner.old.schema }
     ensures sizes { runner.new.sizes ≡ runner.old.sizes }
     ensures sessions { runner.new.sessions ≡ runner.old.sessions }
@@ -71,9 +75,12 @@ fn run_script<D: Desk>(runner: &mut Runner, script: &Script, desk: &D) -> Result
 pub fn run_schedule<D: Desk>(runner: &mut Runner, script: &Script, desk: &D) -> Result<(), Memory>
     requires runnable { IsRunnable script.now }
     requires empty { runner.old.log ≡ [] }
+    requires free { runner.old.claims ≡ [] }
     requires schema { runner.old.schema ≡ script.now.schema }
     requires known { All (λ session. Contains runner.old.sessions session) script.now.sessions }
     ensures log { OnOk result (IsLogOf runner.old.sizes script.now runner.new.log) }
+    // At the end no mover holds a claim.
+    ensures free { OnOk result (AreFree runner.new.claims) }
     ensures front { OnErr result (IsFrontLogOf runner.old.sizes script.now runner.new.log) }
     ensures schema { runner.new.schema ≡ runner.old.schema }
     ensures sizes { runner.new.sizes ≡ runner.old.sizes }

@@ -1,5 +1,5 @@
 // Runs steps over a core, one by one.
-ghost use Rattle.std.specs.Prelude.{All, ◌≡◌, ◌≤◌, ◌<◌, ◌++◌, ◌∷◌, [], List, length, Contains, IfOk, OnOk, OnErr, true, false};
+ghost use Rattle.std.specs.Prelude.{All, ◌≡◌, ◌≤◌, ◌<◌, ◌++◌, ◌∷◌, [], List, length, Contains, IfOk, OnOk, OnErr, None, true, false};
 ghost use Rattle.cs_types.specs.Schemas.{IsSchema};
 ghost use Rattle.cs_model.specs.declared.entry.Entry.{Entry};
 ghost use Rattle.cs_model.specs.declared.entry.Entry.TheVariants.{End};
@@ -9,16 +9,19 @@ ghost use Rattle.cs_model.specs.State.{State, begin_of};
 ghost use Rattle.group_book.specs.Book.{Book};
 ghost use Rattle.group_log.specs.Followed.{ground_of, Followed};
 ghost use Rattle.cs_model.specs.Text.{IsPrintableEntry};
-ghost use Rattle.script_reader.specs.Schedule.{IsBound, IsStart, IsFinishOf, IsPiece};
-ghost use Rattle.script_reader.specs.Scripts.{session_of, text_of};
+ghost use Rattle.group_directory.specs.Installing.{held_by};
+ghost use Rattle.cs_model.specs.declared.work.Actor.TheVariants as Actor;
 ghost use Rattle.statement_core.specs.Seats.{seat};
-ghost use Rattle.script_runner.specs.Running.{Waits, finishes};
+ghost use Rattle.statement_core.specs.Turns.{BeginsTurn, EndsTurn};
+ghost use Rattle.script_runner.specs.Running.{AreReady, IsFree, LeavesClaims, MayRun, OthersKeep, Waits};
+ghost use Rattle.script_runner.specs.Schedule.{IsBound, IsStart, IsFinishOf, IsPiece};
 
 use cs_base::Memory;
-use cs_model::{Bound, Entry, Refusal};
+use cs_model::{Actor, Bound, Entry, Refusal};
 use cs_types::Schema;
+use group_view::Claim;
 use script_reader::Step;
-use statement_core::{Core, Desk, Seats, Started};
+use statement_core::{Core, Desk, Seats, Started, Turned};
 use std::alloc::Global;
 use std::marker::Model;
 use tsql_binder::bind_text;
@@ -54,6 +57,7 @@ fn begin(
     ensures schema { core.new.schema ≡ core.old.schema }
     ensures sizes { core.new.sizes ≡ core.old.sizes }
     ensures sessions { core.new.sessions ≡ core.old.sessions }
+    ensures claims { core.new.claims ≡ core.old.claims }
     ensures err { OnErr result (core.new.log ≡ core.old.log) }
 {
     let bound = bound_of(alloc, core.schema(), text);
@@ -80,6 +84,7 @@ fn finish<D: Desk>(
     ensures schema { core.new.schema ≡ core.old.schema }
     ensures sizes { core.new.sizes ≡ core.old.sizes }
     ensures sessions { core.new.sessions ≡ core.old.sessions }
+    ensures claims { core.new.claims ≡ core.old.claims }
 {
     match waiting.set(session, None) {
         Some(started) => {
@@ -92,49 +97,102 @@ fn finish<D: Desk>(
     }
 }
 
+/// Makes the first event of a mover's turn; what is lent waits in the mover's seat.
+fn claim(core: &mut Core, lent: &mut Seats<Claim>, mover: u32) -> Result<(), Memory>
+    requires free { IsFree core.old mover }
+    requires ready { AreReady core.old.claims (seat lent.old) }
+    ensures begins { OnOk result ((piece : List Entry) × (core.new.log ≡ core.old.log ++ piece) × BeginsTurn (ground_of core.old.schema core.old.sizes) core.old.log (Actor.Mover mover) piece) }
+    ensures ready { AreReady core.new.claims (seat lent.new) }
+    ensures others { OthersKeep mover core.old.claims core.new.claims }
+    ensures schema { core.new.schema ≡ core.old.schema }
+    ensures sizes { core.new.sizes ≡ core.old.sizes }
+    ensures sessions { core.new.sessions ≡ core.old.sessions }
+    ensures err { OnErr result (core.new ≡ core.old) }
+{
+    if let Turned::Lent(claim) = core.claim(Actor::Mover(mover))? {
+        lent.set(mover, Some(claim));
+    }
+    Ok(())
+}
+
+/// Makes the last event of a mover's turn, by what waits in its seat; none where nothing waits.
+fn install<D: Desk>(alloc: Global, core: &mut Core, lent: &mut Seats<Claim>, mover: u32, desk: &D)
+    requires seat { mover < 65 }
+    requires ready { AreReady core.old.claims (seat lent.old) }
+    ensures ends { (piece : List Entry) × (core.new.log ≡ core.old.log ++ piece) × EndsTurn (ground_of core.old.schema core.old.sizes) core.old.log (Actor.Mover mover) piece }
+    ensures ready { AreReady core.new.claims (seat lent.new) }
+    ensures free { held_by (Actor.Mover mover) core.new.claims ≡ None }
+    ensures others { OthersKeep mover core.old.claims core.new.claims }
+    ensures schema { core.new.schema ≡ core.old.schema }
+    ensures sizes { core.new.sizes ≡ core.old.sizes }
+    ensures sessions { core.new.sessions ≡ core.old.sessions }
+{
+    // Its contract says that a mover without a claim has no turn to end.
+    let _log = core.log();
+    let Some(claim) = lent.set(mover, None) else {
+        return;
+    };
+    match desk.mend(alloc, &claim) {
+        Ok(product) => core.install(Actor::Mover(mover), product),
+        Err(_) => core.release(Actor::Mover(mover)),
+    }
+}
+
+/// What waits between events: a started statement for each session that has one half done, and what is lent for each mover that
+/// holds a claim.
+#[derive(Drop)]
+struct Waiting {
+    started: Seats<Started>,
+    lent: Seats<Claim>,
+}
+
 /// Makes the events of one step.
 fn run_step<D: Desk>(
     alloc: Global,
     core: &mut Core,
-    waiting: &mut Seats<Started>,
+    waiting: &mut Waiting,
     step: &Step,
     desk: &D,
 ) -> Result<(), Memory>
-    requires seat { session_of step.now < 65 }
     requires schema { IsSchema core.old.schema }
-    requires known { Contains core.old.sessions (session_of step.now) }
-    requires follows { is_begun (entries_of (session_of step.now) core.old.log) ≡ finishes step.now }
-    requires going { has_ended (entries_of (session_of step.now) core.old.log) ≡ false }
-    requires waits { Waits core.old.sizes (begin_of core.old.schema) core.old.log (seat waiting.old) }
-    requires short { length (text_of step.now) ≤ 65_536 }
-    ensures piece { OnOk result ((piece : List Entry) × IsPiece (begin_of core.old.schema) core.old.log step.now piece × (core.new.log ≡ core.old.log ++ piece)) }
-    ensures waits { Waits core.old.sizes (begin_of core.old.schema) core.new.log (seat waiting.new) }
+    requires may { MayRun core.old step.now }
+    requires waits { Waits core.old.sizes (begin_of core.old.schema) core.old.log (seat waiting.old.started) }
+    requires ready { AreReady core.old.claims (seat waiting.old.lent) }
+    ensures piece { OnOk result ((piece : List Entry) × IsPiece (ground_of core.old.schema core.old.sizes) core.old.log step.now piece × (core.new.log ≡ core.old.log ++ piece)) }
+    ensures waits { Waits core.old.sizes (begin_of core.old.schema) core.new.log (seat waiting.new.started) }
+    ensures ready { AreReady core.new.claims (seat waiting.new.lent) }
+    ensures claims { OnOk result (LeavesClaims step.now core.old.claims core.new.claims) }
     ensures schema { core.new.schema ≡ core.old.schema }
     ensures sizes { core.new.sizes ≡ core.old.sizes }
     ensures sessions { core.new.sessions ≡ core.old.sessions }
-    ensures err { OnErr result (core.new.log ≡ core.old.log) }
+    ensures err { OnErr result (core.new ≡ core.old) }
 {
+    let Waiting { started, lent } = waiting;
     match step {
         Step::Whole { session, text } => {
-            begin(alloc, core, waiting, *session, text.as_slice())?;
-            finish(alloc, core, waiting, *session, desk);
-            Ok(())
+            begin(alloc, core, started, *session, text.as_slice())?;
+            finish(alloc, core, started, *session, desk);
         }
-        Step::Begun { session, text } => begin(alloc, core, waiting, *session, text.as_slice()),
-        Step::Finished { session } => {
-            finish(alloc, core, waiting, *session, desk);
-            Ok(())
+        Step::Begun { session, text } => begin(alloc, core, started, *session, text.as_slice())?,
+        Step::Finished { session } => finish(alloc, core, started, *session, desk),
+        Step::Turn { mover } => {
+            claim(core, lent, *mover)?;
+            install(alloc, core, lent, *mover, desk);
         }
+        Step::Claiming { mover } => claim(core, lent, *mover)?,
+        Step::Installing { mover } => install(alloc, core, lent, *mover, desk),
     }
+    Ok(())
 }
 
-/// Runs the steps of sessions over a core, one by one; what a session has started and not finished waits in it. It is seen as
-/// its core: the table, how large groups are, the log of the events, and the sessions that it serves.
+/// Runs the steps of sessions and movers over a core, one by one; what a session has started and not finished waits in it, and so
+/// does what a mover was lent. It is seen as its core: the table, how large groups are, the log of the events, the sessions that it
+/// serves, and the claims that are out.
 #[derive(Drop)]
 pub struct Runner {
     alloc: Global,
     core: Core,
-    waiting: Seats<Started>,
+    waiting: Waiting,
 }
 
 impl Model for Runner {
@@ -152,18 +210,22 @@ impl Model for Runner {
 
     ghost use Rattle.cs_model.specs.State.{begin_of};
     ghost use Rattle.statement_core.specs.Seats.{seat};
-    ghost use Rattle.script_runner.specs.Running.{Waits};
+    ghost use Rattle.script_runner.specs.Running.{AreReady, Waits};
 
-    ghost invariant = { λ r. Waits r.core.sizes (begin_of r.core.schema) r.core.log (seat r.waiting) };
+    ghost invariant = { λ r. Waits r.core.sizes (begin_of r.core.schema) r.core.log (seat r.waiting.started) × AreReady r.core.claims (seat r.waiting.lent) };
 }
 
 impl Runner {
     /// A runner over a new core. `Memory` where there is no room for its seats.
     pub fn new(alloc: Global, core: Core) -> Result<Runner, Memory>
-        requires { core.log ≡ [] }
+        requires log { core.log ≡ [] }
+        requires claims { core.claims ≡ [] }
         ensures { IfOk result (λ runner. runner ≡ core) }
     {
-        let waiting = Seats::new(alloc)?;
+        let waiting = Waiting {
+            started: Seats::new(alloc)?,
+            lent: Seats::new(alloc)?,
+        };
         Ok(Runner {
             alloc,
             core,
@@ -171,21 +233,19 @@ impl Runner {
         })
     }
 
-    /// Runs one step: the Start of a statement, the Finish of the one that its session has half done, or both. `Memory`: no
-    /// event was made. Conditions: the step's session is one that the core serves, has not ended, and has a statement half
-    /// done exactly where the step is a Finish alone; its text has at most 65,536 bytes.
+    /// Runs one step: the Start of a statement, the Finish of the one that its session has half done, or both; or the first event
+    /// of a mover's turn, the last one, or both. `Memory`: no event was made. Conditions: a session is one that the core serves,
+    /// has not ended, and has a statement half done exactly where the step is a Finish alone; a text has at most 65,536 bytes; and
+    /// a mover holds no claim where its turn begins.
     pub fn step<D: Desk>(&mut self, step: &Step, desk: &D) -> Result<(), Memory>
-        requires seat { session_of step.now < 65 }
         requires schema { IsSchema self.old.schema }
-        requires known { Contains self.old.sessions (session_of step.now) }
-        requires follows { is_begun (entries_of (session_of step.now) self.old.log) ≡ finishes step.now }
-        requires going { has_ended (entries_of (session_of step.now) self.old.log) ≡ false }
-        requires short { length (text_of step.now) ≤ 65_536 }
-        ensures piece { OnOk result ((piece : List Entry) × IsPiece (begin_of self.old.schema) self.old.log step.now piece × (self.new.log ≡ self.old.log ++ piece)) }
+        requires may { MayRun self.old step.now }
+        ensures piece { OnOk result ((piece : List Entry) × IsPiece (ground_of self.old.schema self.old.sizes) self.old.log step.now piece × (self.new.log ≡ self.old.log ++ piece)) }
+        ensures claims { OnOk result (LeavesClaims step.now self.old.claims self.new.claims) }
         ensures schema { self.new.schema ≡ self.old.schema }
         ensures sizes { self.new.sizes ≡ self.old.sizes }
         ensures sessions { self.new.sessions ≡ self.old.sessions }
-        ensures err { OnErr result (self.new.log ≡ self.old.log) }
+        ensures err { OnErr result (self.new ≡ self.old) }
     {
         run_step(self.alloc, &mut self.core, &mut self.waiting, step, desk)
     }
@@ -196,6 +256,7 @@ impl Runner {
         requires rests { is_begun (entries_of session self.old.log) ≡ false }
         requires going { has_ended (entries_of session self.old.log) ≡ false }
         ensures log { self.new.log ≡ self.old.log ++ End session ∷ [] }
+        ensures claims { self.new.claims ≡ self.old.claims }
         ensures schema { self.new.schema ≡ self.old.schema }
         ensures sizes { self.new.sizes ≡ self.old.sizes }
         ensures sessions { self.new.sessions ≡ self.old.sessions }

@@ -15,5 +15,6 @@ loop-session-preserved c =
       schema = c.end.ensures.schema ∙ c.loop-session.invariant.schema;
       sizes = c.end.ensures.sizes ∙ c.loop-session.invariant.sizes;
       sessions = c.end.ensures.sessions ∙ c.loop-session.invariant.sessions;
+      claims = c.end.ensures.claims ∙ c.loop-session.invariant.claims;
       ending = ending_more c.args.runner.now.log c.loop-session.runner.log c.end.new.self.log c.args.sessions.now c.loop-session.session-index c.loop-session-test.true c.loop-session.invariant.ending c.end.ensures.log;
     }

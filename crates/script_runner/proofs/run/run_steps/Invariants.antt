@@ -1,5 +1,5 @@
 use Rattle.std.proofs.Common.{◌≡◌, take, drop}
-use Rattle.cs_model.specs.State.{begin_of}
+use Rattle.group_log.specs.Followed.{ground_of}
 use Rattle.script_runner.specs.Running.{Running}
 use Rattle.script_runner.proofs.run.run_steps.Given as goal
 
@@ -12,4 +12,4 @@ pub record RunningIn {A B C : Type 0} (x y : A) (u v : C) (z w : B) (all : Type 
 
 abbrev pub invariant-loop-step : goal.invariant-loop-step
 invariant-loop-step g l = RunningIn l.runner.schema l.fn.runner.schema l.runner.sizes l.fn.runner.sizes l.runner.sessions l.fn.runner.sessions
-    (Running (begin_of l.fn.runner.schema) l.runner.log (take l.step-index l.steps) (drop l.step-index l.steps))
+    (Running (ground_of l.fn.runner.schema l.fn.runner.sizes) l.runner (take l.step-index l.steps) (drop l.step-index l.steps))

@@ -2,7 +2,7 @@ use Rattle.std.proofs.Common.{refl, subst, ◌∙◌}
 use Rattle.cs_model.specs.Ready.{IsReady}
 use Rattle.cs_model.specs.State.{begin_of}
 use Rattle.log_laws.specs.Started.{IsStarted}
-use Rattle.script_reader.specs.Schedule.{IsBound}
+use Rattle.script_runner.specs.Schedule.{IsBound}
 use Rattle.statement_core.specs.Seats.{seat}
 use Rattle.script_runner.proofs.Waiting.{begun_is, waits_begun, waits_same}
 use Rattle.script_runner.proofs.runner.begin.Goals as goal

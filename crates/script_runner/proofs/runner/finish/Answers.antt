@@ -1,4 +1,4 @@
-use Rattle.std.proofs.Common.{sym, subst}
+use Rattle.std.proofs.Common.{sym}
 use Rattle.cs_model.specs.State.{begin_of}
 use Rattle.statement_core.specs.Seats.{seat}
 use Rattle.script_runner.proofs.Waiting.{finished_is, waits_finished, waits_there, waiting_done}
