@@ -14,13 +14,13 @@ none_taken (Some bytes) = refl
 
 module _ (words : List (List ℕ)) (came : List ℕ) (left : Option (List ℕ)) where
   no_read_fault : (whole : List ℕ) → Asks words came left status.ReadFault whole → ⊥
-  no_read_fault whole (answered w l e h) = h
+  no_read_fault whole (answered sizes w l e h) = h
 
   no_write_fault : (whole : List ℕ) → Asks words came left status.WriteFault whole → ⊥
-  no_write_fault whole (answered w l e h) = h
+  no_write_fault whole (answered sizes w l e h) = h
 
   no_memory : (whole : List ℕ) → Asks words came left status.Memory whole → ⊥
-  no_memory whole (answered w l e h) = h
+  no_memory whole (answered sizes w l e h) = h
 
   asked : (s : Status) (whole : List ℕ) → Asks words came left s whole → Ends words came left whole s
   asked status.Done whole a = a

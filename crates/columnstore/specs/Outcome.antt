@@ -1,6 +1,9 @@
 -- What the program does: for which words and input it ends with which status, and what it has written then.
-use Rattle.std.specs.Prelude.{◌≡◌, ℕ, ◌<◌, ◌≤◌, List, [], ◌∷◌, ◌++◌, length, codes, decimal, Bool, true, false, bytes_eq, Option, ◌==◌, if◌then◌else◌}
+use Rattle.std.specs.Prelude.{◌≡◌, ℕ, ◌<◌, ◌≤◌, List, [], ◌∷◌, ◌++◌, length, codes, decimal, Option, ◌==◌, if◌then◌else◌}
 use Rattle.cs_outside.specs.Outside.{IsAtEnd}
+use Rattle.command_words.specs.declared.order.GroupSizes.{GroupSizes}
+use Rattle.command_words.specs.declared.order.Order.TheVariants.{Replay}
+use Rattle.command_words.specs.Orders.{Words, IsOrder}
 use Rattle.cs_model.specs.declared.entry.Entry.{Entry}
 use Rattle.cs_model.specs.State.{begin_of}
 use Rattle.cs_model.specs.Text.{text}
@@ -11,30 +14,24 @@ use Rattle.script_runner.specs.Logs.{IsLogOf}
 use Rattle.columnstore.specs.declared.status.Status.{Status}
 use Rattle.columnstore.specs.declared.status.Status.TheVariants as status
 
--- the words, each as its bytes
-abbrev pub Words : Type 0
-Words = List (List ℕ)
+-- the sizes of groups that an order names
+abbrev pub sizes_in : GroupSizes → Sizes
+sizes_in sizes = record { group_rows = sizes.group_rows; direct_rows = sizes.direct_rows }
 
--- the words are those of the program: the one word `replay`
-abbrev pub are_words : Words → Bool
-are_words [] = false
-are_words (word ∷ []) = bytes_eq word (codes "replay")
-are_words (word ∷ other ∷ words) = false
+-- the words are the order to replay a script, with row groups so large
+abbrev pub Replays : Words → Sizes → Type 0
+Replays words sizes = IsOrder words (Replay (record { group_rows = sizes.group_rows; direct_rows = sizes.direct_rows }))
 
 -- the longest script, 16 MiB
 abbrev pub limit : ℕ
 limit = 16777216
 
--- how large row groups are: at most 1,048,576 versions, and loaded directly from 102,400 rows on
-abbrev pub usual_sizes : Sizes
-usual_sizes = record { group_rows = 1048576; direct_rows = 102400 }
-
 -- the script was run, with row groups so large, and this is the text of the log of its run
-pub record Performed (bytes whole : List ℕ) : Type 0 where
+pub record Performed (sizes : Sizes) (bytes whole : List ℕ) : Type 0 where
   pub script : Script
   pub log : List Entry
   pub reads : IsScript bytes script
-  pub run : IsLogOf usual_sizes script log
+  pub run : IsLogOf sizes script log
   pub is : whole ≡ text (begin_of script.schema) log
 
 -- ` error <number>`, for a refused setup statement
@@ -53,21 +50,22 @@ pub record HasBadLine (bytes whole : List ℕ) : Type 0 where
   pub reads : IsBadLine bytes line reason number
   pub is : whole ≡ bad_line_text line reason number
 
--- the whole text that is to be written for an input that was read, with the status that goes with it
-abbrev pub IsAnswered : List ℕ → Status → List ℕ → Type 0
-IsAnswered bytes status.Done whole = Performed bytes whole
-IsAnswered bytes status.Script whole = HasBadLine bytes whole
-IsAnswered bytes status.Usage whole = ⊥
-IsAnswered bytes status.ReadFault whole = ⊥
-IsAnswered bytes status.WriteFault whole = ⊥
-IsAnswered bytes status.Memory whole = ⊥
+-- the whole text that is to be written for an input that was read, with the status that goes with it and row groups so large
+abbrev pub IsAnswered : Sizes → List ℕ → Status → List ℕ → Type 0
+IsAnswered sizes bytes status.Done whole = Performed sizes bytes whole
+IsAnswered sizes bytes status.Script whole = HasBadLine bytes whole
+IsAnswered sizes bytes status.Usage whole = ⊥
+IsAnswered sizes bytes status.ReadFault whole = ⊥
+IsAnswered sizes bytes status.WriteFault whole = ⊥
+IsAnswered sizes bytes status.Memory whole = ⊥
 
 -- the whole text that is to be written, with the status that goes with it: came are the bytes that were read, and left
--- those that are left then, where that is told
+-- those that are left then, where that is told. Usage is for words that are no order to replay a script: words that are no order,
+-- and those that are the order to draw a workload, which the program does not do
 pub data Asks (words : Words) (came : List ℕ) (left : Option (List ℕ)) : Status → List ℕ → Type 0 where
-  usage : are_words words ≡ false → came ≡ [] → Asks words came left status.Usage (codes "usage refused\n")
-  too_long : are_words words ≡ true → limit < length came → Asks words came left status.Script (codes "refused too long\n")
-  answered : {s : Status} {whole : List ℕ} → are_words words ≡ true → length came ≤ limit → IsAtEnd left → IsAnswered came s whole → Asks words came left s whole
+  usage : ((sizes : Sizes) → Replays words sizes → ⊥) → came ≡ [] → Asks words came left status.Usage (codes "usage refused\n")
+  too_long : (sizes : Sizes) → Replays words sizes → limit < length came → Asks words came left status.Script (codes "refused too long\n")
+  answered : {s : Status} {whole : List ℕ} (sizes : Sizes) → Replays words sizes → length came ≤ limit → IsAtEnd left → IsAnswered sizes came s whole → Asks words came left s whole
 
 -- added is a front of whole
 abbrev pub IsFront : List ℕ → List ℕ → Type 0
@@ -79,9 +77,9 @@ abbrev pub Ends : Words → List ℕ → Option (List ℕ) → List ℕ → Stat
 Ends words came left added status.Done = Asks words came left status.Done added
 Ends words came left added status.Usage = Asks words came left status.Usage added
 Ends words came left added status.Script = Asks words came left status.Script added
-Ends words came left added status.ReadFault = (are_words words ≡ true) × (added ≡ [])
+Ends words came left added status.ReadFault = ((sizes : Sizes) × Replays words sizes) × (added ≡ [])
 Ends words came left added status.WriteFault = (s : Status) × (whole : List ℕ) × Asks words came left s whole × IsFront added whole
-Ends words came left added status.Memory = (are_words words ≡ true) × (added ≡ [])
+Ends words came left added status.Memory = ((sizes : Sizes) × Replays words sizes) × (added ≡ [])
 
 -- the run was done, or memory or a stream gave out
 abbrev pub IsDoneOrStopped : Status → Type 0

@@ -5,10 +5,12 @@ ghost use Rattle.cs_model.specs.State.{begin_of};
 ghost use Rattle.cs_model.specs.Text.{text};
 ghost use Rattle.script_reader.specs.declared.script.Script.{Script};
 ghost use Rattle.script_reader.specs.Scripts.{IsScript, IsRunnable};
+ghost use Rattle.statement_core.specs.Terms.{AreTermsOf};
 ghost use Rattle.script_runner.specs.Logs.{IsLogOf, IsMadeOf};
-ghost use Rattle.columnstore.specs.Outcome.{usual_sizes, IsAnswered, setup_error_text, bad_line_text};
+ghost use Rattle.columnstore.specs.Outcome.{sizes_in, IsAnswered, setup_error_text, bad_line_text};
 
 use crate::status::Status;
+use command_words::GroupSizes;
 use cs_base::Memory;
 use cs_model::print_log;
 use cs_types::Line;
@@ -17,12 +19,6 @@ use script_runner::{Runner, run_schedule};
 use statement_core::Core;
 use statement_work::Clerk;
 use std::alloc::Global;
-
-/// The most versions of a row group.
-const GROUP_ROWS: u64 = 1_048_576;
-
-/// From how many rows on a commit loads them directly.
-const DIRECT_ROWS: u64 = 102_400;
 
 /// Adds the number of a refused setup statement.
 fn append_setup_error(number: u32, line: &mut Line) -> Result<(), Memory>
@@ -49,20 +45,22 @@ fn bad_line(alloc: Global, line: u64, reason: u32, number: u32) -> Result<Line, 
     Ok(text)
 }
 
-/// A runner over a new core for the table and the sessions of a script.
-fn runner_for(alloc: Global, script: &Script) -> Result<Runner, Memory>
-    requires { IsRunnable script.now }
+/// A runner over a new core for the table and the sessions of a script, with row groups so large.
+fn runner_for(alloc: Global, sizes: GroupSizes, script: &Script) -> Result<Runner, Memory>
+    requires runnable { IsRunnable script.now }
+    requires sizes { AreTermsOf sizes.group_rows sizes.direct_rows }
     ensures schema { IfOk result (λ runner. runner.schema ≡ script.now.schema) }
-    ensures sizes { IfOk result (λ runner. runner.sizes ≡ usual_sizes) }
+    ensures sizes { IfOk result (λ runner. runner.sizes ≡ sizes_in sizes) }
     ensures log { IfOk result (λ runner. runner.log ≡ []) }
     ensures sessions { IfOk result (λ runner. runner.sessions ≡ script.now.sessions) }
+    ensures claims { IfOk result (λ runner. runner.claims ≡ []) }
 {
     let schema = script.schema.copy()?;
     let core = Core::new(
         alloc,
         schema,
-        GROUP_ROWS,
-        DIRECT_ROWS,
+        sizes.group_rows as u64,
+        sizes.direct_rows as u64,
         script.sessions.as_slice(),
     )?;
     Runner::new(alloc, core)
@@ -75,6 +73,7 @@ fn run(alloc: Global, runner: &mut Runner, script: &Script) -> Result<Line, Memo
     requires schema { runner.old.schema ≡ script.now.schema }
     requires log { runner.old.log ≡ [] }
     requires sessions { runner.old.sessions ≡ script.now.sessions }
+    requires claims { runner.old.claims ≡ [] }
     ensures whole { IfOk result (λ line. IsLogOf runner.old.sizes script.now runner.new.log) }
     ensures text { IfOk result (λ line. line ≡ text (begin_of script.now.schema) runner.new.log) }
     ensures made { IsMadeOf runner.old.sizes script.now runner.new.log }
@@ -83,25 +82,27 @@ fn run(alloc: Global, runner: &mut Runner, script: &Script) -> Result<Line, Memo
     print_log(alloc, runner.schema(), runner.log())
 }
 
-/// The text of the log of a run of a script.
-fn replay(alloc: Global, script: &Script) -> Result<Line, Memory>
-    requires { IsRunnable script.now }
-    ensures text { IfOk result (λ line. (log : List Entry) × IsLogOf usual_sizes script.now log × (line ≡ text (begin_of script.now.schema) log)) }
+/// The text of the log of a run of a script, with row groups so large.
+fn replay(alloc: Global, sizes: GroupSizes, script: &Script) -> Result<Line, Memory>
+    requires runnable { IsRunnable script.now }
+    requires sizes { AreTermsOf sizes.group_rows sizes.direct_rows }
+    ensures text { IfOk result (λ line. (log : List Entry) × IsLogOf (sizes_in sizes) script.now log × (line ≡ text (begin_of script.now.schema) log)) }
 {
-    let mut runner = runner_for(alloc, script)?;
+    let mut runner = runner_for(alloc, sizes, script)?;
     run(alloc, &mut runner, script)
 }
 
-/// The whole text that is to be written for an input, and the status that goes with it. `Memory` where there is no room for the
-/// script, its run or the text.
-pub fn answer(alloc: Global, bytes: &[u8]) -> Result<(Status, Line), Memory>
-    ensures answered { IfOk result (λ a. IsAnswered bytes.now a.0 a.1) }
+/// The whole text that is to be written for an input, with row groups so large, and the status that goes with it. `Memory` where
+/// there is no room for the script, its run or the text.
+pub fn answer(alloc: Global, sizes: GroupSizes, bytes: &[u8]) -> Result<(Status, Line), Memory>
+    requires sizes { AreTermsOf sizes.group_rows sizes.direct_rows }
+    ensures answered { IfOk result (λ a. IsAnswered (sizes_in sizes) bytes.now a.0 a.1) }
     // A script is run.
     ensures runs { (script : Script) → IsScript bytes.now script → IfOk result (λ a. a.0 ≡ Status.Done) }
 {
     match read_script(alloc, bytes) {
         Ok(script) => {
-            let text = replay(alloc, &script)?;
+            let text = replay(alloc, sizes, &script)?;
             Ok((Status::Done, text))
         }
         Err(

@@ -25,17 +25,32 @@ const FIRST_LOG: &str = "1 s1.1 >
 5 s1 end
 ";
 
-/// Runs the program for one word, where the calls with these numbers fail, and compares its status and the bytes held.
+/// Three rows, and the report on their groups.
+const GROUPS: &str = "setup CREATE TABLE t (k int NOT NULL PRIMARY KEY, v int NULL)
+s1 INSERT INTO t VALUES (1, 10), (2, 20), (3, 30)
+s1 SELECT * FROM sys.dm_db_column_store_row_group_physical_stats
+";
+
+/// The words of a text: what stands between its spaces.
+fn words_of(alloc: Global, text: &str) -> Result<Vec<String>, Fail> {
+    let mut words = Vec::new(alloc);
+    for word in text.split(' ') {
+        words.push(String::from_str(alloc, word)?)?;
+    }
+    Ok(words)
+}
+
+/// Runs the program for these words, where the calls with these numbers fail, and compares its status and the bytes held.
 fn check(
     rt: &impl Abort,
     alloc: Global,
-    word: &str,
+    words: &str,
     input: &[u8],
     failing: (u64, u64),
     status: Status,
     text: &str,
 ) -> Result<(), Fail> {
-    let words = vec![in alloc; String::from_str(alloc, word)?]?;
+    let words = words_of(alloc, words)?;
     let mut source = MemorySource::new(input.to_vec(alloc)?, vec![in alloc; failing.0]?);
     let mut sink = MemorySink::new(alloc, 40_000, vec![in alloc; failing.1]?)?;
     let ended = columnstore(alloc, words.as_slice(), &mut source, &mut sink);
@@ -61,11 +76,93 @@ fn runs_scripts(rt: HostRuntime) -> Result<(), Fail> {
 }
 
 #[test]
+fn reads_its_words(rt: HostRuntime) -> Result<(), Fail> {
+    let done = [
+        "replay",
+        "replay --group-rows 2",
+        "replay --group-rows 1048576",
+        "replay --group-rows 0000000002",
+        "replay --direct-rows 1",
+        "replay --direct-rows 1048576",
+        "replay --group-rows 2 --direct-rows 2",
+        "replay --direct-rows 2 --group-rows 2",
+    ];
+    for words in done {
+        let script = FIRST.as_bytes();
+        check(
+            &rt,
+            rt.alloc(),
+            words,
+            script,
+            (0, 0),
+            Status::Done,
+            FIRST_LOG,
+        )?;
+    }
+    Ok(())
+}
+
+#[test]
+fn refuses_other_words(rt: HostRuntime) -> Result<(), Fail> {
+    let refused = [
+        "",
+        "Replay",
+        "replay ",
+        "replay replay",
+        "replay --group-rows",
+        "replay --group-rows 1",
+        "replay --group-rows 1048577",
+        "replay --group-rows 00000000002",
+        "replay --group-rows=2",
+        "replay --group-rows 2 --group-rows 2",
+        "replay --direct-rows 0",
+        "replay --direct-rows 1048577",
+        "replay --group-rows 2 --direct-rows",
+        "replay --workers 1",
+        "--group-rows 2 replay",
+        "generate",
+        "generate --number 1",
+    ];
+    for words in refused {
+        let (script, text) = (FIRST.as_bytes(), "usage refused\n");
+        check(&rt, rt.alloc(), words, script, (0, 0), Status::Usage, text)?;
+    }
+    Ok(())
+}
+
+#[test]
+fn makes_groups_as_large_as_the_words_say(rt: HostRuntime) -> Result<(), Fail> {
+    // (words, groups, their lines)
+    let cases = [
+        ("replay", 1, "  1, 1, OPEN, 3, 0\n"),
+        (
+            "replay --group-rows 2",
+            2,
+            "  1, 2, CLOSED, 2, 0\n  2, 1, OPEN, 1, 0\n",
+        ),
+        ("replay --direct-rows 2", 1, "  1, 3, COMPRESSED, 3, 0\n"),
+        ("replay --direct-rows 4", 1, "  1, 1, OPEN, 3, 0\n"),
+        (
+            "replay --direct-rows 2 --group-rows 2",
+            2,
+            "  1, 3, COMPRESSED, 2, 0\n  2, 1, OPEN, 1, 0\n",
+        ),
+    ];
+    for (words, groups, lines) in cases {
+        let text = format!(in rt.alloc();
+            "1 s1.1 >\n2 s1.1 < ok 3 affected\n3 s1.2 >\n4 s1.2 < ok {groups} groups, 0 buffered\n{lines}5 s1 end\n"
+        )?;
+        let (script, text) = (GROUPS.as_bytes(), text.as_str());
+        check(&rt, rt.alloc(), words, script, (0, 0), Status::Done, text)?;
+    }
+    Ok(())
+}
+
+#[test]
 fn names_the_cause(rt: HostRuntime) -> Result<(), Fail> {
-    // (word, failing read, failing write, status, text)
+    // (words, failing read, failing write, status, text)
     let cases = [
         ("run", 0, 0, Status::Usage, "usage refused\n"),
-        ("Replay", 0, 0, Status::Usage, "usage refused\n"),
         ("run", 1, 0, Status::Usage, "usage refused\n"),
         ("run", 0, 1, Status::WriteFault, ""),
         ("replay", 1, 0, Status::ReadFault, ""),
@@ -74,11 +171,11 @@ fn names_the_cause(rt: HostRuntime) -> Result<(), Fail> {
         ("replay", 0, 1, Status::WriteFault, ""),
         ("replay", 0, 2, Status::Done, FIRST_LOG),
     ];
-    for (word, read, write, status, text) in cases {
+    for (words, read, write, status, text) in cases {
         check(
             &rt,
             rt.alloc(),
-            word,
+            words,
             FIRST.as_bytes(),
             (read, write),
             status,

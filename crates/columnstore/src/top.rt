@@ -1,17 +1,22 @@
 // The top call.
-ghost use Rattle.std.specs.Prelude.{◌≡◌, ◌⊎◌, ◌≤◌, List, ℕ, map, length, string_bytes, true, Some};
+ghost use Rattle.std.specs.Prelude.{◌≡◌, ◌⊎◌, ◌≤◌, List, ℕ, map, length, string_bytes, IfSome, Some};
 ghost use Rattle.std.specs.Result.{ForOk};
 ghost use Rattle.std.specs.Iterator.{IsFinite};
+ghost use Rattle.command_words.specs.declared.order.GroupSizes.{GroupSizes};
+ghost use Rattle.command_words.specs.Orders.{Words};
 ghost use Rattle.cs_base.specs.Counts.{Rose};
 ghost use Rattle.cs_outside.specs.Outside.{Takes, Adds};
 ghost use Rattle.cs_outside.specs.Words.{AreWords};
 ghost use Rattle.script_reader.specs.declared.script.Script.{Script};
 ghost use Rattle.script_reader.specs.Scripts.{IsScript};
-ghost use Rattle.columnstore.specs.Outcome.{Words, are_words, limit, Ends, IsDoneOrStopped};
+ghost use Rattle.group_book.specs.Commits.{Sizes};
+ghost use Rattle.statement_core.specs.Terms.{AreTermsOf};
+ghost use Rattle.columnstore.specs.Outcome.{limit, sizes_in, Replays, Ends, IsDoneOrStopped};
 ghost use Rattle.columnstore.specs.Written.{IsWritten};
 
 use crate::answer::answer;
 use crate::status::Status;
+use command_words::{GroupSizes, Order};
 use cs_outside::{InputRefusal, Sink, Source, read_all, words, write_whole};
 use std::alloc::Global;
 use std::io;
@@ -19,13 +24,15 @@ use std::io;
 /// The longest script in bytes, 16 MiB.
 const LIMIT: usize = 16_777_216;
 
-/// Whether the words are those of the program.
-fn is_replay(words: &[String]) -> bool
-    ensures { result ≡ are_words (map string_bytes words.now) }
+/// How large row groups are by the words' order to replay a script. None where they are no such order.
+fn replay_sizes(words: &[String]) -> Option<GroupSizes>
+    ensures found { IfSome result (λ sizes. Replays (map string_bytes words.now) (sizes_in sizes)) }
+    ensures only { (sizes : GroupSizes) → Replays (map string_bytes words.now) (sizes_in sizes) → result ≡ Some sizes }
+    ensures terms { IfSome result (λ sizes. AreTermsOf sizes.group_rows sizes.direct_rows) }
 {
-    match words {
-        [word] => word.as_str() == "replay",
-        _ => false,
+    match Order::of_words(words)? {
+        Order::Replay(sizes) => Some(sizes),
+        Order::Generate(_) => None,
     }
 }
 
@@ -39,9 +46,10 @@ fn finish<O: Sink>(output: &mut O, text: &[u8], status: Status) -> Status
     }
 }
 
-/// Runs the program for these words over an input and an output, and answers how it ended. The one word is `replay`: the
-/// input is a script, its statements are run, and the text of the log of its events is written. Nothing is written before
-/// the whole text is there. Where several causes stand together, the order is words, reading, script, memory, writing.
+/// Runs the program for these words over an input and an output, and answers how it ended. The words are `replay` and its options,
+/// `--group-rows` and `--direct-rows`: the input is a script, its statements are run, and the text of the log of its events is
+/// written. Nothing is written before the whole text is there. Where several causes stand together, the order is words, reading,
+/// script, memory, writing.
 pub fn columnstore<I: Source, O: Sink>(
     alloc: Global,
     words: &[String],
@@ -53,14 +61,14 @@ pub fn columnstore<I: Source, O: Sink>(
         × Adds (O.held output.old) (O.held output.new) added
         × Ends (map string_bytes words.now) came (I.left input.new) added result }
     // The words and a script are answered, unless memory or a stream gives out.
-    ensures complete { (bytes : List ℕ) (script : Script) → I.left input.old ≡ Some bytes → are_words (map string_bytes words.now) ≡ true
-        → length bytes ≤ limit → IsScript bytes script → IsDoneOrStopped result }
+    ensures complete { (bytes : List ℕ) (sizes : Sizes) (script : Script) → I.left input.old ≡ Some bytes
+        → Replays (map string_bytes words.now) sizes → length bytes ≤ limit → IsScript bytes script → IsDoneOrStopped result }
     ensures read_fault { result ≡ Status.ReadFault → Rose (I.faults input.old) (I.faults input.new) }
     ensures write_fault { result ≡ Status.WriteFault → Rose (O.faults output.old) (O.faults output.new) }
 {
-    if !is_replay(words) {
+    let Some(sizes) = replay_sizes(words) else {
         return finish(output, b"usage refused\n", Status::Usage);
-    }
+    };
     let bytes = match read_all(alloc, input, LIMIT) {
         Ok(bytes) => bytes,
         Err(InputRefusal::Fault) => return Status::ReadFault,
@@ -69,7 +77,7 @@ pub fn columnstore<I: Source, O: Sink>(
         }
         Err(InputRefusal::Memory) => return Status::Memory,
     };
-    match answer(alloc, bytes.as_slice()) {
+    match answer(alloc, sizes, bytes.as_slice()) {
         Ok((status, text)) => finish(output, text.as_slice(), status),
         Err(_) => Status::Memory,
     }

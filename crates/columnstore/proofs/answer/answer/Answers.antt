@@ -7,7 +7,7 @@ returns-in_ok-text-in-Err-Bad-clause-answered c = record {
   reason = c.in-Err-Bad.reason;
   number = c.in-Err-Bad.number;
   reads = rw c.in-Err-Bad.field-0-is at c.in-Err-Bad.ensures.refused;
-  is = c.in_ok-text-in-Err-Bad.ensures;
+  is = rw c.in-Err-Bad.field-0-is at c.in_ok-text-in-Err-Bad.ensures;
 }
 
 pub returns-in_ok-text-in-Err-Bad-clause-runs : goal.returns-in_ok-text-in-Err-Bad-clause-runs

@@ -6,9 +6,9 @@ use Rattle.columnstore.proofs.answer.runner_for.Goals as goal
 
 pub new-requires : goal.new-requires
 new-requires c = record {
-  table = subst IsSchema (sym c.in_ok-schema.ensures) c.requires.schema;
-  sizes = record { least_group = omega arith; most_group = omega arith; least_direct = omega arith; most_direct = omega arith };
-  numbers = subst (All (λ session. session < 65)) (sym c.as_slice.ensures) (sessions_below c.args.script.now c.requires);
-  few = subst (λ sessions. length sessions ≤ 64) (sym c.as_slice.ensures) (sessions_few c.args.script.now c.requires);
-  distinct = subst AreDistinct (sym c.as_slice.ensures) (sessions_distinct c.args.script.now c.requires);
+  table = subst IsSchema (sym c.in_ok-schema.ensures) c.requires.runnable.schema;
+  sizes = c.requires.sizes;
+  numbers = subst (All (λ session. session < 65)) (sym c.as_slice.ensures) (sessions_below c.args.script.now c.requires.runnable);
+  few = subst (λ sessions. length sessions ≤ 64) (sym c.as_slice.ensures) (sessions_few c.args.script.now c.requires.runnable);
+  distinct = subst AreDistinct (sym c.as_slice.ensures) (sessions_distinct c.args.script.now c.requires.runnable);
 }
