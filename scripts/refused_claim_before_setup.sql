@@ -1,0 +1,4 @@
+-- nothing so far
+m1>
+setup CREATE TABLE t (k bigint NOT NULL PRIMARY KEY, v int)
+m1<

@@ -1,0 +1,4 @@
+setup CREATE TABLE t (k bigint NOT NULL PRIMARY KEY, v int)
+m1>
+s1<
+m1<

@@ -1,0 +1,2 @@
+setup CREATE TABLE t (k bigint NOT NULL PRIMARY KEY, v int)
+m
