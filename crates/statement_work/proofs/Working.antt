@@ -80,7 +80,7 @@ module _ (begun : Begun) (started : Started) where
     insert_whole edits given = insert_fits (schema_in started) (is_schema (Insert plan) is) plan edits given
 
     module _ (pinned : Pinned) (there : started.pinned ≡ Some pinned) (edits : List Edit) (given : edits_by (schema_in started) (inserted (schema_in started) plan) ≡ Ok edits)
-      (rows : InsertedRows) (are : AreInserted (width_in started) pinned edits rows) where
+        (rows : InsertedRows) (are : AreInserted (width_in started) pinned edits rows) where
       pub insert_parcel : All (FitsIn (schema_in started)) (edits_of rows.writes.items)
       insert_parcel = among_fit (schema_in started) edits rows.writes.items (insert_whole edits given) are.keyed.each
 
@@ -89,7 +89,7 @@ module _ (begun : Begun) (started : Started) where
         long = is.long;
         write = insert_write;
         gives = insert_gives sizes begun pinned (pins_of begun started (Insert plan) is refl pinned there) is.work edits rows (ap is_insert is.bound) (insert_defined ∙ given)
-        (subst (λ s. All (Fits s) edits) is.hands.schema (insert_whole edits given)) (subst (λ (s : Schema). AreInserted (length s.columns) pinned edits rows) is.hands.schema are);
+            (subst (λ s. All (Fits s) edits) is.hands.schema (insert_whole edits given)) (subst (λ (s : Schema). AreInserted (length s.columns) pinned edits rows) is.hands.schema are);
       }
 
   -- ---- an UPDATE or a DELETE
@@ -101,7 +101,7 @@ module _ (begun : Begun) (started : Started) where
       long = is.long;
       write = ap is_write is.bound ∙ write;
       gives = changes_give sizes begun pinned pins is.work list [] (length list) (ap is_insert is.bound ∙ other) (written_as statement is (read_by (width_in started) pinned) (read_as statement is pinned pins) ∙ given) fits order
-      (subst (λ (s : Schema). All (Replaces (length s.columns) pinned) list) is.hands.schema replaces) refl refl;
+          (subst (λ (s : Schema). All (Replaces (length s.columns) pinned) list) is.hands.schema replaces) refl refl;
     }
 
     parcel_fits : All (Fits begun.schema) (edits_of list) → All (FitsIn (schema_in started)) (edits_of list)
@@ -127,7 +127,7 @@ module _ (begun : Begun) (started : Started) where
       update_needs = change_needs (Update plan) is pinned update_pins list refl refl given update_whole
 
   module _ (condition : Option Pred) (is : IsBegun begun started (Delete condition)) (pinned : Pinned) (there : started.pinned ≡ Some pinned) (list : List Write)
-    (given : edits_of list ≡ deleted (schema_in started) condition (read_by (width_in started) pinned)) where
+      (given : edits_of list ≡ deleted (schema_in started) condition (read_by (width_in started) pinned)) where
     delete_pins : Pins begun pinned
     delete_pins = pins_of begun started (Delete condition) is refl pinned there
 

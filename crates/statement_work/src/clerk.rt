@@ -93,7 +93,13 @@ fn commit(alloc: Global, started: &Started) -> Outcome
 {
     let terms = &*started.terms;
     let own = started.own.as_slice();
-    match parcel_of(alloc, &terms.schema, own, terms.group_rows, terms.direct_rows) {
+    match parcel_of(
+        alloc,
+        &terms.schema,
+        own,
+        terms.group_rows,
+        terms.direct_rows,
+    ) {
         Ok(parcel) => Outcome::Commit(parcel),
         Err(Memory) => Outcome::Short,
     }

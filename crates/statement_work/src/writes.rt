@@ -59,7 +59,13 @@ pub fn written(alloc: Global, terms: &Terms, implicit: bool, rows: InsertedRows)
         affected,
     } = rows;
     let parcel = if implicit && present.is_empty() {
-        match parcel_of(alloc, &terms.schema, &writes, terms.group_rows, terms.direct_rows) {
+        match parcel_of(
+            alloc,
+            &terms.schema,
+            &writes,
+            terms.group_rows,
+            terms.direct_rows,
+        ) {
             Ok(parcel) => Some(parcel),
             Err(Memory) => return Outcome::Short,
         }
@@ -83,9 +89,14 @@ pub fn changed(alloc: Global, terms: &Terms, implicit: bool, writes: Vec<Write>)
 {
     let affected = writes.len() as u64;
     let present = Vec::new(alloc);
-    written(alloc, terms, implicit, InsertedRows {
-        writes,
-        present,
-        affected,
-    })
+    written(
+        alloc,
+        terms,
+        implicit,
+        InsertedRows {
+            writes,
+            present,
+            affected,
+        },
+    )
 }
