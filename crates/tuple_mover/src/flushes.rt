@@ -1,14 +1,13 @@
 // The work of a flush.
-ghost use Rattle.std.specs.Prelude.{◌≡◌, ◌<◌, ◌∷◌, [], All, length, slice_set, IfOk, OnOk};
+ghost use Rattle.std.specs.Prelude.{◌≡◌, ◌<◌, ◌∷◌, [], All, length, IfOk, OnOk};
 ghost use Rattle.cs_types.specs.Rows.{key_in};
-ghost use Rattle.delete_bitmap.specs.Marks.{end_at};
 ghost use Rattle.row_group.specs.Groups.{row_at};
 ghost use Rattle.group_book.specs.Book.Choice.{Flush};
 ghost use Rattle.group_view.specs.Books.{choice_of};
 ghost use Rattle.group_view.specs.Parts.{IsFitting};
 ghost use Rattle.group_view.specs.Views.{endings_of};
 ghost use Rattle.group_view.specs.Claims.{IsMarkedOf, IsMendable, IsPackedPart, IsProductOf, lent_entries};
-ghost use Rattle.tuple_mover.specs.Flushed.{next_mark, next_marks};
+ghost use Rattle.tuple_mover.specs.Flushed.{next_marks, IsEndedBy, HasMore};
 
 use cs_base::{Items, Memory};
 use cs_types::Key;
@@ -19,18 +18,18 @@ use row_group::Packed;
 use std::alloc::Global;
 use std::sync::Arc;
 
-/// Records an entry's number as the end of the version at a position of its key, where it is the entry that ends it.
-fn mark_place(
-    marks: &mut Marks,
+/// Adds a position of an entry's key to the places, with the entry's number, where the entry ends the version there.
+fn add_place(
+    places: &mut Vec<(usize, u64)>,
+    marks: &Marks,
     packed: &Packed,
     buffer: &Ends,
     position: usize,
     entry: (Key, u64),
 ) -> Result<(), Memory>
-    requires fitting { length marks.old ≡ length packed.now.rows }
     requires within { position < length packed.now.rows }
     requires key { key_in packed.now.key (row_at packed.now position).cells ≡ entry.0 }
-    ensures { OnOk result (marks.new ≡ slice_set marks.old position (next_mark (endings_of buffer.now) (record { key = entry.0; end = entry.1 } ∷ []) entry.0 (row_at packed.now position).begin (end_at marks.old position))) }
+    ensures { OnOk result (HasMore (λ place. (place.0 ≡ position) × IsEndedBy (endings_of buffer.now) (record { key = entry.0; end = entry.1 } ∷ []) packed.now marks.now place) places.old.items places.new.items) }
 {
     if marks.end(position).is_some() {
         return Ok(());
@@ -41,28 +40,48 @@ fn mark_place(
     if end != entry.1 {
         return Ok(());
     }
-    marks.mark(position, end)
+    places.push((position, end))?;
+    Ok(())
 }
 
-/// Records an entry's number as the end of each version of a packed group that it ends.
-fn mark_entry(
-    marks: &mut Marks,
+/// Adds to the places the position of each version of a packed group that an entry ends, with its number.
+fn add_places(
+    places: &mut Vec<(usize, u64)>,
+    marks: &Marks,
     packed: &Packed,
     buffer: &Ends,
     entry: (Key, u64),
 ) -> Result<(), Memory>
-    requires { length marks.old ≡ length packed.now.rows }
-    ensures { OnOk result (marks.new ≡ next_marks (endings_of buffer.now) (record { key = entry.0; end = entry.1 } ∷ []) packed.now.key packed.now.rows marks.old) }
+    ensures { OnOk result (HasMore (IsEndedBy (endings_of buffer.now) (record { key = entry.0; end = entry.1 } ∷ []) packed.now marks.now) places.old.items places.new.items) }
 {
-    let places = packed.find(entry.0);
-    for place in places.from..places.to {
-        mark_place(marks, packed, buffer, packed.place(place), entry)?;
+    let found = packed.find(entry.0);
+    for place in found.from..found.to {
+        add_place(places, marks, packed, buffer, packed.place(place), entry)?;
     }
     Ok(())
 }
 
-/// The bitmap of a packed group with the entries' numbers as the ends of the versions that they end.
+/// The position of each version of a packed group that an entry ends, with the entry's number, in the order of entries.
+fn places_of(
+    alloc: Global,
+    marks: &Marks,
+    packed: &Packed,
+    buffer: &Ends,
+    entries: &[(Key, u64)],
+) -> Result<Vec<(usize, u64)>, Memory>
+    ensures { IfOk result (λ places. HasMore (IsEndedBy (endings_of buffer.now) (endings_of entries.now) packed.now marks.now) [] places.items) }
+{
+    let mut places = Vec::new(alloc);
+    for entry in entries {
+        add_places(&mut places, marks, packed, buffer, *entry)?;
+    }
+    Ok(places)
+}
+
+/// The bitmap of a packed group with the entries' numbers as the ends of the versions that they end. They are marked in
+/// the order of positions, in which each goes to the end of the stamps, or near it.
 fn marked_by(
+    alloc: Global,
     packed: &Packed,
     marks: &Marks,
     buffer: &Ends,
@@ -71,9 +90,13 @@ fn marked_by(
     requires { length marks.now ≡ length packed.now.rows }
     ensures { IfOk result (λ marked. marked ≡ next_marks (endings_of buffer.now) (endings_of entries.now) packed.now.key packed.now.rows marks.now) }
 {
+    let mut places = places_of(alloc, marks, packed, buffer, entries)?;
+    places.sort_unstable();
     let mut marked = marks.copy()?;
-    for entry in entries {
-        mark_entry(&mut marked, packed, buffer, *entry)?;
+    for place in places.as_slice() {
+        if marked.end(place.0).is_none() {
+            marked.mark(place.0, place.1)?;
+        }
     }
     Ok(marked)
 }
@@ -91,7 +114,8 @@ fn marked_source(
 {
     match &source.1 {
         GroupPart::Packed(packed, marks) => {
-            let marked = marked_by(packed, marks, &claim.view.buffer, claim.entries.as_slice())?;
+            let (buffer, entries) = (&claim.view.buffer, claim.entries.as_slice());
+            let marked = marked_by(alloc, packed, marks, buffer, entries)?;
             Ok((source.0, Arc::new(alloc, marked)?))
         }
         GroupPart::Store(_) => unreachable!(),

@@ -22,10 +22,10 @@ returns c =
     let marks = c.in_ok-new-in-Packed.field-0.value in
     let is : marks ≡ next_marks buffer lent group.key group.rows old =
     c.in_ok-new-in-Packed.ensures.ok ∙ c.in_ok-marked-in-Packed.ensures
-    ∙ ap (λ (g : Group). next_marks (endings_of c.deref-in-Packed-2.result.now) (endings_of c.as_slice.result.now) g.key g.rows c.deref-in-Packed.result.now) c.deref.ensures
-    ∙ ap (λ (ms : List (Option MarkedEnd)). next_marks (endings_of c.deref-in-Packed-2.result.now) (endings_of c.as_slice.result.now) group.key group.rows ms) c.deref-in-Packed.ensures
-    ∙ ap (λ (entries : List Entry). next_marks (endings_of entries) (endings_of c.as_slice.result.now) group.key group.rows old) c.deref-in-Packed-2.ensures
-    ∙ ap (λ (some : List Ending). next_marks buffer some group.key group.rows old) (ap endings_of c.as_slice.ensures ∙ c.requires.entries) in
+    ∙ ap (λ (g : Group). next_marks (endings_of c.deref-in-Packed-2.result.now) (endings_of c.as_slice-entries.result.now) g.key g.rows c.deref-in-Packed.result.now) c.deref.ensures
+    ∙ ap (λ (ms : List (Option MarkedEnd)). next_marks (endings_of c.deref-in-Packed-2.result.now) (endings_of c.as_slice-entries.result.now) group.key group.rows ms) c.deref-in-Packed.ensures
+    ∙ ap (λ (entries : List Entry). next_marks (endings_of entries) (endings_of c.as_slice-entries.result.now) group.key group.rows old) c.deref-in-Packed-2.ensures
+    ∙ ap (λ (some : List Ending). next_marks buffer some group.key group.rows old) (ap endings_of c.as_slice-entries.ensures ∙ c.requires.entries) in
     subst (λ (part : GroupPart). IsMarkedOf claim (c.args.source.now.0, part) (c.args.source.now.0, c.in_ok-new-in-Packed.field-0)) (sym c.in-Packed.is) (
       refl,
       ap length is ∙ length-marks buffer lent group.key group.rows old,
