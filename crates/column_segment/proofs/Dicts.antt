@@ -56,10 +56,10 @@ text-back : (o : Option (List ℕ)) → text_of (text_cell o) ≡ o
 text-back None = refl
 text-back (Some t) = refl
 
-are-numbers : AreCells int_cmp number_cell
+pub are-numbers : AreCells int_cmp number_cell
 are-numbers = record { total = int_cmp_total; null = refl; some = λ n e. cc; order = λ m n. refl }
 
-are-texts : AreCells (slice_cmp nat_cmp) text_cell
+pub are-texts : AreCells (slice_cmp nat_cmp) text_cell
 are-texts = record { total = text_order; null = refl; some = λ t e. cc; order = λ s t. refl }
 
 -- two codes of one cell are one

@@ -16,11 +16,11 @@ use Rattle.segment_dict.specs.Dictionaries.{Ascends, IsDictOf, HasCell, IsCodeOf
 use Rattle.segment_dict.proofs.Entries.{IsCodeOf-place, Contains-place}
 use Rattle.column_segment.specs.Cells.{IsLeastCell, IsGreatestCell}
 
-one_at_most : (nulls : Bool) → from_bool nulls ≤ 1
+pub one_at_most : (nulls : Bool) → from_bool nulls ≤ 1
 one_at_most true = omega arith
 one_at_most false = omega arith
 
-cell_of-null : {X : Type 0} (entries : List X) (nulls : Bool) (code : ℕ) → code < from_bool nulls → cell_of entries nulls code ≡ None
+pub cell_of-null : {X : Type 0} (entries : List X) (nulls : Bool) (code : ℕ) → code < from_bool nulls → cell_of entries nulls code ≡ None
 cell_of-null entries nulls code low =
     let yes : nat_lt code (from_bool nulls) ≡ true = grind (arith, nat_tests) in
     ap (λ b. cond b None (slice_get entries (code - from_bool nulls))) yes
@@ -31,7 +31,7 @@ cell_of-entry entries nulls code high =
     ap (λ b. cond b None (slice_get entries (code - from_bool nulls))) later
 
 -- an entry is there
-entry : {X : Type 0} (entries : List X) (k : ℕ) → k < length entries → (x : X) × (slice_get entries k ≡ Some x)
+pub entry : {X : Type 0} (entries : List X) (k : ℕ) → k < length entries → (x : X) × (slice_get entries k ≡ Some x)
 entry [] k low = absurd (omega (arith, low))
 entry (x ∷ xs) zero low = (x, refl)
 entry (x ∷ xs) (suc k) low = entry xs k (omega (arith, low))
@@ -43,7 +43,7 @@ not_greater : {X : Type 0} {cmp : X → X → Ordering} (o : IsTotalOrder cmp) (
 not_greater o x e = let f = o.antisymm x x ∙ ap ordering_reverse e in cc
 
 -- a smaller place has a smaller entry
-less_at : {X : Type 0} (cmp : X → X → Ordering) (entries : List X) → Ascends cmp entries → (i j : ℕ) (x y : X) → slice_get entries i ≡ Some x → slice_get entries j ≡ Some y → i < j → cmp x y ≡ Less
+pub less_at : {X : Type 0} (cmp : X → X → Ordering) (entries : List X) → Ascends cmp entries → (i j : ℕ) (x y : X) → slice_get entries i ≡ Some x → slice_get entries j ≡ Some y → i < j → cmp x y ≡ Less
 less_at {X} cmp entries up i j x y ex ey low =
     let there = slice_get_within entries j y ey in
     let P : X → Type 0 = λ z. cmp z y ≡ Less in

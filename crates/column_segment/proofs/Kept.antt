@@ -45,21 +45,24 @@ kept-readable cells by (DictPacked dict width words) keeps =
     (keeps.1.0, subst P by.coded.0 (packed-room by.codes width words keeps.1))
 kept-readable cells by (DictRuns dict runs) keeps = keeps.1.whole ∙ by.coded.0
 
--- the numbers that a scale keeps
-scale-facts : (cells : List Value) (by : Codings cells) (scale : Scale) → by.scale ≡ Some scale → HasNoText cells × All (Takes scale) (map number_of cells)
-scale-facts cells by scale e = elim by.scaling [
+-- the numbers that a scale keeps are those whose scale it is
+pub scaling-of : (cells : List Value) (by : Codings cells) (scale : Scale) → by.scale ≡ Some scale → HasNoText cells × IsScaling (map number_of cells) (Some scale)
+scaling-of cells by scale e = elim by.scaling [
   | inl numbers ↦
       let P : Option Scale → Type 0 = λ s. IsScaling (map number_of cells) s in
-      (numbers.0, (subst P e numbers.1).1)
+      (numbers.0, subst P e numbers.1)
   | inr texts ↦ let f : None ≡ Some scale = sym texts.1 ∙ e in cc
 ]
+
+scale-facts : (cells : List Value) (by : Codings cells) (scale : Scale) → by.scale ≡ Some scale → HasNoText cells × All (Takes scale) (map number_of cells)
+scale-facts cells by scale e = let is = scaling-of cells by scale e in (is.0, is.1.1)
 
 -- the code of a place is that of its cell
 value-in : (cells : List Value) (by : Codings cells) (scale : Scale) → by.scale ≡ Some scale → (code i : ℕ) → i < length cells → code ≡ get_or (map (code_of scale) (map number_of cells)) i 0 → IsCode scale code
 value-in cells by scale e code i low is =
     (number_of (get_or cells i Null), takes-at scale cells (scale-facts cells by scale e).1 i low, sym (is ∙ value-code scale cells i low))
 
-kept-known : (cells : List Value) (by : Codings cells) (body : SegmentBody) → Keeps cells by body → (i : ℕ) → i < length cells → IsKnown body (code_in body i)
+pub kept-known : (cells : List Value) (by : Codings cells) (body : SegmentBody) → Keeps cells by body → (i : ℕ) → i < length cells → IsKnown body (code_in body i)
 kept-known cells by (ValuePacked scale width words) keeps i low =
     value-in cells by scale keeps.0 (code_in (ValuePacked scale width words) i) i low (packed-code (map (code_of scale) (map number_of cells)) width words keeps.1 i)
 kept-known cells by (ValueRuns scale runs) keeps i low =
@@ -76,7 +79,7 @@ kept-known cells by (DictRuns dict runs) keeps i low =
     subst P (sym (runs-code by.codes runs.codes runs.ends keeps.1 i (omega (arith, low, by.coded.0)))) (omega (arith, is.0, same))
 
 -- the cell comes back
-kept-cell : (cells : List Value) (by : Codings cells) (body : SegmentBody) → Keeps cells by body → (i : ℕ) → i < length cells → cell_in body i ≡ get_or cells i Null
+pub kept-cell : (cells : List Value) (by : Codings cells) (body : SegmentBody) → Keeps cells by body → (i : ℕ) → i < length cells → cell_in body i ≡ get_or cells i Null
 kept-cell cells by (ValuePacked scale width words) keeps i low =
     let facts = scale-facts cells by scale keeps.0 in
     ap (cell_of_code (ValuePacked scale width words)) (packed-code (map (code_of scale) (map number_of cells)) width words keeps.1 i)
@@ -97,11 +100,11 @@ pub segment-cells : (cells : List Value) (count : ℕ) (body : SegmentBody) (lea
 segment-cells cells count body least greatest nulls is i low =
     slice_get-get_or cells i Null low ∙ ap Some (sym (kept-cell cells is.best.by body is.best.kept i low))
 
-Takes-prop : (scale : Scale) (cell : Option ℤ) → IsProp (Takes scale cell)
+pub Takes-prop : (scale : Scale) (cell : Option ℤ) → IsProp (Takes scale cell)
 Takes-prop scale None = hlevel props
 Takes-prop scale (Some n) = hlevel (props, ∣_prop)
 
-scale-known : (scale : Scale) (code : ℕ) → ∥ IsCode scale code ∥₁ → IsCode scale code
+pub scale-known : (scale : Scale) (code : ℕ) → ∥ IsCode scale code ∥₁ → IsCode scale code
 scale-known scale code known =
     let cell : Option ℤ = cell_of scale code in
     let Found : Type 0 = Takes scale (cell_of scale code) × (code_of scale (cell_of scale code) ≡ code) in
@@ -128,6 +131,9 @@ known count (ValuePacked scale width words) least greatest nulls of i low = scal
 known count (ValueRuns scale runs) least greatest nulls of i low = scale-known scale _ (∥∥₁_map of (known-of count (ValueRuns scale runs) least greatest nulls i low))
 known count (DictPacked dict width words) least greatest nulls of i low = ∥∥₁_elim of le_prop (known-of count (DictPacked dict width words) least greatest nulls i low)
 known count (DictRuns dict runs) least greatest nulls of i low = ∥∥₁_elim of le_prop (known-of count (DictRuns dict runs) least greatest nulls i low)
+
+pub known-at : (count : ℕ) (body : SegmentBody) (least greatest : Value) (nulls : Bool) → ∥ ((cells : List Value) × IsSegmentOf cells count body least greatest nulls) ∥₁ → (i code : ℕ) → i < count → code ≡ code_in body i → IsKnown body code
+known-at count body least greatest nulls of i code low is = let P : ℕ → Type 0 = λ n. IsKnown body n in subst P (sym is) (known count body least greatest nulls of i low)
 
 -- the segment of the parts that were made of some cells
 pub made : (cells : List Value) (body : SegmentBody) (least greatest : Value) (nulls : Bool) → IsBest cells body → IsLeastCell cells least → IsGreatestCell cells greatest → (IsTrue nulls ↔ Contains cells Null) → IsSegmentOf cells (length cells) body least greatest nulls

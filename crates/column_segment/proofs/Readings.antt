@@ -1,11 +1,12 @@
 -- What the words and the runs of a segment say of its codes.
-use Rattle.std.proofs.Common.{◌≡◌, ℕ, zero, suc, ◌+◌, ◌*◌, ◌/◌, ◌<◌, ◌≤◌, inl, inr, List, length, get_or, refl, sym, ◌∙◌, ap, arith}
+use Rattle.std.proofs.Common.{◌≡◌, ◌≢◌, ℕ, ◌-◌, zero, suc, ◌+◌, ◌*◌, ◌/◌, ◌<◌, ◌≤◌, inl, inr, List, length, get_or, refl, sym, ◌∙◌, ap, arith}
 use Rattle.std.proofs.lemmas.Bool.{cases_lt}
 use Rattle.std.proofs.lemmas.Nat.{mul-le}
 use Rattle.std.proofs.Math.Nat.{le_refl}
 use Rattle.bit_pack.specs.Codes.{code_at}
 use Rattle.bit_pack.proofs.Numbers.{small, code_at-packed, length-packed}
-use Rattle.segment_rle.specs.Runs.{AreRunsOf, start_of}
+use Rattle.segment_rle.specs.Runs.{AreRuns, AreRunsOf, IsRun, start_of, covered}
+use Rattle.segment_rle.proofs.RunLemmas.{start_of-next, start_of-le_covered}
 use Rattle.column_segment.specs.Layouts.{ArePacked, IsLeastWidth, code_in_runs}
 use Rattle.column_segment.proofs.Layouts.{IsLeastWidth-same, run-code}
 
@@ -50,3 +51,30 @@ runs-code all codes ends runs i low =
     let held = holding all codes ends runs i (length ends) (omega arith) (omega (arith, whole, low)) in
     run-code codes ends i (get_or codes held.0 0) (get_or ends held.0 0) runs.in_order (record { run = held.0; there = held.1; code_is = refl; end_is = refl; begun = held.2; not_ended = held.3 })
     ∙ sym (runs.same held.0 i held.1 held.2 held.3)
+
+-- a run ends at the last place or before, and all its places have its code
+pub run-within : (codes ends : List ℕ) (i code end : ℕ) → AreRuns codes ends → IsRun codes ends i code end → end ≤ covered ends
+run-within codes ends i code end runs is =
+    let there = is.there in
+    let within = start_of-le_covered codes ends runs (length ends - (is.run + 1)) (is.run + 1) (omega (arith, there)) in
+    omega (arith, within, is.end_is, start_of-next ends is.run)
+
+pub run-same : (codes ends : List ℕ) (i code end : ℕ) → AreRuns codes ends → IsRun codes ends i code end → (k : ℕ) → i ≤ k → k < end → code_in_runs codes ends k ≡ code
+run-same codes ends i code end runs is k from to =
+    run-code codes ends k code end runs (record { run = is.run; there = is.there; code_is = is.code_is; end_is = is.end_is; begun = let begun = is.begun in omega (arith, begun, from); not_ended = to })
+
+-- and the next run has another code
+pub run-whole : (codes ends : List ℕ) (i code end : ℕ) → AreRuns codes ends → IsRun codes ends i code end → end < covered ends → code_in_runs codes ends end ≢ code
+run-whole codes ends i code end runs is more same =
+    let next = start_of-next ends is.run in
+    let not_last : is.run + 1 < length ends = elim (cases_lt (is.run + 1) (length ends)) [
+      | inl l ↦ l
+      | inr l ↦
+          let there = is.there in
+          let last : is.run + 1 ≡ length ends = omega (arith, l, there) in
+          absurd (omega (arith, more, is.end_is, next, ap (λ k. start_of ends k) last))
+    ] in
+    let filled = runs.filled (is.run + 1) not_last in
+    let here = run-code codes ends end (get_or codes (is.run + 1) 0) (get_or ends (is.run + 1) 0) runs
+    (record { run = is.run + 1; there = not_last; code_is = refl; end_is = refl; begun = omega (arith, next, is.end_is); not_ended = omega (arith, filled, next, is.end_is) }) in
+    runs.maximal is.run not_last (sym is.code_is ∙ sym same ∙ here)

@@ -39,6 +39,13 @@ IsKnown (ValueRuns scale runs) code = IsCode scale code
 IsKnown (DictPacked dict width words) code = code < dict_codes dict
 IsKnown (DictRuns dict runs) code = code < dict_codes dict
 
+-- the codes stand in runs
+abbrev pub IsInRuns : SegmentBody → Type 0
+IsInRuns (ValuePacked scale width words) = ⊥
+IsInRuns (ValueRuns scale runs) = Unit {0}
+IsInRuns (DictPacked dict width words) = ⊥
+IsInRuns (DictRuns dict runs) = Unit {0}
+
 -- what a segment costs in words of 64 bits: two for a scale, or the entries; and the packed words, or two a run
 abbrev pub words_in : SegmentBody → ℕ
 words_in (ValuePacked scale width words) = 2 + length words

@@ -1,6 +1,7 @@
 -- The cells of a column, as numbers and as texts.
-use Rattle.std.specs.Prelude.{◌≡◌, ◌≢◌, ℕ, ℤ, List, Option, None, Some, IsNone, IsSome, All, Any, Contains}
+use Rattle.std.specs.Prelude.{◌≡◌, ◌≢◌, ℕ, ℤ, Bool, if◌then◌else◌, List, Option, None, Some, IsNone, IsSome, All, Any, Contains}
 use Rattle.std.specs.declared.cmp.Ordering.TheVariants.{Greater}
+use Rattle.std.specs.Ordering.{is_le, is_lt}
 use Rattle.cs_types.specs.declared.Value.{Value}
 use Rattle.cs_types.specs.declared.Value.TheVariants.{Null, Number, Text}
 use Rattle.cs_types.specs.Values.{value_cmp}
@@ -54,3 +55,7 @@ abbrev pub IsGreatestCell : List Value → Value → Type 0
 IsGreatestCell cells greatest =
     (greatest ≡ Null → All (λ cell. cell ≡ Null) cells)
     × (greatest ≢ Null → Contains cells greatest × All (λ cell. cell ≢ Null → value_cmp cell greatest ≢ Greater) cells)
+
+-- a cell comes before a bound; where `tied`, one that ties with it does too
+abbrev pub is_below : Bool → Value → Value → Bool
+is_below tied bound cell = if tied then is_le (value_cmp cell bound) else is_lt (value_cmp cell bound)

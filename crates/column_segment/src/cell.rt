@@ -1,11 +1,14 @@
 ghost use Rattle.std.specs.Prelude.{◌≡◌, map, IfOk};
 ghost use Rattle.std.specs.Bool.{OnTrue, OnFalse};
 ghost use Rattle.std.specs.Option.{option_copied};
-ghost use Rattle.column_segment.specs.Cells.{seen, number_of, number_cell, text_of, HasText, HasNoText};
+ghost use Rattle.cs_types.specs.Rows.{number_in};
+ghost use Rattle.cs_types.specs.Values.{value_cmp};
+ghost use Rattle.column_segment.specs.Cells.{seen, is_below, number_of, number_cell, text_of, HasText, HasNoText};
 
 use cs_base::{Items, Memory};
-use cs_types::Value;
+use cs_types::{Value, compare};
 use std::alloc::Global;
+use std::cmp::Ordering;
 
 /// A cell of a segment, as a reference into it.
 #[derive(Debug, Clone, Copy, PartialEq, Eq)]
@@ -27,6 +30,38 @@ impl CellRef<'_> {
             CellRef::Null => Ok(Value::Null),
             CellRef::Number(number) => Ok(Value::Number(number)),
             CellRef::Text(text) => Ok(Value::Text(Items::from_vec(text.to_vec(alloc)?))),
+        }
+    }
+
+    /// How the cell lies to a value of its column: NULL first, numbers by size, texts byte by byte.
+    pub fn order(self, other: &Value) -> Ordering
+        ensures { result ≡ value_cmp (seen self.entry) other.now }
+    {
+        match self {
+            CellRef::Null => compare(&Value::Null, other),
+            CellRef::Number(number) => compare(&Value::Number(number), other),
+            CellRef::Text(text) => match other {
+                Value::Text(bytes) => text.cmp(bytes.as_slice()),
+                _ => Ordering::Greater,
+            },
+        }
+    }
+
+    /// Whether the cell comes before a bound; where `tied`, also whether it ties with it.
+    pub fn is_below(self, bound: &Value, tied: bool) -> bool
+        ensures { result ≡ is_below tied bound.now (seen self.entry) }
+    {
+        let order = self.order(bound);
+        if tied { order.is_le() } else { order.is_lt() }
+    }
+
+    /// The number that the cell is, and 0 for NULL and a text.
+    pub fn number_or_zero(self) -> i64
+        ensures { result ≡ number_in (seen self.entry) }
+    {
+        match self {
+            CellRef::Number(number) => number,
+            _ => 0,
         }
     }
 }

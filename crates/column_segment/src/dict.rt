@@ -1,6 +1,7 @@
-ghost use Rattle.std.specs.Prelude.{◌≡◌, ◌<◌, ◌≤◌, ◌^◌, ◌↔◌, ℕ, List, All, Contains, IfOk, IsTrue, length};
+ghost use Rattle.std.specs.Prelude.{◌≡◌, ◌<◌, ◌≤◌, ◌^◌, ◌↔◌, ℕ, pos, List, All, Contains, IfOk, IsTrue, length, slice_index, slice_index_or};
 ghost use Rattle.cs_types.specs.declared.Value.{Value as Cell};
 ghost use Rattle.cs_types.specs.declared.Value.TheVariants.{Null};
+ghost use Rattle.cs_types.specs.Rows.{number_in};
 ghost use Rattle.column_segment.specs.Cells.{seen, IsLeastCell, IsGreatestCell};
 ghost use Rattle.column_segment.specs.Layouts.{IsLeastWidth};
 ghost use Rattle.column_segment.specs.Dicts.{dict_cell, dict_codes, dict_nulls, dict_words, HasEntry, IsDictFor, IsDictCode, AreDictCodes, HasNumbers, AreNumberCodes};
@@ -60,8 +61,21 @@ pub fn number_codes(alloc: Global, dict: &Dict, numbers: &[Option<i64>]) -> Resu
     }
 }
 
+/// Puts the numbers that the cells of the first `count` codes are into the first places of a batch, 0 for NULL and for a
+/// text; the other places stay as they are.
+pub fn put_numbers(dict: &Dict, codes: &[u64; 1024], count: usize, numbers: &mut [i64; 1024])
+    requires room { count ≤ 1024 }
+    requires codes { (i : ℕ) → i < count → slice_index codes.now i < dict_codes dict.now }
+    ensures numbers { (i : ℕ) → i < count → slice_index_or numbers.new i (pos 0) ≡ number_in (dict_cell dict.now (slice_index codes.now i)) }
+    ensures others { (i : ℕ) → count ≤ i → slice_index_or numbers.new i (pos 0) ≡ slice_index_or numbers.old i (pos 0) }
+{
+    for i in 0..count {
+        numbers[i] = entry_shown(dict, codes[i]).number_or_zero();
+    }
+}
+
 /// How many codes a dictionary has.
-fn codes_of(dict: &Dict) -> u64
+pub fn codes_of(dict: &Dict) -> u64
     ensures { result ≡ dict_codes dict.now }
 {
     match dict {

@@ -2,20 +2,24 @@
 //!
 //! A segment keeps a code for each cell. The codes are those of a scale (numbers alone) or of a sorted dictionary, and
 //! they stand packed at their least width or in runs; `encode` takes the way of fewest words. Its one contract: cell i
-//! of `encode` is the given cell. It stands on `bit_pack`, `segment_value`, `segment_dict` and `segment_rle`, and on
-//! `cs_types` for values. Larson et al., SIGMOD 2011, describe value and dictionary encoding and these layouts.
+//! of `encode` is the given cell. Readers may stay at codes: they are in the order of their cells (`codes_in_order`), `cut`
+//! says where a bound lies among them, and a batch of them, or of numbers, takes no memory. It stands on `bit_pack`,
+//! `segment_value`, `segment_dict` and `segment_rle`, and on `cs_types` for values. Larson et al., SIGMOD 2011, describe
+//! value and dictionary encoding and these layouts.
 #![tactic(auto)]
 
 mod body;
 mod cell;
 mod choice;
 mod dict;
+mod laws;
 mod layout;
 mod segment;
 
 pub use body::SegmentBody;
 pub use cell::CellRef;
 pub use choice::encode;
+pub use laws::codes_in_order;
 pub use segment::{Batch, Segment};
 
 #[cfg(test)]

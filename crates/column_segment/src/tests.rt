@@ -69,6 +69,50 @@ fn check_batch(
     Ok(())
 }
 
+/// The codes and the numbers that are read from a place on are those of the cells one by one, and the other places of a
+/// batch stay as they are.
+fn check_codes(rt: &impl Abort, segment: &Segment, from: usize) {
+    if from >= segment.length {
+        return;
+    }
+    let count = (segment.length - from).min(1024);
+    let mut codes = [7; 1024];
+    let mut numbers = [-7; 1024];
+    segment.code_batch(from, count, &mut codes);
+    segment.number_batch(from, count, &mut numbers);
+    for i in 0..count {
+        assert_eq!(rt; codes[i], segment.code(from + i), "{i} from {from}");
+        let number = segment.cell(from + i).number_or_zero();
+        assert_eq!(rt; numbers[i], number, "{i} from {from}");
+    }
+    for i in count..1024 {
+        assert_eq!(rt; (codes[i], numbers[i]), (7, -7), "{i} from {from}");
+    }
+}
+
+/// The stretch at each of these places has this code and this end.
+fn check_stretches(rt: &impl Abort, segment: &Segment, stretches: &[(usize, u64, usize)]) {
+    for (i, code, end) in stretches {
+        assert!(rt; *i < segment.length);
+        assert_eq!(rt; segment.stretch(*i), (*code, *end), "at {i}");
+    }
+}
+
+/// Each bound cuts the codes here, and where cells tie with it here.
+fn check_cuts(
+    rt: &impl Abort,
+    alloc: Global,
+    segment: &Segment,
+    cuts: &[(CellRef<'_>, u128, u128)],
+) -> Result<(), Memory> {
+    for (cell, at, past) in cuts {
+        let bound = cell.to_value(alloc)?;
+        assert_eq!(rt; segment.cut(&bound, false), *at, "at {bound:?}");
+        assert_eq!(rt; segment.cut(&bound, true), *past, "past {bound:?}");
+    }
+    Ok(())
+}
+
 /// The segment of the cells has this encoding and this number of words, and gives each cell back.
 fn check(
     rt: &impl Abort,
@@ -89,7 +133,216 @@ fn check(
     }
     for from in [0, 1, 63, 64, 1000, 1024, 5000, usize::MAX] {
         check_batch(rt, alloc, &segment, cells, from)?;
+        check_codes(rt, &segment, from);
     }
+    Ok(())
+}
+
+/// A column's cells in runs, with their encoding and the last code, the stretches at some places, and where bounds cut.
+type Coded<'a> = (
+    &'a [(usize, CellRef<'a>)],
+    Encoding,
+    u64,
+    &'a [(usize, u64, usize)],
+    &'a [(CellRef<'a>, u128, u128)],
+);
+
+/// The codes of a column's cells are in the order of the cells.
+fn check_coded(
+    rt: &impl Abort,
+    alloc: Global,
+    kind: ColumnType,
+    coded: Coded<'_>,
+) -> Result<(), Memory>
+    requires { IsColumnType kind }
+{
+    let (runs, encoding, last, stretches, cuts) = coded;
+    let cells = cells_of(alloc, runs)?;
+    assert!(rt; !cells.is_empty() && are_kept(kind, &cells));
+    let segment = encode(alloc, kind, &cells)?;
+    assert!(rt; segment.length > 0);
+    assert_eq!(rt; (segment.encoding(), segment.last_code()), (encoding, last));
+    check_stretches(rt, &segment, stretches);
+    check_cuts(rt, alloc, &segment, cuts)
+}
+
+#[test]
+fn codes_of_numbers(rt: HostRuntime) -> Result<(), Fail> {
+    let alloc = rt.alloc();
+    let number = CellRef::Number;
+    let low = number(i64::MIN);
+    let high = number(i64::MAX);
+    let ten = 1_000_000_000_000_000_000;
+    for coded in [
+        (
+            &[(1, number(10)), (1, number(11))][..],
+            Encoding::ValuePacked,
+            1,
+            &[(0, 0, 1), (1, 1, 2)][..],
+            &[
+                (NULL, 0, 0),
+                (number(9), 0, 0),
+                (number(10), 0, 1),
+                (number(11), 1, 2),
+                (number(12), 2, 2),
+            ][..],
+        ),
+        (
+            &[
+                (1, number(-9 * ten)),
+                (1, number(0)),
+                (1, number(9 * ten)),
+                (1, NULL),
+            ][..],
+            Encoding::ValuePacked,
+            19,
+            &[(0, 1, 1), (1, 10, 2), (2, 19, 3), (3, 0, 4)][..],
+            &[
+                (NULL, 0, 1),
+                (low, 1, 1),
+                (number(-9 * ten), 1, 2),
+                (number(0), 10, 11),
+                (number(1), 11, 11),
+                (number(9 * ten), 19, 20),
+                (high, 20, 20),
+            ][..],
+        ),
+        (
+            &[(700, number(30)), (700, number(10)), (700, number(20))][..],
+            Encoding::ValueRuns,
+            2,
+            &[(0, 2, 700), (699, 2, 700), (700, 0, 1400), (2099, 1, 2100)][..],
+            &[
+                (number(10), 0, 1),
+                (number(25), 2, 2),
+                (number(30), 2, 3),
+                (number(31), 3, 3),
+            ][..],
+        ),
+        (
+            &[(1, low), (1, high)][..],
+            Encoding::DictPacked,
+            1,
+            &[(0, 0, 1), (1, 1, 2)][..],
+            &[(low, 0, 1), (number(0), 1, 1), (high, 1, 2)][..],
+        ),
+        (
+            &[(500, NULL), (500, number(7))][..],
+            Encoding::DictRuns,
+            1,
+            &[(0, 0, 500), (499, 0, 500), (500, 1, 1000)][..],
+            &[
+                (NULL, 0, 1),
+                (number(6), 1, 1),
+                (number(7), 1, 2),
+                (number(8), 2, 2),
+            ][..],
+        ),
+        (
+            &[(5, NULL)][..],
+            Encoding::DictPacked,
+            0,
+            &[(0, 0, 1), (4, 0, 5)][..],
+            &[(NULL, 0, 1), (low, 1, 1)][..],
+        ),
+    ] {
+        check_coded(&rt, alloc, ColumnType::BigInt, coded)?;
+    }
+    Ok(())
+}
+
+#[test]
+fn codes_of_texts(rt: HostRuntime) -> Result<(), Fail> {
+    let alloc = rt.alloc();
+    let a = CellRef::Text(b"a");
+    let b = CellRef::Text(b"b");
+    let long = CellRef::Text(b"abcdefghi");
+    for coded in [
+        (
+            &[(1, NULL), (2, a), (1, b)][..],
+            Encoding::DictPacked,
+            2,
+            &[(0, 0, 1), (1, 1, 2), (3, 2, 4)][..],
+            &[
+                (NULL, 0, 1),
+                (CellRef::Text(b""), 1, 1),
+                (a, 1, 2),
+                (long, 2, 2),
+                (b, 2, 3),
+                (CellRef::Text(b"c"), 3, 3),
+            ][..],
+        ),
+        (
+            &[(300, b), (300, NULL), (300, long)][..],
+            Encoding::DictRuns,
+            2,
+            &[(0, 2, 300), (300, 0, 600), (899, 1, 900)][..],
+            &[(a, 1, 1), (long, 1, 2), (b, 2, 3)][..],
+        ),
+    ] {
+        check_coded(&rt, alloc, ColumnType::VarChar { n: 9 }, coded)?;
+    }
+    Ok(())
+}
+
+/// So many cells, of three numbers so far apart and NULL in turn.
+fn in_turn(alloc: Global, length: i64, step: i64) -> Result<Vec<Value>, Memory> {
+    let mut cells = Vec::new(alloc);
+    for i in 0..length {
+        let cell = match i % 4 {
+            3 => Value::Null,
+            place => Value::Number(step.wrapping_mul(place)),
+        };
+        cells.push(cell)?;
+    }
+    Ok(cells)
+}
+
+/// The batches of the cells from places beside multiples of 64 and of 1,024.
+fn check_edges(rt: &impl Abort, alloc: Global, cells: &[Value]) -> Result<(), Memory> {
+    assert!(rt; cells.len() > 0 && are_kept(ColumnType::BigInt, cells));
+    let segment = encode(alloc, ColumnType::BigInt, cells)?;
+    for from in [0, 1, 62, 63, 64, 65, 1022, 1023, 1024] {
+        check_codes(rt, &segment, from);
+    }
+    Ok(())
+}
+
+/// Batches of columns that end beside a multiple of 64 and of 1,024, of a scale and of a dictionary.
+#[test]
+fn batches_at_edges(rt: HostRuntime) -> Result<(), Fail> {
+    let alloc = rt.alloc();
+    for length in [1, 63, 64, 65, 1023, 1024, 1025] {
+        check_edges(&rt, alloc, &in_turn(alloc, length, 1)?)?;
+        check_edges(&rt, alloc, &in_turn(alloc, length, i64::MAX / 3)?)?;
+    }
+    Ok(())
+}
+
+/// Numbers from the least to the greatest, so that the last code is the greatest word.
+#[test]
+fn whole_range(rt: HostRuntime) -> Result<(), Fail> {
+    let alloc = rt.alloc();
+    let mut cells = Vec::new(alloc);
+    cells.push(Value::Number(i64::MIN))?;
+    for number in 0..40 {
+        cells.push(Value::Number(number))?;
+    }
+    cells.push(Value::Number(i64::MAX))?;
+    assert!(rt; cells.len() > 0 && are_kept(ColumnType::BigInt, &cells));
+    let segment = encode(alloc, ColumnType::BigInt, &cells)?;
+    assert!(rt; segment.length > 0);
+    assert_eq!(rt;
+        (segment.encoding(), segment.last_code()),
+        (Encoding::ValuePacked, u64::MAX)
+    );
+    let half = 9_223_372_036_854_775_808;
+    let cuts = [
+        (CellRef::Number(i64::MIN), 0, 1),
+        (CellRef::Number(-1), half - 1, half),
+        (CellRef::Number(i64::MAX), 2 * half - 1, 2 * half),
+    ];
+    check_cuts(&rt, alloc, &segment, &cuts)?;
     Ok(())
 }
 

@@ -1,11 +1,11 @@
 -- Bits that are read from words, and what a write to a word does to them.
-use Rattle.std.proofs.Common.{◌≡◌, ◌≢◌, ℕ, zero, suc, ◌*◌, ◌/◌, ◌%◌, ◌^◌, ◌<◌, ◌≤◌, inl, inr, Bool, true, false, eqb, max, List, [], length, get_or, replicate, set, refl, sym, ap, ◌∙◌, arith}
+use Rattle.std.proofs.Common.{◌≡◌, ◌≢◌, ℕ, zero, suc, ◌+◌, ◌-◌, ◌*◌, ◌/◌, ◌%◌, ◌^◌, ◌<◌, ◌≤◌, inl, inr, Bool, true, false, eqb, max, List, [], length, get_or, replicate, set, refl, sym, ap, ◌∙◌, arith}
 use Rattle.std.specs.Int.{bit_at, bit_not, w64}
 use Rattle.std.specs.Prelude.{◌||◌, bit_and, bit_or}
 use Rattle.std.proofs.lemmas.Bool.{cases_eq, cases_lt}
 use Rattle.std.proofs.lemmas.List.{length-replicate, get_or-replicate, get_or_past, length-set, get_or-set_same, get_or-set_other, set-get_or}
 use Rattle.std.proofs.lemmas.List.FromFn.{fill_by_all, length-map-range_with_len, get_or-map-range_with_len}
-use Rattle.std.proofs.lemmas.Nat.Bits.{bit_at-lt, bit_at-zero, bit_at_clear_same, bit_at_clear_other, bit_at_or, bit_at_set_same, bit_at_set_other}
+use Rattle.std.proofs.lemmas.Nat.Bits.{bit_at-lt, bit_at-zero, bit_at_ones, bit_at_clear_same, bit_at_clear_other, bit_at_or, bit_at_set_same, bit_at_set_other}
 use Rattle.delete_bitmap.specs.Bits.{bit_in, bits_in}
 
 -- the bit of a word
@@ -28,6 +28,20 @@ pub bits_in-none : (n : ℕ) → bits_in n [] ≡ replicate n false
 bits_in-none n =
     sym (fill_by_all (bit_in []) (replicate n false) n false (length-replicate n false)
     (λ k below. get_or-replicate n k false false below ∙ sym (ap (λ bit. eqb bit 1) (bit_at-zero (k % 64)))))
+
+-- a position that lies so far behind another in the same word
+pub bit_in-word : (words : List ℕ) (p q j : ℕ) → q ≡ p + j → p % 64 + j < 64 → bit_in words q ≡ eqb (bit_at (get_or words (p / 64) 0) (p % 64 + j)) 1
+bit_in-word words p q j e near =
+    let word : q / 64 ≡ p / 64 = omega arith in
+    let bit : q % 64 ≡ p % 64 + j = omega arith in
+    ap (λ w. is_one (get_or words w 0) (q % 64)) word ∙ ap (λ b. is_one (get_or words (p / 64) 0) b) bit
+
+-- where all words are of ones alone, each bit is set
+pub bits_in-ones : (n count : ℕ) → n ≤ 64 * count → bits_in n (replicate count (2 ^ 64 - 1)) ≡ replicate n true
+bits_in-ones n count room =
+    sym (fill_by_all (bit_in (replicate count (2 ^ 64 - 1))) (replicate n true) n false (length-replicate n true)
+    (λ k below. get_or-replicate n k true false below
+    ∙ sym (ap (λ word. is_one word (k % 64)) (get_or-replicate count (k / 64) (2 ^ 64 - 1) 0 (omega arith)) ∙ ap (λ bit. eqb bit 1) (bit_at_ones 64 (k % 64) (omega arith)))))
 
 -- the word of a position with the position's bit set
 abbrev pub word_with : List ℕ → ℕ → ℕ

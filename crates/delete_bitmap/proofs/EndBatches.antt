@@ -4,16 +4,15 @@ use Rattle.std.specs.List.{count_by, slice_get}
 use Rattle.std.specs.List.Sorted.{IsPermutation}
 use Rattle.std.proofs.lemmas.Bool.{cases_eq, cases_lt}
 use Rattle.std.proofs.lemmas.List.{length-map, length-set, get_or_default, get_or_past, get_or-map, get_or-set_same, get_or-set_other, map-set, set-set, set_comm, set-get_or}
-use Rattle.std.proofs.lemmas.List.Elements.{All-append, All-cons, All-head, All-tail, All-weaker}
+use Rattle.std.proofs.lemmas.List.Elements.{All-append, All-cons, All-head, All-map, All-tail, All-weaker}
 use Rattle.std.proofs.lemmas.List.Kept.{AllPairs-cons}
 use Rattle.std.proofs.lemmas.List.Sorted.{All-permutation, Contains-permutation, IsPermutation-sym}
 use Rattle.std.proofs.lemmas.Option.{get_or_from_slice_get, slice_get-get_or, unwrap_or-slice_get}
 use Rattle.delete_bitmap.specs.declared.MarkedEnd.TheVariants.{Plain, Stamped}
 use Rattle.delete_bitmap.specs.Bits.{with_all}
-use Rattle.delete_bitmap.specs.Kept.{Stamp, plain_end, ends_of, is_above, no_stamp, stamped, without_above, without_stamp, AreInOrder, AreKept, Ascend, HasNone}
-use Rattle.delete_bitmap.specs.Marks.{end_at, is_removable, with_ends}
-use Rattle.delete_bitmap.proofs.EndLemmas.{End, IsSetIn, AreMarked, IsApart, AreApart, AreApart-order, length-ends_of, later, in_order_tail, set_within, at_bit, at_apart, plain_under, ends_of-set, above-leb}
-use Rattle.delete_bitmap.proofs.StampMerges.{get_or-stamped, length-stamped}
+use Rattle.delete_bitmap.specs.Kept.{Stamp, plain_end, ends_of, is_above, no_stamp, positions_of, stamped, without_above, without_stamp, AreInOrder, AreKept, Ascend, HasNone}
+use Rattle.delete_bitmap.specs.Marks.{end_at, is_removable, with_each, with_ends}
+use Rattle.delete_bitmap.proofs.EndLemmas.{End, IsFree, IsSetIn, AreMarked, IsApart, AreApart, AreApart-order, length-ends_of, later, in_order_tail, set_within, at_bit, at_apart, plain_under, ends_of-set, above-leb}
 use Rattle.delete_bitmap.proofs.StampSearch.{count-set}
 
 -- of ascending positions those behind the first are so too, and are others than it
@@ -45,7 +44,7 @@ with_all-has (p ∷ ps) bits within =
     (with_all-has ps (set bits p true) (λ k d there. let short = All-tail P p ps within k d there in omega (arith, length-set bits p true)))
 
 -- so many more are in it as are put in
-pub count-with_all : (ps : List ℕ) (bits : List Bool) → Ascend ps → All (λ p. p < length bits) ps → All (λ p. get_or bits p false ≡ false) ps
+count-with_all : (ps : List ℕ) (bits : List Bool) → Ascend ps → All (λ p. p < length bits) ps → All (λ p. get_or bits p false ≡ false) ps
     → count_by (λ (bit : Bool). bit) (with_all ps bits) ≡ count_by (λ (bit : Bool). bit) bits + length ps
 count-with_all [] bits up within unset = omega arith
 count-with_all (p ∷ ps) bits up within unset =
@@ -57,50 +56,65 @@ count-with_all (p ∷ ps) bits up within unset =
     let one = count-set bits p (All-head P p ps within) (All-head U p ps unset) in
     omega (arith, rest, one)
 
+-- the positions of stamps in order ascend
+ascend-positions_of : (stamps : List Stamp) → AreInOrder stamps → Ascend (positions_of stamps)
+ascend-positions_of stamps up i j d less there =
+    let short : j < length stamps = omega (arith, length-map stamps (λ (s : Stamp). s.0)) in
+    let x = get_or-map (λ (s : Stamp). s.0) stamps i no_stamp d (omega arith) in
+    let y = get_or-map (λ (s : Stamp). s.0) stamps j no_stamp d short in
+    omega (arith, x, y, up i j no_stamp less short)
+
 -- the stamps of a batch and those before it stand at positions in the set
-marked-all : (ps : List ℕ) (commit : ℕ) (stamps : List Stamp) (bits : List Bool) → All (λ p. p < length bits) ps → AreMarked bits stamps → AreMarked (with_all ps bits) (stamped ps commit ++ stamps)
-marked-all ps commit stamps bits within marked =
-    All-append (IsSetIn (with_all ps bits)) (stamped ps commit) stamps
+marked-all : (news stamps : List Stamp) (bits : List Bool) → All (λ p. p < length bits) (positions_of news) → AreMarked bits stamps → AreMarked (with_all (positions_of news) bits) (news ++ stamps)
+marked-all news stamps bits within marked =
+    let ps : List ℕ = positions_of news in
+    All-append (IsSetIn (with_all ps bits)) news stamps
     (λ k d there.
-    let short : k < length ps = omega (arith, length-stamped ps commit) in
-    ap (λ (s : Stamp). get_or (with_all ps bits) s.0 false) (get_or-stamped ps commit k d.0 d short) ∙ with_all-has ps bits within k d.0 short)
+    ap (λ p. get_or (with_all ps bits) p false) (sym (get_or-map (λ (s : Stamp). s.0) news k d d.0 there))
+    ∙ with_all-has ps bits within k d.0 (omega (arith, there, length-map news (λ (s : Stamp). s.0))))
     (All-weaker (IsSetIn bits) (IsSetIn (with_all ps bits)) (λ s is. with_all-keeps ps bits s.0 is) stamps marked)
 
 -- they are of different positions
-apart-all : (ps : List ℕ) (commit : ℕ) (stamps : List Stamp) → Ascend ps → All (λ p. HasNone p stamps) ps → AreApart stamps → AreApart (stamped ps commit ++ stamps)
-apart-all [] commit stamps up none apart = apart
-apart-all (p ∷ ps) commit stamps up none apart =
-    let N : ℕ → Type 0 = λ q. HasNone q stamps in
-    AllPairs-cons (λ (s t : Stamp). s.0 ≢ t.0) (p, commit) (stamped ps commit ++ stamps)
-    (All-append (λ (t : Stamp). p ≢ t.0) (stamped ps commit) stamps
-    (λ k d there same.
-    let short : k < length ps = omega (arith, length-stamped ps commit) in
-    ascend_later p ps up k d.0 short (sym (same ∙ ap (λ (s : Stamp). s.0) (get_or-stamped ps commit k d.0 d short))))
-    (λ k d there same. All-head N p ps none k d there (sym same)))
-    (apart-all ps commit stamps (ascend_tail p ps up) (All-tail N p ps none) apart)
+apart-all : (news stamps : List Stamp) → AreInOrder news → All (λ (s : Stamp). HasNone s.0 stamps) news → AreApart stamps → AreApart (news ++ stamps)
+apart-all [] stamps up none apart = apart
+apart-all (s ∷ rest) stamps up none apart =
+    let N : Stamp → Type 0 = λ t. HasNone t.0 stamps in
+    AllPairs-cons (λ (t u : Stamp). t.0 ≢ u.0) s (rest ++ stamps)
+    (All-append (λ (t : Stamp). s.0 ≢ t.0) rest stamps
+    (λ k d there same. let less = up 0 (suc k) d (omega arith) (omega arith) in absurd (omega (arith, less, same)))
+    (λ k d there same. All-head N s rest none k d there (sym same)))
+    (apart-all rest stamps (in_order_tail s rest up) (All-tail N s rest none) apart)
+
+later_positions : (s : Stamp) (rest : List Stamp) → AreInOrder (s ∷ rest) → All (λ (t : Stamp). t.0 ≢ s.0) rest
+later_positions s rest up k d there same = let less = up 0 (suc k) d (omega arith) (omega arith) in absurd (omega (arith, less, same))
 
 -- an end at another position may be set before the batch or behind it
-with_ends-set : (ps : List ℕ) (commit : ℕ) (ends : List End) (p : ℕ) (end : End) → All (λ q. q ≢ p) ps → with_ends ps commit (set ends p end) ≡ set (with_ends ps commit ends) p end
-with_ends-set [] commit ends p end other = refl
-with_ends-set (q ∷ ps) commit ends p end other =
-    let O : ℕ → Type 0 = λ i. i ≢ p in
-    ap (with_ends ps commit) (set_comm ends p q end (Some (Stamped commit)) (λ same. All-head O q ps other (sym same)))
-    ∙ with_ends-set ps commit (set ends q (Some (Stamped commit))) p end (All-tail O q ps other)
+with_each-set : (news : List Stamp) (ends : List End) (p : ℕ) (end : End) → All (λ (s : Stamp). s.0 ≢ p) news → with_each news (set ends p end) ≡ set (with_each news ends) p end
+with_each-set [] ends p end other = refl
+with_each-set (s ∷ rest) ends p end other =
+    let O : Stamp → Type 0 = λ t. t.0 ≢ p in
+    ap (with_each rest) (set_comm ends p s.0 end (Some (Stamped s.1)) (λ same. All-head O s rest other (sym same)))
+    ∙ with_each-set rest (set ends s.0 (Some (Stamped s.1))) p end (All-tail O s rest other)
 
 -- the stamps of a batch before the others stand for the ends with those of the batch
-ends_of-all : (ps : List ℕ) (commit : ℕ) (stamps : List Stamp) (bits : List Bool) → Ascend ps → All (λ p. HasNone p stamps) ps
-    → ends_of (stamped ps commit ++ stamps) (with_all ps bits) ≡ with_ends ps commit (ends_of stamps bits)
-ends_of-all [] commit stamps bits up none = refl
-ends_of-all (p ∷ ps) commit stamps bits up none =
-    let N : ℕ → Type 0 = λ q. HasNone q stamps in
-    let end : End = Some (Stamped commit) in
+ends_of-all : (news stamps : List Stamp) (bits : List Bool) → AreInOrder news → All (λ (s : Stamp). HasNone s.0 stamps) news
+    → ends_of (news ++ stamps) (with_all (positions_of news) bits) ≡ with_each news (ends_of stamps bits)
+ends_of-all [] stamps bits up none = refl
+ends_of-all (s ∷ rest) stamps bits up none =
+    let N : Stamp → Type 0 = λ t. HasNone t.0 stamps in
+    let end : End = Some (Stamped s.1) in
     let ends : List End = ends_of stamps bits in
-    let other = ascend_later p ps up in
-    ap (λ (es : List End). set es p end) (ends_of-all ps commit stamps (set bits p true) (ascend_tail p ps up) (All-tail N p ps none))
-    ∙ ap (λ (es : List End). set (with_ends ps commit es) p end) (ends_of-set stamps bits p (All-head N p ps none))
-    ∙ ap (λ (es : List End). set es p end) (with_ends-set ps commit ends p (Some Plain) other)
-    ∙ set-set (with_ends ps commit ends) p (Some Plain) end
-    ∙ sym (with_ends-set ps commit ends p end other)
+    let other = later_positions s rest up in
+    ap (λ (es : List End). set es s.0 end) (ends_of-all rest stamps (set bits s.0 true) (in_order_tail s rest up) (All-tail N s rest none))
+    ∙ ap (λ (es : List End). set (with_each rest es) s.0 end) (ends_of-set stamps bits s.0 (All-head N s rest none))
+    ∙ ap (λ (es : List End). set es s.0 end) (with_each-set rest ends s.0 (Some Plain) other)
+    ∙ set-set (with_each rest ends) s.0 (Some Plain) end
+    ∙ sym (with_each-set rest ends s.0 end other)
+
+-- a batch with one commit ends its positions
+pub with_each-stamped : (ps : List ℕ) (commit : ℕ) (ends : List End) → with_each (stamped ps commit) ends ≡ with_ends ps commit ends
+with_each-stamped [] commit ends = refl
+with_each-stamped (p ∷ ps) commit ends = with_each-stamped ps commit (set ends p (Some (Stamped commit)))
 
 -- a position has no stamp, or one at some place
 pub stamp_or_none : (p : ℕ) (stamps : List Stamp) → HasNone p stamps ⊎ ((k : ℕ) × (k < length stamps) × ((get_or stamps k no_stamp).0 ≡ p))
@@ -126,24 +140,37 @@ ends_of-permuted xs ys bits moved xs_apart ys_apart xs_marked ys_marked =
           subst (λ i. get_or (ends_of ys bits) i None ≡ get_or (ends_of xs bits) i None) at.2 (at_apart ys bits at.0 no_stamp ys_apart ys_marked at.1 ∙ sym here)
     ])
 
-module _ (ps : List ℕ) (commit : ℕ) (stamps merged : List Stamp) (bits : List Bool) (count : ℕ) (up : Ascend ps) (within : All (λ p. p < length bits) ps) (unset : All (λ p. get_or bits p false ≡ false) ps)
-    (none : All (λ p. HasNone p stamps) ps) (kept : AreKept bits stamps count) (moved : IsPermutation (stamped ps commit ++ stamps) merged) (order : AreInOrder merged) where
+module _ (news stamps merged : List Stamp) (bits : List Bool) (count : ℕ) (up : AreInOrder news) (free : All (λ (s : Stamp). IsFree stamps bits s.0) news) (kept : AreKept bits stamps count)
+    (moved : IsPermutation (news ++ stamps) merged) (order : AreInOrder merged) where
+  none_there : All (λ (s : Stamp). HasNone s.0 stamps) news
+  none_there k d there = (free k d there).none
+
+  pub within_all : All (λ p. p < length bits) (positions_of news)
+  within_all = All-map (λ p. p < length bits) (λ (s : Stamp). s.0) news (λ k d there. (free k d there).within)
+
+  -- so many more are in the set as the batch has stamps
+  pub count-all : count_by (λ (bit : Bool). bit) (with_all (positions_of news) bits) ≡ count_by (λ (bit : Bool). bit) bits + length news
+  count-all =
+      let unset = All-map (λ p. get_or bits p false ≡ false) (λ (s : Stamp). s.0) news (λ k d there. (free k d there).unset) in
+      let more = count-with_all (positions_of news) bits (ascend-positions_of news up) within_all unset in
+      omega (arith, more, length-map news (λ (s : Stamp). s.0))
+
   -- a batch keeps what is kept true
-  pub AreKept-all : AreKept (with_all ps bits) merged (count + length ps)
+  pub AreKept-all : AreKept (with_all (positions_of news) bits) merged (count + length news)
   AreKept-all = record {
     in_order = order;
-    marked = All-permutation (IsSetIn (with_all ps bits)) (stamped ps commit ++ stamps) merged moved (marked-all ps commit stamps bits within kept.marked);
-    counted = omega (arith, kept.counted, count-with_all ps bits up within unset);
+    marked = All-permutation (IsSetIn (with_all (positions_of news) bits)) (news ++ stamps) merged moved (marked-all news stamps bits within_all kept.marked);
+    counted = omega (arith, kept.counted, count-all);
   }
 
   -- and adds its ends
-  pub ends_of-merged : ends_of merged (with_all ps bits) ≡ with_ends ps commit (ends_of stamps bits)
+  pub ends_of-merged : ends_of merged (with_all (positions_of news) bits) ≡ with_each news (ends_of stamps bits)
   ends_of-merged =
-      let marked = marked-all ps commit stamps bits within kept.marked in
-      ends_of-permuted (stamped ps commit ++ stamps) merged (with_all ps bits) moved
-      (apart-all ps commit stamps up none (AreApart-order stamps kept.in_order)) (AreApart-order merged order) marked
-      (All-permutation (IsSetIn (with_all ps bits)) (stamped ps commit ++ stamps) merged moved marked)
-      ∙ ends_of-all ps commit stamps bits up none
+      let marked = marked-all news stamps bits within_all kept.marked in
+      ends_of-permuted (news ++ stamps) merged (with_all (positions_of news) bits) moved
+      (apart-all news stamps up none_there (AreApart-order stamps kept.in_order)) (AreApart-order merged order) marked
+      (All-permutation (IsSetIn (with_all (positions_of news) bits)) (news ++ stamps) merged moved marked)
+      ∙ ends_of-all news stamps bits up none_there
 
 pub length-without_above : (floor : ℕ) (stamps : List Stamp) (bits : List Bool) → length (without_above floor stamps bits) ≡ length bits
 length-without_above floor [] bits = refl

@@ -18,48 +18,46 @@ pub length-stamped : (positions : List ℕ) (commit : ℕ) → length (stamped p
 length-stamped positions commit = length-map positions (λ (p : ℕ). (p, commit))
 
 -- stamps of ascending positions are in order
-in_order-stamped : (positions : List ℕ) (commit : ℕ) → Ascend positions → AreInOrder (stamped positions commit)
+pub in_order-stamped : (positions : List ℕ) (commit : ℕ) → Ascend positions → AreInOrder (stamped positions commit)
 in_order-stamped positions commit up i j d less there =
     let short : j < length positions = omega (arith, length-stamped positions commit) in
     let x = ap (λ (s : Stamp). s.0) (get_or-stamped positions commit i 0 d (omega arith)) in
     let y = ap (λ (s : Stamp). s.0) (get_or-stamped positions commit j 0 d short) in
     omega (arith, x, y, up i j 0 less short)
 
-pub merges_start : (stamps : List Stamp) (positions : List ℕ) (commit count : ℕ) → length stamps ≡ count + length positions → AreInOrder (take count stamps) → Ascend positions
-    → IsMerging IsBefore (stamped positions commit ++ take count stamps) (take count stamps) (stamped positions commit) stamps count (length positions)
-merges_start stamps positions commit count sized order up =
-    IsMerging-start IsBefore (take count stamps) (stamped positions commit) stamps count (length positions)
-    (sym (length-take-le count stamps (omega arith))) (sym (length-stamped positions commit)) sized refl order (in_order-stamped positions commit up)
+pub merges_start : (stamps others : List Stamp) (count : ℕ) → length stamps ≡ count + length others → AreInOrder (take count stamps) → AreInOrder others
+    → IsMerging IsBefore (others ++ take count stamps) (take count stamps) others stamps count (length others)
+merges_start stamps others count sized order up =
+    IsMerging-start IsBefore (take count stamps) others stamps count (length others) (sym (length-take-le count stamps (omega arith))) refl sized refl order up
 
-module _ (all before : List Stamp) (positions : List ℕ) (commit : ℕ) (cells : List Stamp) (i j : ℕ) (merging : IsMerging IsBefore all before (stamped positions commit) cells i j) where
+module _ (all before others cells : List Stamp) (i j : ℕ) (merging : IsMerging IsBefore all before others cells i j) where
   -- what stands at a place in front was there before
   at_front : (k : ℕ) (d : Stamp) → k < i → get_or cells k d ≡ get_or before k d
   at_front k d less = sym (get_or-take i cells k d less) ∙ ap (λ xs. get_or xs k d) merging.front ∙ get_or-take i before k d less
 
-  pub merges_old : (p : ℕ) → 0 < i → 0 < j → get_or positions (j - 1) p < (get_or cells (i - 1) no_stamp).0
-      → IsMerging IsBefore all before (stamped positions commit) (set cells (i - 1 + j) (get_or cells (i - 1) no_stamp)) (i - 1) j
-  merges_old p olds news greater =
+  pub merges_old : 0 < i → 0 < j → (get_or others (j - 1) no_stamp).0 < (get_or cells (i - 1) no_stamp).0
+      → IsMerging IsBefore all before others (set cells (i - 1 + j) (get_or cells (i - 1) no_stamp)) (i - 1) j
+  merges_old olds news greater =
       let x : Stamp = get_or cells (i - 1) no_stamp in
-      let short : j - 1 < length positions = omega (arith, merging.news_left, length-stamped positions commit) in
+      let short : j - 1 < length others = omega (arith, merging.news_left) in
       let there : i - 1 < length before = omega (arith, merging.olds_left) in
       let last : i ≡ i - 1 + 1 = omega arith in
       let is : x ≡ get_or before (i - 1) x = at_front (i - 1) no_stamp (omega arith) ∙ get_or_default before (i - 1) no_stamp x there in
-      IsMerging-old IsBefore all before (stamped positions commit) cells (i - 1) j x (subst (λ n. IsMerging IsBefore all before (stamped positions commit) cells n j) last merging) is
-      (All-below_last IsBefore before_trans (stamped positions commit) j x (AllPairs-front IsBefore (take j (stamped positions commit)) (drop (i + j) cells) merging.news_below) merging.news_left
-      (λ _. subst (λ (s : Stamp). s.0 < x.0) (sym (get_or-stamped positions commit (j - 1) p x short)) greater))
+      IsMerging-old IsBefore all before others cells (i - 1) j x (subst (λ n. IsMerging IsBefore all before others cells n j) last merging) is
+      (All-below_last IsBefore before_trans others j x (AllPairs-front IsBefore (take j others) (drop (i + j) cells) merging.news_below) merging.news_left
+      (λ _. subst (λ (s : Stamp). s.0 < x.0) (get_or_default others (j - 1) no_stamp x short) greater))
 
-  pub merges_new : (p : ℕ) → 0 < j → HasNone (get_or positions (j - 1) p) before → (0 < i → (get_or cells (i - 1) no_stamp).0 ≤ get_or positions (j - 1) p)
-      → IsMerging IsBefore all before (stamped positions commit) (set cells (i + (j - 1)) (get_or positions (j - 1) p, commit)) i (j - 1)
-  merges_new p news apart other =
-      let x : Stamp = (get_or positions (j - 1) p, commit) in
-      let short : j - 1 < length positions = omega (arith, merging.news_left, length-stamped positions commit) in
+  pub merges_new : 0 < j → HasNone (get_or others (j - 1) no_stamp).0 before → (0 < i → (get_or cells (i - 1) no_stamp).0 ≤ (get_or others (j - 1) no_stamp).0)
+      → IsMerging IsBefore all before others (set cells (i + (j - 1)) (get_or others (j - 1) no_stamp)) i (j - 1)
+  merges_new news apart other =
+      let x : Stamp = get_or others (j - 1) no_stamp in
+      let short : j - 1 < length others = omega (arith, merging.news_left) in
       let last : j ≡ j - 1 + 1 = omega arith in
-      IsMerging-new IsBefore all before (stamped positions commit) cells i (j - 1) x (subst (λ n. IsMerging IsBefore all before (stamped positions commit) cells i n) last merging)
-      (sym (get_or-stamped positions commit (j - 1) p x short))
+      IsMerging-new IsBefore all before others cells i (j - 1) x (subst (λ n. IsMerging IsBefore all before others cells i n) last merging)
+      (get_or_default others (j - 1) no_stamp x short)
       (All-below_last IsBefore before_trans before i x (AllPairs-front IsBefore (take i before) (drop (i + j) cells) merging.olds_below) merging.olds_left
       (λ olds.
       let there : i - 1 < length before = omega (arith, merging.olds_left) in
-      let up : (get_or before (i - 1) x).0 ≤ get_or positions (j - 1) p =
-      subst (λ (s : Stamp). s.0 ≤ get_or positions (j - 1) p) (at_front (i - 1) no_stamp (omega arith) ∙ get_or_default before (i - 1) no_stamp x there) (other olds) in
+      let up : (get_or before (i - 1) x).0 ≤ x.0 = subst (λ (s : Stamp). s.0 ≤ x.0) (at_front (i - 1) no_stamp (omega arith) ∙ get_or_default before (i - 1) no_stamp x there) (other olds) in
       let differs = apart (i - 1) x there in
       omega (arith, up, differs)))

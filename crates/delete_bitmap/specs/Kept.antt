@@ -37,6 +37,10 @@ HasNone p stamps = All (λ s. s.0 ≢ p) stamps
 abbrev pub stamped : List ℕ → ℕ → List Stamp
 stamped positions commit = map (λ p. (p, commit)) positions
 
+-- the positions of stamps
+abbrev pub positions_of : List Stamp → List ℕ
+positions_of stamps = map (λ s. s.0) stamps
+
 -- a set without the position of a stamp, where the stamp is above the floor
 abbrev pub without_stamp : ℕ → List Bool → Stamp → List Bool
 without_stamp floor bits s = if is_above floor s then slice_set bits s.0 false else bits

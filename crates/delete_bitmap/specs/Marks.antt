@@ -11,6 +11,10 @@ end_at marks position = unwrap_or (slice_get marks position) None
 abbrev pub with_ends : List ℕ → ℕ → List (Option MarkedEnd) → List (Option MarkedEnd)
 with_ends positions commit marks = fold (λ ends p. slice_set ends p (Some (Stamped commit))) marks positions
 
+-- the ends where the version at each of these positions is ended at the commit beside it
+abbrev pub with_each : List (ℕ × ℕ) → List (Option MarkedEnd) → List (Option MarkedEnd)
+with_each stamps marks = fold (λ ends s. slice_set ends s.0 (Some (Stamped s.1))) marks stamps
+
 -- a stamped end at most the floor becomes plain, and any other stays
 abbrev pub settled : ℕ → Option MarkedEnd → Option MarkedEnd
 settled floor None = None

@@ -1,8 +1,8 @@
 //! The delete bitmap of a packed row group: which of its versions have ended, and at which commit.
 //!
-//! Its one contract: `Marks` is a length and an end, or none, at each position below it, and each call has exactly the
-//! stated effect on them. It stands on `cs_base` alone. The form follows the delete bitmap of SQL Server's clustered
-//! columnstore (Larson et al., SIGMOD 2013), with a commit number beside a mark until no snapshot can see the version.
+//! Its one contract: `Marks` is a length and an end, or none, at each position below it, `Positions` a set of positions, and each call
+//! has exactly the stated effect on them. It stands on `cs_base` and the laws of `merge_laws`. The form follows the delete bitmap of SQL
+//! Server's clustered columnstore (Larson et al., SIGMOD 2013), with a commit number beside a mark until no snapshot can see the version.
 #![tactic(auto)]
 
 mod positions;
@@ -10,12 +10,12 @@ mod stamps;
 
 ghost use Rattle.std.specs.Prelude.{◌≡◌, ℕ, ◌↔◌, ◌||◌, length, map, replicate, slice_get, slice_index_or, slice_set, count_by, All, Contains, OnOk, OnErr, IfOk, Some, None, false};
 ghost use Rattle.delete_bitmap.specs.Marks as spec;
-ghost use Rattle.delete_bitmap.specs.Marks.{settled, is_settling, end_at, with_ends};
+ghost use Rattle.delete_bitmap.specs.Marks.{settled, is_settling, end_at, with_each, with_ends};
 ghost use Rattle.delete_bitmap.specs.Kept.{AreInOrder, Ascend};
 
 use cs_base::Memory;
 pub use positions::Positions;
-use stamps::{count_above, keep_above, place_of, take_out_above};
+use stamps::{count_above, keep_above, place_of, positions_of, stamped, take_out_above};
 use std::alloc::Global;
 use std::marker::Model;
 
@@ -91,19 +91,32 @@ impl Marks {
         Ok(())
     }
 
-    /// Ends the versions at these positions, none of which has an end, at one commit, in one pass over the ends that are
-    /// not plain. After `Memory` nothing has changed.
+    /// Ends the version at each of these positions, none of which has an end, at the commit beside it, in one pass over the
+    /// ends that are not plain. After `Memory` nothing has changed.
+    pub fn mark_each(&mut self, ends: &[(usize, u64)]) -> Result<(), Memory>
+        requires ascending { AreInOrder ends.now }
+        requires unmarked { All (λ end. slice_get self.old end.0 ≡ Some None) ends.now }
+        ensures ok { OnOk result (self.new ≡ with_each ends.now self.old) }
+        ensures err { OnErr result (self.new ≡ self.old) }
+    {
+        self.stamps.reserve(ends.len())?;
+        let positions = positions_of(*self.stamps.allocator(), ends)?;
+        self.ended.insert_all(&positions)?;
+        stamps::add_all(&mut self.stamps, ends);
+        self.count += ends.len() as u64;
+        Ok(())
+    }
+
+    /// Ends the versions at these positions, none of which has an end, at one commit, as `mark_each` does. After `Memory`
+    /// nothing has changed.
     pub fn mark_all(&mut self, positions: &[usize], end: u64) -> Result<(), Memory>
         requires ascending { Ascend positions.now }
         requires unmarked { All (λ p. slice_get self.old p ≡ Some None) positions.now }
         ensures ok { OnOk result (self.new ≡ with_ends positions.now end self.old) }
         ensures err { OnErr result (self.new ≡ self.old) }
     {
-        self.stamps.reserve(positions.len())?;
-        self.ended.insert_all(positions)?;
-        stamps::add_all(&mut self.stamps, positions, end);
-        self.count += positions.len() as u64;
-        Ok(())
+        let ends = stamped(*self.stamps.allocator(), positions, end)?;
+        self.mark_each(&ends)
     }
 
     /// The end of the version at a position; None where it has none, and past the last position.

@@ -1,5 +1,6 @@
 // A set of positions, kept as bits in words.
-ghost use Rattle.std.specs.Prelude.{◌≡◌, ℕ, ◌<◌, ◌≤◌, ◌*◌, ◌/◌, ◌^◌, ◌||◌, length, replicate, slice_index, slice_index_or, slice_set, All, IfOk, OnOk, OnErr, true, false};
+ghost use Rattle.std.specs.Prelude.{◌≡◌, ℕ, ◌+◌, ◌-◌, ◌<◌, ◌≤◌, ◌*◌, ◌/◌, ◌^◌, ◌⊎◌, ◌==◌, ◌&&◌, ◌||◌, length, nat_lt, replicate, slice_index, slice_index_or, slice_set, All, IfOk, OnOk, OnErr, true, false};
+ghost use Rattle.std.specs.Int.{bit_at};
 ghost use Rattle.delete_bitmap.specs.Bits.{bit_in, bits_in, with_all, IsCovered};
 
 use cs_base::Memory;
@@ -37,6 +38,14 @@ impl Positions {
         }
     }
 
+    /// All positions below a length.
+    pub fn all(alloc: Global, length: usize) -> Result<Positions, Memory>
+        ensures { IfOk result (λ positions. positions ≡ replicate length true) }
+    {
+        let words = vec![in alloc; u64::MAX; length.div_ceil(64)]?;
+        Ok(Positions { length, words })
+    }
+
     /// The length: the positions below it may be in the set.
     pub fn len(&self) -> usize
         ensures { result ≡ length self.now }
@@ -49,6 +58,17 @@ impl Positions {
         ensures { result ≡ slice_index_or self.now position false }
     {
         position < self.length && is_set(&self.words, position)
+    }
+
+    /// Puts whether position `from + i` is in the set into place i of a mask, for each i below `count`, and false into the
+    /// other places. It goes word by word, and writes the places of one whose bits are all set, or all clear, at once.
+    pub fn put_mask(&self, from: usize, count: usize, out: &mut [bool; 1024])
+        requires { count ≤ 1024 }
+        ensures { (i : ℕ) → i < 1024 → slice_index_or out.new i false ≡ (nat_lt i count && slice_index_or self.now (from + i) false) }
+    {
+        let end = count.min(self.length.saturating_sub(from));
+        put_bits(&self.words, from, end, out);
+        put_all(false, end, 1024, out);
     }
 
     /// Puts a position in. After `Memory` nothing has changed.
@@ -173,4 +193,77 @@ fn set_each(words: &mut Vec<u64>, others: &[u64])
     for i in 0..words.len().min(others.len()) {
         words[i] |= others[i];
     }
+}
+
+/// Puts the bits from `from` on into the first `count` places of a mask, word by word; the other places stay as they are.
+fn put_bits(words: &[u64], from: usize, count: usize, out: &mut [bool; 1024])
+    requires room { count ≤ 1024 }
+    requires small { from + count < 2 ^ 64 }
+    ensures bits { (i : ℕ) → i < count → slice_index_or out.new i false ≡ bit_in words.now (from + i) }
+    ensures others { (i : ℕ) → count ≤ i → slice_index_or out.new i false ≡ slice_index_or out.old i false }
+{
+    let mut done = 0;
+    while done < count {
+        let place = from + done;
+        let stop = count.min(done + 64 - place % 64);
+        put_word(word_at(words, place / 64), place % 64, done, stop, out);
+        done = stop;
+    }
+}
+
+/// The word at a place, and 0 past the last one.
+fn word_at(words: &[u64], place: usize) -> u64
+    ensures { result ≡ slice_index words.now place }
+{
+    match words.get(place) {
+        Some(word) => *word,
+        None => 0,
+    }
+}
+
+/// Puts the bits of a word from `bit` on into the places from `from` up to `to`; the other places stay as they are.
+fn put_word(word: u64, bit: usize, from: usize, to: usize, out: &mut [bool; 1024])
+    requires places { (from ≤ to) × (to ≤ 1024) }
+    requires bits { bit + (to - from) ≤ 64 }
+    ensures bits { (i : ℕ) → from ≤ i → i < to → slice_index_or out.new i false ≡ (bit_at word (bit + (i - from)) == 1) }
+    ensures others { (i : ℕ) → (i < from) ⊎ (to ≤ i) → slice_index_or out.new i false ≡ slice_index_or out.old i false }
+{
+    if word == 0 {
+        put_all(false, from, to, out);
+    } else if word == u64::MAX {
+        put_all(true, from, to, out);
+    } else {
+        put_each(word, bit, from, to, out);
+    }
+}
+
+/// Puts a value into the places from `from` up to `to`; the other places stay as they are.
+fn put_all(value: bool, from: usize, to: usize, out: &mut [bool; 1024])
+    requires { (from ≤ to) × (to ≤ 1024) }
+    ensures put { (i : ℕ) → from ≤ i → i < to → slice_index_or out.new i false ≡ value }
+    ensures others { (i : ℕ) → (i < from) ⊎ (to ≤ i) → slice_index_or out.new i false ≡ slice_index_or out.old i false }
+{
+    for i in from..to {
+        out[i] = value;
+    }
+}
+
+/// As `put_word`, bit by bit.
+fn put_each(word: u64, bit: usize, from: usize, to: usize, out: &mut [bool; 1024])
+    requires places { (from ≤ to) × (to ≤ 1024) }
+    requires bits { bit + (to - from) ≤ 64 }
+    ensures bits { (i : ℕ) → from ≤ i → i < to → slice_index_or out.new i false ≡ (bit_at word (bit + (i - from)) == 1) }
+    ensures others { (i : ℕ) → (i < from) ⊎ (to ≤ i) → slice_index_or out.new i false ≡ slice_index_or out.old i false }
+{
+    for i in from..to {
+        out[i] = is_one(word, bit + (i - from));
+    }
+}
+
+/// Whether a bit of a word is set.
+fn is_one(word: u64, bit: usize) -> bool
+    requires { bit < 64 }
+    ensures { result ≡ (bit_at word bit == 1) }
+{
+    (word >> bit) & 1 == 1
 }

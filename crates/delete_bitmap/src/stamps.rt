@@ -1,9 +1,11 @@
 // The stamps of ends that are not plain: a position and the number of a commit each, in the order of positions.
 ghost use Rattle.std.specs.Prelude.{◌≡◌, ◌+◌, ◌-◌, ◌<◌, ◌≤◌, ◌++◌, length, filter, take, count_by, slice_index_or, vec_len, vec_capacity, All, IfOk, IfErr, IsPermutation};
 ghost use Rattle.std.specs.Bool.{OnTrue, OnFalse};
-ghost use Rattle.delete_bitmap.specs.Kept.{is_above, no_stamp, stamped, without_above, without_stamp, AreInOrder, Ascend, HasNone, IsStampAt, IsGapFor};
+ghost use Rattle.delete_bitmap.specs.Kept.{is_above, no_stamp, positions_of, stamped, without_above, without_stamp, AreInOrder, HasNone, IsStampAt, IsGapFor};
 
 use crate::positions::Positions;
+use cs_base::Memory;
+use std::alloc::Global;
 
 /// The place of a position's stamp, or where it would go.
 pub fn place_of(stamps: &[(usize, u64)], position: usize) -> Result<usize, usize>
@@ -52,50 +54,71 @@ fn take_out_if_above(positions: &mut Positions, stamp: (usize, u64), floor: u64)
     }
 }
 
-/// Adds a stamp of each position with one commit, none of which has one, in one pass. There is room for them.
-pub fn add_all(stamps: &mut Vec<(usize, u64)>, positions: &[usize], commit: u64)
-    requires room { vec_len stamps.old + length positions.now ≤ vec_capacity stamps.old }
+/// A stamp of each position, all with one commit.
+pub fn stamped(alloc: Global, positions: &[usize], commit: u64) -> Result<Vec<(usize, u64)>, Memory>
+    ensures { IfOk result (λ stamps. stamps.items ≡ stamped positions.now commit) }
+{
+    let mut stamps = Vec::with_capacity(alloc, positions.len())?;
+    for position in positions {
+        stamps.push((*position, commit))?;
+    }
+    Ok(stamps)
+}
+
+/// The positions of stamps.
+pub fn positions_of(alloc: Global, stamps: &[(usize, u64)]) -> Result<Vec<usize>, Memory>
+    ensures { IfOk result (λ positions. positions.items ≡ positions_of stamps.now) }
+{
+    let mut positions = Vec::with_capacity(alloc, stamps.len())?;
+    for stamp in stamps {
+        positions.push(stamp.0)?;
+    }
+    Ok(positions)
+}
+
+/// Adds other stamps, at positions none of which has one, in one pass. There is room for them.
+pub fn add_all(stamps: &mut Vec<(usize, u64)>, others: &[(usize, u64)])
+    requires room { vec_len stamps.old + length others.now ≤ vec_capacity stamps.old }
     requires order { AreInOrder stamps.old.items }
-    requires ascending { Ascend positions.now }
-    requires apart { All (λ p. HasNone p stamps.old.items) positions.now }
-    ensures stamps { IsPermutation (stamped positions.now commit ++ stamps.old.items) stamps.new.items }
+    requires ascending { AreInOrder others.now }
+    requires apart { All (λ s. HasNone s.0 stamps.old.items) others.now }
+    ensures stamps { IsPermutation (others.now ++ stamps.old.items) stamps.new.items }
     ensures order { AreInOrder stamps.new.items }
 {
     let count = stamps.len();
-    append(stamps, positions, commit);
-    merge(stamps, count, positions, commit);
+    append(stamps, others);
+    merge(stamps, count, others);
 }
 
-/// Puts a stamp of each position behind the others. There is room for them.
-fn append(stamps: &mut Vec<(usize, u64)>, positions: &[usize], commit: u64)
-    requires { vec_len stamps.old + length positions.now ≤ vec_capacity stamps.old }
-    ensures { stamps.new.items ≡ stamps.old.items ++ stamped positions.now commit }
+/// Puts other stamps behind these. There is room for them.
+fn append(stamps: &mut Vec<(usize, u64)>, others: &[(usize, u64)])
+    requires { vec_len stamps.old + length others.now ≤ vec_capacity stamps.old }
+    ensures { stamps.new.items ≡ stamps.old.items ++ others.now }
 {
-    for position in positions {
-        stamps.push_reserved((*position, commit));
+    for stamp in others {
+        stamps.push_reserved(*stamp);
     }
 }
 
-/// Merges a stamp of each position into the first `count` stamps, from the back. What stands behind these is written
-/// over.
-fn merge(stamps: &mut [(usize, u64)], count: usize, positions: &[usize], commit: u64)
-    requires sized { length stamps.old ≡ count + length positions.now }
+/// Merges other stamps into the first `count` stamps, from the back. What stands behind these is written over.
+fn merge(stamps: &mut [(usize, u64)], count: usize, others: &[(usize, u64)])
+    requires sized { length stamps.old ≡ count + length others.now }
     requires order { AreInOrder (take count stamps.old) }
-    requires ascending { Ascend positions.now }
-    requires apart { All (λ p. HasNone p (take count stamps.old)) positions.now }
-    ensures stamps { IsPermutation (stamped positions.now commit ++ take count stamps.old) stamps.new }
+    requires ascending { AreInOrder others.now }
+    requires apart { All (λ s. HasNone s.0 (take count stamps.old)) others.now }
+    ensures stamps { IsPermutation (others.now ++ take count stamps.old) stamps.new }
     ensures order { AreInOrder stamps.new }
 {
     let mut old = count;
-    let mut new = positions.len();
+    let mut new = others.len();
     while new > 0 {
-        let position = positions[new - 1];
-        if is_last_past(stamps, old, position) {
+        let stamp = others[new - 1];
+        if is_last_past(stamps, old, stamp.0) {
             old -= 1;
             stamps[old + new] = stamps[old];
         } else {
             new -= 1;
-            stamps[old + new] = (position, commit);
+            stamps[old + new] = stamp;
         }
     }
 }

@@ -80,6 +80,18 @@ fn mark_two(marks: &mut Marks, first: usize, second: usize, commit: u64) -> Resu
     Ok(true)
 }
 
+/// Ends two versions, each at its own commit, where the first position is smaller, both are there and neither has an end.
+fn mark_pair(marks: &mut Marks, first: (usize, u64), second: (usize, u64)) -> Result<bool, Memory> {
+    if first.0 >= second.0 || second.0 >= marks.len() {
+        return Ok(false);
+    }
+    if marks.end(first.0) != None || marks.end(second.0) != None {
+        return Ok(false);
+    }
+    marks.mark_each(&[first, second])?;
+    Ok(true)
+}
+
 /// The positions that have ended for a snapshot, of which position 1 was taken before where there is one.
 fn ended_at(alloc: Global, marks: &Marks, s: u64) -> Result<Positions, Memory> {
     let mut positions = Positions::none(alloc, marks.len());
@@ -107,6 +119,69 @@ fn batches_are_marked(rt: HostRuntime) -> Result<(), Fail> {
         (marks.count(), marks.settle(3), marks.stamps().len()),
         (6, 2, 4)
     );
+    Ok(())
+}
+
+#[test]
+fn batches_keep_their_commits(rt: HostRuntime) -> Result<(), Fail> {
+    let mut marks = marked(rt.alloc(), 130, &[(63, 2), (128, 9)])?;
+    assert_eq!(rt; mark_pair(&mut marks, (64, 7), (65, 3))?, true);
+    assert_eq!(rt; mark_pair(&mut marks, (62, 4), (129, 5))?, true);
+    assert_eq!(rt; mark_pair(&mut marks, (0, 4), (129, 6))?, false);
+    assert_eq!(rt; mark_pair(&mut marks, (1, 4), (130, 6))?, false);
+    let mut stamps = marks.stamps().iter();
+    for (position, commit) in [(62, 4), (63, 2), (64, 7), (65, 3), (128, 9), (129, 5)] {
+        assert_eq!(rt; stamps.next().copied(), Some((position, commit)));
+    }
+    assert_eq!(rt; stamps.next().copied(), None);
+    assert_eq!(rt;
+        (marks.count(), marks.settle(4), marks.stamps().len()),
+        (6, 3, 3)
+    );
+    Ok(())
+}
+
+/// Of a length all positions but 3 and those from 64 up to 128: words with some bits set, with none and with all.
+fn spotted(alloc: Global, length: usize) -> Result<Positions, Memory> {
+    let mut positions = Positions::all(alloc, length)?;
+    for position in 63..128 {
+        let out = if position == 63 { 3 } else { position };
+        if out < positions.len() {
+            positions.remove(out);
+        }
+    }
+    Ok(positions)
+}
+
+/// A mask of that set has exactly its positions.
+fn check_mask(rt: &impl Abort, positions: &Positions, length: usize, from: usize, count: usize) {
+    if count > 1024 {
+        return;
+    }
+    let mut mask = [true; 1024];
+    positions.put_mask(from, count, &mut mask);
+    for i in 0..1024 {
+        let place = from.saturating_add(i);
+        let inside = place < length && place != 3 && (place < 64 || place >= 128);
+        assert_eq!(rt; mask[i], i < count && inside, "{i} of {count} from {from}");
+    }
+}
+
+/// Masks from places beside the edges of words, of counts beside them.
+fn check_masks(rt: &impl Abort, positions: &Positions, length: usize) {
+    for from in [0, 1, 63, 64, 1000, usize::MAX] {
+        for count in [0, 1, 63, 64, 65, 1023, 1024] {
+            check_mask(rt, positions, length, from, count);
+        }
+    }
+}
+
+#[test]
+fn masks_are_put(rt: HostRuntime) -> Result<(), Fail> {
+    for length in [0, 1, 64, 65, 1024, 1025] {
+        let positions = spotted(rt.alloc(), length)?;
+        check_masks(&rt, &positions, length);
+    }
     Ok(())
 }
 

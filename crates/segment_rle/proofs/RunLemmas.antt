@@ -13,7 +13,7 @@ start_of-push ends e r h = get_or_append_left (0 ∷ ends) (e ∷ []) 0 r (omega
 covered-push : (ends : List ℕ) (e : ℕ) → covered (ends ++ e ∷ []) ≡ e
 covered-push ends e = get_or_push (0 ∷ ends) e 0 (length (ends ++ e ∷ [])) (omega (arith, length_push ends e))
 
-start_of-next : (ends : List ℕ) (r : ℕ) → start_of ends (r + 1) ≡ get_or ends r 0
+pub start_of-next : (ends : List ℕ) (r : ℕ) → start_of ends (r + 1) ≡ get_or ends r 0
 start_of-next ends r = rw (add-one r) refl
 
 -- the end of a run is at most all that the runs cover

@@ -1,7 +1,9 @@
 -- Codes and cells of a scale.
-use Rattle.std.proofs.Common.{◌≡◌, ℕ, ◌+◌, ◌-◌, ◌<◌, ◌≤◌, ◌^◌, ◌↔◌, inl, inr, List, length, get_or, refl, sym, ◌∙◌, ap, arith, ℤ, pos, negsuc, ◌+ℤ◌, ◌-ℤ◌, ◌*ℤ◌, ◌≤ℤ◌, Bool, true, false, cond, All, Contains, Option, None, Some, nat_lt, unsigned_abs, int_div, FitsSigned, IsTrue, w64}
+use Rattle.std.proofs.Common.{◌≡◌, ℕ, ◌+◌, ◌-◌, ◌*◌, ◌<◌, ◌≤◌, ◌^◌, ◌↔◌, inl, inr, List, length, get_or, refl, sym, ◌∙◌, ap, arith, ℤ, pos, negsuc, ◌+ℤ◌, ◌-ℤ◌, ◌*ℤ◌, ◌≤ℤ◌, Bool, true, false, cond, All, Contains, Option, None, Some, nat_lt, unsigned_abs, int_div, FitsSigned, IsTrue, w64}
 use Rattle.std.specs.List.{Any}
-use Rattle.std.proofs.lemmas.Int.{ints}
+use Rattle.std.proofs.lemmas.Int.{ints, unsigned_abs-mul}
+use Rattle.std.proofs.Math.Nat.{dvd-mul_left}
+use Rattle.std.proofs.lemmas.Bool.{cases_lt}
 use Rattle.std.proofs.lemmas.Bool.Decides.{nat_tests}
 use Rattle.std.proofs.lemmas.List.{get_or_default}
 use Rattle.std.proofs.lemmas.List.Elements.{All-contains}
@@ -10,7 +12,7 @@ use Rattle.segment_value.specs.Scales.{numbers_in, null_codes, code_of, cell_of,
 use Rattle.segment_value.proofs.Cells.{number_from_cell, cell_from_number}
 use Rattle.segment_value.proofs.Exponents.{IsExponent-most, IsExponent-divides}
 use Rattle.segment_value.proofs.Powers.{ten_positive}
-use Rattle.segment_value.proofs.Quotients.{quot-mul, quot-le, distance, distance-le}
+use Rattle.segment_value.proofs.Quotients.{quot-mul, quot-le, distance, distance-le, scaled-le, scaled-same}
 
 number_back : (scale : Scale) (n : ℤ) → TakesNumber scale n → scale.base +ℤ pos (code_of scale (Some n) - null_codes scale.nulls) ≡ int_div n (pos (10 ^ scale.exponent))
 number_back scale n takes =
@@ -110,3 +112,61 @@ IsScaleOf-made cells scale least greatest bounds exponent base nulls = record {
   base = rw base (IsBase-from_bounds (numbers_in cells) scale.exponent least greatest bounds);
   nulls = nulls;
 }
+
+-- the number that the base is fits, as it is one of the cells'
+pub base_fits : (cells : List (Option ℤ)) (scale : Scale) → IsScaleOf cells scale → All (Takes scale) cells → FitsSigned w64 (scale.base *ℤ pos (10 ^ scale.exponent))
+base_fits cells scale is takes = go is.base
+  where
+    nothing : (k : ℕ) → FitsSigned w64 (pos 0 *ℤ pos k)
+    nothing k = let e : pos 0 *ℤ pos k ≡ pos 0 = omega (arith, ints) in rw e (record { sfits = omega (arith, ints) })
+
+    go : IsBase (numbers_in cells) scale.exponent scale.base → FitsSigned w64 (scale.base *ℤ pos (10 ^ scale.exponent))
+    go (inl none) = rw none.1 (nothing (10 ^ scale.exponent))
+    go (inr (least, low, e)) =
+        let number : TakesNumber scale least = All-contains (Takes scale) cells (Some least) takes (cell_from_number cells least low.reached) in
+        let product : scale.base *ℤ pos (10 ^ scale.exponent) ≡ least =
+        ap (λ (k : ℤ). k *ℤ pos (10 ^ scale.exponent)) e ∙ quot-mul scale.exponent least number.divides in
+        rw product number.fits
+
+null_code : (nulls : Bool) (code : ℕ) → code < null_codes nulls → IsTrue nulls × (0 ≡ code)
+null_code true code h = (grind arith, omega arith)
+null_code false code h = absurd (omega arith)
+
+code_word : (scale : Scale) (code : ℕ) → IsCode scale code → code < 2 ^ 64
+code_word scale code (None, takes, e) = omega (arith, e)
+code_word scale code (Some n, takes, e) = omega (arith, takes.word, e)
+
+units_back : (base : ℤ) (code nulls : ℕ) → nulls ≤ code → unsigned_abs (base +ℤ pos (code - nulls) -ℤ base) + nulls ≡ code
+units_back base code nulls later = omega (arith, ints)
+
+-- each number up to a code is a code too
+pub IsCode-below : (scale : Scale) (code last : ℕ) → FitsSigned w64 (scale.base *ℤ pos (10 ^ scale.exponent)) → IsCode scale last → code ≤ last → IsCode scale code
+IsCode-below scale code last base is less = elim (cases_lt code (null_codes scale.nulls)) [
+  | inl null ↦ let none = null_code scale.nulls code null in (None, none.0, none.1)
+  | inr later ↦
+      let e : ℕ = scale.exponent in
+      let some = ten_positive e in
+      let top = number_of_code scale last (omega (arith, later, less)) is in
+      let units : ℤ = scale.base +ℤ pos (code - null_codes scale.nulls) in
+      let most : ℤ = scale.base +ℤ pos (last - null_codes scale.nulls) in
+      let n : ℤ = units *ℤ pos (10 ^ e) in
+      let size : unsigned_abs n ≡ unsigned_abs units * 10 ^ e = unsigned_abs-mul units (pos (10 ^ e)) in
+      let divides : Divides e n = rw size (dvd-mul_left (10 ^ e) (unsigned_abs units)) in
+      let back : int_div n (pos (10 ^ e)) ≡ units = scaled-same (int_div n (pos (10 ^ e))) units (10 ^ e) some (quot-mul e n divides) in
+      let high : most *ℤ pos (10 ^ e) ≡ top.0 = ap (λ (k : ℤ). k *ℤ pos (10 ^ e)) top.2 ∙ quot-mul e top.0 top.1.divides in
+      let from = scaled-le scale.base units (10 ^ e) some (omega (arith, ints)) in
+      let to = scaled-le units most (10 ^ e) some (omega (arith, ints, later, less)) in
+      let coded : code_of scale (Some n) ≡ code =
+      ap (λ (q : ℤ). unsigned_abs (q -ℤ scale.base) + null_codes scale.nulls) back ∙ units_back scale.base code (null_codes scale.nulls) later in
+      let word = code_word scale last is in (
+        Some n,
+        record {
+          exponent = top.1.exponent;
+          fits = fits_between (scale.base *ℤ pos (10 ^ e)) n top.0 base top.1.fits from (omega (arith, ints, to, high));
+          divides = divides;
+          above = rw back (omega (arith, ints));
+          word = omega (arith, coded, word, less);
+        },
+        coded,
+      )
+]

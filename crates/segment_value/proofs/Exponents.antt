@@ -1,5 +1,5 @@
 -- The exponent of the numbers so far, as a loop goes on.
-use Rattle.std.proofs.Common.{◌≡◌, ◌≢◌, ℕ, ◌≤◌, ◌⊎◌, inl, inr, List, [], ◌∷◌, ◌++◌, length, get_or, take, drop, refl, sym, ◌∙◌, ap, subst, arith, Option, ℤ, pos, ◌≤ℤ◌, All, length-append}
+use Rattle.std.proofs.Common.{◌≡◌, ◌≢◌, ℕ, ◌≤◌, ◌⊎◌, inl, inr, List, [], ◌∷◌, ◌++◌, get_or, take, drop, refl, sym, ◌∙◌, ap, subst, arith, Option, ℤ, pos, ◌≤ℤ◌, All, length-append}
 use Rattle.std.proofs.lemmas.Int.{ints}
 use Rattle.std.proofs.lemmas.List.{take-append-drop, get_or_append_left}
 use Rattle.std.proofs.lemmas.List.Elements.{All-push, All-nil, All-weaker, filter_map-append}

@@ -4,7 +4,7 @@
 //! Larson et al., SIGMOD 2011, describe value encoding.
 #![tactic(auto)]
 
-ghost use Rattle.std.specs.Prelude.{◌≡◌, ◌≤◌, ◌<◌, ◌^◌, ◌↔◌, ℕ, ℤ, List, [], ◌∷◌, ◌++◌, Contains, IsTrue, None, Some, pos, int_div, unsigned_abs, ◌%◌, ◌+ℤ◌, ◌-ℤ◌, ◌+◌, FitsSigned, All, map, IfOk};
+ghost use Rattle.std.specs.Prelude.{◌≡◌, ◌≤◌, ◌<◌, ◌^◌, ◌↔◌, ℕ, ℤ, List, [], ◌∷◌, ◌++◌, Contains, IsTrue, None, Some, pos, int_div, unsigned_abs, ◌%◌, ◌+ℤ◌, ◌-ℤ◌, ◌+◌, FitsSigned, All, map, slice_index, slice_index_or, unwrap_or, IfOk};
 ghost use Rattle.std.specs.Int.{w64};
 ghost use Rattle.segment_value.specs.Scales.{numbers_in, Divides, AreBounds, IsRange, IsExponent, IsCommonExponent, IsScaling, Takes, IsCode, null_codes, code_of, cell_of};
 
@@ -132,6 +132,50 @@ pub fn restore(scale: Scale, code: u64) -> Option<i64>
     }
     let units = raised(scale.base, code - null_codes);
     Some(units * power_of_ten(scale.exponent) as i64)
+}
+
+/// The numbers of the first `count` codes: those of `restore`, and 0 for the code of NULL. The other places stay as they
+/// are.
+pub fn restore_all(scale: Scale, codes: &[u64; 1024], count: usize, numbers: &mut [i64; 1024])
+    requires exponent { scale.exponent ≤ 18 }
+    requires room { count ≤ 1024 }
+    requires codes { (i : ℕ) → i < count → IsCode scale (slice_index codes.now i) }
+    ensures numbers { (i : ℕ) → i < count → slice_index_or numbers.new i (pos 0) ≡ unwrap_or (cell_of scale (slice_index codes.now i)) (pos 0) }
+    ensures others { (i : ℕ) → count ≤ i → slice_index_or numbers.new i (pos 0) ≡ slice_index_or numbers.old i (pos 0) }
+{
+    by_exponent!(scale.exponent, restore_all_at(scale, codes, count, numbers))
+}
+
+/// As `restore_all`, at an exponent that is known when it is compiled.
+fn restore_all_at<const E: u32>(
+    scale: Scale,
+    codes: &[u64; 1024],
+    count: usize,
+    numbers: &mut [i64; 1024],
+)
+    requires exponent { (scale.exponent ≡ E) × (E ≤ 18) }
+    requires room { count ≤ 1024 }
+    requires codes { (i : ℕ) → i < count → IsCode scale (slice_index codes.now i) }
+    ensures numbers { (i : ℕ) → i < count → slice_index_or numbers.new i (pos 0) ≡ unwrap_or (cell_of scale (slice_index codes.now i)) (pos 0) }
+    ensures others { (i : ℕ) → count ≤ i → slice_index_or numbers.new i (pos 0) ≡ slice_index_or numbers.old i (pos 0) }
+{
+    for i in 0..count {
+        numbers[i] = number_at::<E>(scale, codes[i]);
+    }
+}
+
+/// The number of a code, and 0 for that of NULL, at an exponent that is known when it is compiled.
+#[inline(always)]
+fn number_at<const E: u32>(scale: Scale, code: u64) -> i64
+    requires exponent { (scale.exponent ≡ E) × (E ≤ 18) }
+    requires code { IsCode scale code }
+    ensures { result ≡ unwrap_or (cell_of scale code) (pos 0) }
+{
+    let null_codes = u64::from(scale.nulls);
+    if code < null_codes {
+        return 0;
+    }
+    raised(scale.base, code - null_codes) * power_of_ten(E) as i64
 }
 
 /// Whether the code of the number is a word.

@@ -1,10 +1,11 @@
 use Rattle.std.proofs.Common.{◌≡◌, ◌<◌, ℕ, List, ◌+◌, ◌*◌, ◌≤◌, length, ◌∙◌, sym, ap, subst}
+use Rattle.bit_pack.specs.Codes.{code_at}
 use Rattle.segment_rle.specs.Runs.{covered}
 use Rattle.column_segment.specs.declared.body.SegmentBody.{SegmentBody}
 use Rattle.column_segment.specs.Bodies.{code_in}
 use Rattle.column_segment.proofs.Layouts.{run-code}
 use Rattle.column_segment.proofs.Readings.{room-at}
-use Rattle.column_segment.proofs.Kept.{IsReadable, readable}
+use Rattle.column_segment.proofs.Kept.{IsReadable, readable, known-at}
 use Rattle.column_segment.proofs.segment.Segment.code.Goals as goal
 
 pub lane_width-requires-clause-there : goal.lane_width-requires-clause-there
@@ -45,12 +46,32 @@ run_at-requires-in-DictRuns c =
     let Q : ℕ → Type 0 = λ n. c.args.i < n in
     subst Q (sym reads) c.requires
 
-pub returns-in-ValueRuns : goal.returns-in-ValueRuns
-returns-in-ValueRuns c =
+pub returns-in-ValueRuns-clause-code : goal.returns-in-ValueRuns-clause-code
+returns-in-ValueRuns-clause-code c =
     sym (run-code c.in-ValueRuns.runs.codes c.in-ValueRuns.runs.ends c.args.i _ _ c.in-ValueRuns.runs.in_order c.run_at.ensures.run)
     ∙ sym (ap (λ b. code_in b c.args.i) c.in-ValueRuns.is)
 
-pub returns-in-DictRuns : goal.returns-in-DictRuns
-returns-in-DictRuns c =
+pub returns-in-DictRuns-clause-code : goal.returns-in-DictRuns-clause-code
+returns-in-DictRuns-clause-code c =
     sym (run-code c.in-DictRuns.runs.codes c.in-DictRuns.runs.ends c.args.i _ _ c.in-DictRuns.runs.in_order c.run_at-in-DictRuns.ensures.run)
     ∙ sym (ap (λ b. code_in b c.args.i) c.in-DictRuns.is)
+
+pub returns-in-ValuePacked-clause-known : goal.returns-in-ValuePacked-clause-known
+returns-in-ValuePacked-clause-known c =
+    known-at c.args.self.now.length c.args.self.now.body c.args.self.now.least c.args.self.now.greatest c.args.self.now.nulls c.args.self.now.of_cells c.args.i _ c.requires
+    (c.lane_width.ensures ∙ ap (λ (l : List ℕ). code_at c.in-ValuePacked.width l c.args.i) c.as_slice.ensures ∙ sym (ap (λ b. code_in b c.args.i) c.in-ValuePacked.is))
+
+pub returns-in-DictPacked-clause-known : goal.returns-in-DictPacked-clause-known
+returns-in-DictPacked-clause-known c =
+    known-at c.args.self.now.length c.args.self.now.body c.args.self.now.least c.args.self.now.greatest c.args.self.now.nulls c.args.self.now.of_cells c.args.i _ c.requires
+    (c.lane_width-in-DictPacked.ensures ∙ ap (λ (l : List ℕ). code_at c.in-DictPacked.width l c.args.i) c.as_slice-in-DictPacked.ensures ∙ sym (ap (λ b. code_in b c.args.i) c.in-DictPacked.is))
+
+pub returns-in-ValueRuns-clause-known : goal.returns-in-ValueRuns-clause-known
+returns-in-ValueRuns-clause-known c =
+    known-at c.args.self.now.length c.args.self.now.body c.args.self.now.least c.args.self.now.greatest c.args.self.now.nulls c.args.self.now.of_cells c.args.i _ c.requires
+    (sym (run-code c.in-ValueRuns.runs.codes c.in-ValueRuns.runs.ends c.args.i _ _ c.in-ValueRuns.runs.in_order c.run_at.ensures.run) ∙ sym (ap (λ b. code_in b c.args.i) c.in-ValueRuns.is))
+
+pub returns-in-DictRuns-clause-known : goal.returns-in-DictRuns-clause-known
+returns-in-DictRuns-clause-known c =
+    known-at c.args.self.now.length c.args.self.now.body c.args.self.now.least c.args.self.now.greatest c.args.self.now.nulls c.args.self.now.of_cells c.args.i _ c.requires
+    (sym (run-code c.in-DictRuns.runs.codes c.in-DictRuns.runs.ends c.args.i _ _ c.in-DictRuns.runs.in_order c.run_at-in-DictRuns.ensures.run) ∙ sym (ap (λ b. code_in b c.args.i) c.in-DictRuns.is))

@@ -1,21 +1,14 @@
-use Rattle.std.proofs.Common.{◌≡◌, ℕ, ◌+◌, ◌<◌, length, ◌∙◌, ap, sym, subst, arith}
+use Rattle.std.proofs.Common.{◌≡◌, ◌+◌, ◌<◌, length, ◌∙◌, ap, arith}
 use Rattle.std.proofs.lemmas.List.{length_push}
-use Rattle.column_segment.specs.Bodies.{IsKnown, cell_in, cell_of_code}
-use Rattle.column_segment.proofs.Kept.{known, pushed}
+use Rattle.column_segment.specs.Bodies.{cell_in, cell_of_code}
+use Rattle.column_segment.proofs.Kept.{pushed}
 use Rattle.column_segment.proofs.segment.Segment.decoded.Goals as goal
-
-pub cell_of-requires : goal.cell_of-requires
-cell_of-requires c =
-    let P : ℕ → Type 0 = λ n. IsKnown c.args.self.now.body n in
-    let low : c.loop-i.i < c.args.count = omega (arith, c.loop-i-test.true) in
-    let there : c.args.from + c.loop-i.i < c.args.self.now.length = omega (arith, low, c.requires.there) in
-    subst P (sym (c.codes_from.ensures c.loop-i.i low)) (known c.args.self.now.length c.args.self.now.body c.args.self.now.least c.args.self.now.greatest c.args.self.now.nulls c.args.self.now.of_cells (c.args.from + c.loop-i.i) there)
 
 pub loop-i-preserved : goal.loop-i-preserved
 loop-i-preserved c =
     let low : c.loop-i.i < c.args.count = omega (arith, c.loop-i-test.true) in
     let value : c.in_ok-to_value.field-0 ≡ cell_in c.args.self.now.body (c.args.from + c.loop-i.i) =
-    c.in_ok-to_value.ensures ∙ c.cell_of.ensures ∙ ap (cell_of_code c.args.self.now.body) (c.codes_from.ensures c.loop-i.i low) in
+    c.in_ok-to_value.ensures ∙ c.cell_of.ensures ∙ ap (cell_of_code c.args.self.now.body) (c.code_batch.ensures.codes c.loop-i.i low) in
     let long = c.loop-i.invariant.long in
     record {
       long = ap length c.in_ok-push.ensures.items ∙ length_push c.loop-i.all.items c.in_ok-to_value.field-0 ∙ ap (λ n. n + 1) long;

@@ -1,9 +1,11 @@
-use Rattle.std.proofs.Common.{◌≡◌, ℕ, List, ◌+◌, ◌*◌, ◌≤◌, length, sym, subst}
+use Rattle.std.proofs.Common.{◌≡◌, ℕ, List, ◌+◌, ◌*◌, ◌≤◌, ◌<◌, length, get_or, sym, ap, ◌∙◌, subst, arith}
+use Rattle.bit_pack.specs.Codes.{code_at}
 use Rattle.segment_rle.specs.Runs.{covered}
+use Rattle.column_segment.specs.Bodies.{code_in}
 use Rattle.column_segment.specs.declared.body.SegmentBody.{SegmentBody}
 use Rattle.column_segment.proofs.Readings.{room-between}
-use Rattle.column_segment.proofs.Kept.{IsReadable, readable}
-use Rattle.column_segment.proofs.segment.Segment.codes_from.Goals as goal
+use Rattle.column_segment.proofs.Kept.{IsReadable, readable, known-at}
+use Rattle.column_segment.proofs.segment.Segment.code_batch.Goals as goal
 
 pub unpack_width-requires-clause-there : goal.unpack_width-requires-clause-there
 unpack_width-requires-clause-there c = λ some.
@@ -37,3 +39,29 @@ codes_of_runs-requires-in-DictRuns-clause-there c =
     let reads : covered c.in-DictRuns.runs.ends ≡ c.args.self.now.length = subst P c.in-DictRuns.is (readable c.args.self.now.length c.args.self.now.body c.args.self.now.least c.args.self.now.greatest c.args.self.now.nulls c.args.self.now.of_cells) in
     let Q : ℕ → Type 0 = λ n. c.args.from + c.args.count ≤ n in
     subst Q (sym reads) c.requires.there
+
+pub returns-in-ValuePacked-clause-known : goal.returns-in-ValuePacked-clause-known
+returns-in-ValuePacked-clause-known c = λ i low.
+    let at : c.args.from + i < c.args.self.now.length = omega (arith, low, c.requires.there) in
+    let first : i ≡ 0 + i = omega arith in
+    known-at c.args.self.now.length c.args.self.now.body c.args.self.now.least c.args.self.now.greatest c.args.self.now.nulls c.args.self.now.of_cells (c.args.from + i) _ at
+    (ap (λ k. get_or c.unpack_width.new.out k 0) first ∙ c.unpack_width.ensures.0 i low
+    ∙ ap (λ (l : List ℕ). code_at c.in-ValuePacked.width l (c.args.from + i)) c.as_slice.ensures ∙ sym (ap (λ b. code_in b (c.args.from + i)) c.in-ValuePacked.is))
+
+pub returns-in-DictPacked-clause-known : goal.returns-in-DictPacked-clause-known
+returns-in-DictPacked-clause-known c = λ i low.
+    let at : c.args.from + i < c.args.self.now.length = omega (arith, low, c.requires.there) in
+    let first : i ≡ 0 + i = omega arith in
+    known-at c.args.self.now.length c.args.self.now.body c.args.self.now.least c.args.self.now.greatest c.args.self.now.nulls c.args.self.now.of_cells (c.args.from + i) _ at
+    (ap (λ k. get_or c.unpack_width-in-DictPacked.new.out k 0) first ∙ c.unpack_width-in-DictPacked.ensures.0 i low
+    ∙ ap (λ (l : List ℕ). code_at c.in-DictPacked.width l (c.args.from + i)) c.as_slice-in-DictPacked.ensures ∙ sym (ap (λ b. code_in b (c.args.from + i)) c.in-DictPacked.is))
+
+pub returns-in-ValueRuns-clause-known : goal.returns-in-ValueRuns-clause-known
+returns-in-ValueRuns-clause-known c = λ i low.
+    let at : c.args.from + i < c.args.self.now.length = omega (arith, low, c.requires.there) in
+    known-at c.args.self.now.length c.args.self.now.body c.args.self.now.least c.args.self.now.greatest c.args.self.now.nulls c.args.self.now.of_cells (c.args.from + i) _ at (c.codes_of_runs.ensures.codes i low ∙ sym (ap (λ b. code_in b (c.args.from + i)) c.in-ValueRuns.is))
+
+pub returns-in-DictRuns-clause-known : goal.returns-in-DictRuns-clause-known
+returns-in-DictRuns-clause-known c = λ i low.
+    let at : c.args.from + i < c.args.self.now.length = omega (arith, low, c.requires.there) in
+    known-at c.args.self.now.length c.args.self.now.body c.args.self.now.least c.args.self.now.greatest c.args.self.now.nulls c.args.self.now.of_cells (c.args.from + i) _ at (c.codes_of_runs-in-DictRuns.ensures.codes i low ∙ sym (ap (λ b. code_in b (c.args.from + i)) c.in-DictRuns.is))
