@@ -13,3 +13,7 @@ pub mod FieldLemmas
 pub mod PackLemmas
 pub mod ColumnLemmas
 pub mod PackerLemmas
+pub mod ApartLemmas
+pub mod FewLemmas
+pub mod KeyLemmas
+pub mod CellLemmas

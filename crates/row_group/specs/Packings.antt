@@ -48,6 +48,12 @@ ArePlacesIn order places =
     (length places ≡ length order)
     × ((i : ℕ) → i < length order → (slice_index places i < length order) × (slice_index order (slice_index places i) ≡ i))
 
+-- where each number up to a count stands in an order, or the count itself where the order has it nowhere
+abbrev pub AreFoundIn : List ℕ → List ℕ → Type 0
+AreFoundIn order places =
+    (length places ≡ length order)
+    × ((i : ℕ) → i < length order → slice_index places i < length order → slice_index order (slice_index places i) ≡ i)
+
 -- the rows of a group are those at the places of an order, which has each place once
 pub record IsOrderedBy (rows : List PackedRow) (order : List ℕ) (group : Group) : Type 0 where
   pub all : IsPermutation (range_with_len 0 (length rows)) order

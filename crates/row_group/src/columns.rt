@@ -1,28 +1,28 @@
-ghost use Rattle.std.specs.Prelude.{◌≡◌, ◌≢◌, ◌<◌, ◌++◌, ◌∷◌, [], ℕ, length, map, take, replicate, All, IfOk, OnOk, OnErr};
+ghost use Rattle.std.specs.Prelude.{◌≡◌, ◌<◌, ◌++◌, ◌∷◌, [], ℕ, length, map, take, replicate, All, IfOk, OnOk, OnErr};
 ghost use Rattle.cs_types.specs.Rows.{cell_at};
 ghost use Rattle.column_segment.specs.Bodies.{cell_in};
 ghost use Rattle.row_group.specs.Packings.{AreEven, HaveMore, BeginAs, AreCut, cells_at};
 
+use crate::cells::Cells;
 use crate::packed::Packed;
 use column_segment::Segment;
-use cs_base::{Items, Memory};
-use cs_types::{Row, Value};
+use cs_base::Memory;
+use cs_types::Row;
 use std::alloc::Global;
-use std::mem;
 
 /// So many columns without a cell.
-pub fn empty_columns(alloc: Global, width: usize) -> Result<Vec<Items<Value>>, Memory>
+pub fn empty_columns(alloc: Global, width: usize) -> Result<Vec<Cells>, Memory>
     ensures { IfOk result (λ columns. columns.items ≡ replicate width []) }
 {
     let mut columns = Vec::with_capacity(alloc, width)?;
     for _column in 0..width {
-        columns.push(Items::new(alloc))?;
+        columns.push(Cells::new(alloc))?;
     }
     Ok(columns)
 }
 
 /// Makes room for so many cells more in each column. It changes none.
-pub fn reserve_cells(columns: &mut Vec<Items<Value>>, more: usize) -> Result<(), Memory>
+pub fn reserve_cells(columns: &mut Vec<Cells>, more: usize) -> Result<(), Memory>
     ensures { columns.new.items ≡ columns.old.items }
 {
     for place in 0..columns.len() {
@@ -33,7 +33,7 @@ pub fn reserve_cells(columns: &mut Vec<Items<Value>>, more: usize) -> Result<(),
 
 /// Puts a copy of the row's cell at the end of each column, NULL where it has none. The columns have `count` cells. After
 /// `Memory` nothing has changed.
-pub fn put_row(columns: &mut Vec<Items<Value>>, count: usize, row: &Row) -> Result<(), Memory>
+pub fn put_row(columns: &mut Vec<Cells>, count: usize, row: &Row) -> Result<(), Memory>
     requires { AreEven columns.old.items count }
     ensures ok { OnOk result (HaveMore columns.old.items (λ c. cell_at row.now c ∷ []) columns.new.items) }
     ensures err { OnErr result (columns.new.items ≡ columns.old.items) }
@@ -48,7 +48,7 @@ pub fn put_row(columns: &mut Vec<Items<Value>>, count: usize, row: &Row) -> Resu
 }
 
 /// The same, but after `Memory` some columns may have the cell.
-fn add_row(columns: &mut Vec<Items<Value>>, row: &Row) -> Result<(), Memory>
+fn add_row(columns: &mut Vec<Cells>, row: &Row) -> Result<(), Memory>
     ensures ok { OnOk result (HaveMore columns.old.items (λ c. cell_at row.now c ∷ []) columns.new.items) }
     ensures err { OnErr result (BeginAs columns.old.items columns.new.items) }
 {
@@ -62,7 +62,7 @@ fn add_row(columns: &mut Vec<Items<Value>>, row: &Row) -> Result<(), Memory>
 /// Puts the cells of the rows at some positions of a group at the end of the columns, which have `count` cells. After
 /// `Memory` nothing has changed.
 pub fn put_packed(
-    columns: &mut Vec<Items<Value>>,
+    columns: &mut Vec<Cells>,
     count: usize,
     packed: &Packed,
     positions: &[usize],
@@ -84,11 +84,7 @@ pub fn put_packed(
 }
 
 /// The same, but after `Memory` some columns may have some of the cells.
-fn add_packed(
-    columns: &mut Vec<Items<Value>>,
-    packed: &Packed,
-    positions: &[usize],
-) -> Result<(), Memory>
+fn add_packed(columns: &mut Vec<Cells>, packed: &Packed, positions: &[usize]) -> Result<(), Memory>
     requires width { length columns.old.items ≡ packed.now.width }
     requires within { All (λ position. position < length packed.now.rows) positions.now }
     ensures ok { OnOk result (HaveMore columns.old.items (cells_at packed.now positions.now) columns.new.items) }
@@ -102,11 +98,7 @@ fn add_packed(
 }
 
 /// Puts copies of a segment's cells at some positions at the end of a column.
-fn add_cells(
-    column: &mut Items<Value>,
-    segment: &Segment,
-    positions: &[usize],
-) -> Result<(), Memory>
+fn add_cells(column: &mut Cells, segment: &Segment, positions: &[usize]) -> Result<(), Memory>
     requires { All (λ position. position < segment.now.length) positions.now }
     ensures ok { OnOk result (column.new ≡ column.old ++ map (cell_in segment.now.body) positions.now) }
     ensures err { OnErr result (take (length column.old) column.new ≡ column.old) }
@@ -121,30 +113,10 @@ fn add_cells(
 }
 
 /// Takes away the cells of each column past the first `count`.
-fn cut_columns(columns: &mut Vec<Items<Value>>, count: usize)
+fn cut_columns(columns: &mut Vec<Cells>, count: usize)
     ensures { AreCut count columns.old.items columns.new.items }
 {
     for place in 0..columns.len() {
-        cut(&mut columns[place], count);
-    }
-}
-
-/// Takes away the cells past the first `count`.
-fn cut(column: &mut Items<Value>, count: usize)
-    ensures { column.new ≡ take count column.old }
-{
-    while column.len() > count {
-        let _last = column.pop();
-    }
-}
-
-/// Takes the cell at a place out of a list, NULL past its end.
-pub fn take_cell(cells: &mut Vec<Value>, place: usize) -> Value
-    ensures cell { result ≡ cell_at cells.old.items place }
-    ensures others { (i : ℕ) → i ≢ place → cell_at cells.new.items i ≡ cell_at cells.old.items i }
-{
-    match cells.get_mut(place) {
-        Some(cell) => mem::replace(cell, Value::Null),
-        None => Value::Null,
+        columns[place].truncate(count);
     }
 }

@@ -6,18 +6,19 @@ ghost use Rattle.row_group.specs.Fields.{AreStamps};
 ghost use Rattle.row_group.specs.Arranged.{AreSegmentsOf, KeepColumns, AreKeyCodes, AreNumbers, IsArranged};
 
 use crate::arrange::arranged;
-use crate::order::number_order;
+use crate::cells::Cells;
+use crate::order::code_order;
 use crate::packed::Packed;
 use column_segment::{Segment, encode};
 use cs_base::{Items, Memory};
-use cs_types::{Schema, Value};
+use cs_types::Schema;
 use std::alloc::Global;
 
 /// The group of rows, at the places of an order in which these are codes of their keys.
 pub fn packed_by(
     alloc: Global,
     schema: &Schema,
-    columns: Vec<Items<Value>>,
+    columns: Vec<Cells>,
     begins: &[u64],
     order: &[usize],
     key_codes: &[u64],
@@ -33,7 +34,7 @@ pub fn packed_by(
     requires apart { AllPairs (λ a b. a ≢ b) order.now }
     ensures { IfOk result (λ group. IsArranged columns.items begins.now order.now schema.now.key floor group) }
 {
-    let places = number_order(alloc, key_codes)?;
+    let places = code_order(alloc, key_codes)?;
     let late = late_of(alloc, begins, order, floor)?;
     let segments = segments_of(alloc, schema, columns, order)?;
     Ok(Packed {
@@ -50,7 +51,7 @@ pub fn packed_by(
 fn segments_of(
     alloc: Global,
     schema: &Schema,
-    columns: Vec<Items<Value>>,
+    columns: Vec<Cells>,
     order: &[usize],
 ) -> Result<Items<Segment>, Memory>
     requires counted { length columns.items ≡ length schema.now.columns }

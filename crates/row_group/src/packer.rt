@@ -1,10 +1,11 @@
 use crate::arrange::row_order;
+use crate::cells::Cells;
 use crate::columns::{empty_columns, put_packed, put_row, reserve_cells};
 use crate::order::inverse;
 use crate::pack::packed_by;
 use crate::packed::Packed;
 use cs_base::{Items, Memory};
-use cs_types::{Row, Schema, Value, Version};
+use cs_types::{Row, Schema, Version};
 use std::alloc::Global;
 use std::marker::Model;
 
@@ -13,7 +14,7 @@ use std::marker::Model;
 #[derive(Drop)]
 pub struct Packer {
     /// A list of cells for each column.
-    columns: Vec<Items<Value>>,
+    columns: Vec<Cells>,
     /// The begin of each row.
     begins: Vec<u64>,
 }

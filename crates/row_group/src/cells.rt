@@ -1,0 +1,142 @@
+ghost use Rattle.std.specs.Prelude.{◌≡◌, ◌≢◌, ◌++◌, ◌∷◌, [], ℕ, length, map, take, IfOk, IfSome, OnOk, OnErr};
+ghost use Rattle.cs_types.specs.Rows.{cell_at};
+ghost use Rattle.column_segment.specs.Cells.{number_cell};
+
+use cs_base::Memory;
+use cs_types::Value;
+use std::alloc::Global;
+use std::marker::Model;
+use std::mem;
+
+/// The cells of a column on its way to a segment. Contracts see the list of them. Up to the first text they stand as bare
+/// numbers: so a column of numbers takes half the memory, and is read without a look at what each cell is.
+#[derive(Drop)]
+pub struct Cells {
+    /// The numbers and NULLs before the first text.
+    numbers: Vec<Option<i64>>,
+    /// The first text and what follows it.
+    values: Vec<Value>,
+}
+
+impl Model for Cells {
+    ghost use Rattle.std.specs.Prelude.{List, map, ◌++◌};
+    ghost use Rattle.cs_types.specs.declared.Value.{Value as Cell};
+    ghost use Rattle.column_segment.specs.Cells.{number_cell};
+
+    ghost Value = { List Cell };
+
+    ghost view = { λ cells. map number_cell cells.numbers.items ++ cells.values.items };
+}
+
+impl Cells {
+    /// No cell. It takes no memory.
+    pub fn new(alloc: Global) -> Cells
+        ensures { result ≡ [] }
+    {
+        Cells {
+            numbers: Vec::new(alloc),
+            values: Vec::new(alloc),
+        }
+    }
+
+    /// The allocator that the list was made with.
+    pub fn allocator(&self) -> Global {
+        *self.numbers.allocator()
+    }
+
+    /// The numbers, where no cell is a text.
+    pub fn numbers(&self) -> Option<&[Option<i64>]>
+        ensures { IfSome result (λ numbers. map number_cell numbers.now ≡ self.now) }
+    {
+        if self.values.is_empty() {
+            return Some(self.numbers.as_slice());
+        }
+        None
+    }
+
+    /// The cells before the first text, and the others.
+    pub fn parts(&self) -> (&[Option<i64>], &[Value])
+        ensures { map number_cell result.0.now ++ result.1.now ≡ self.now }
+    {
+        (self.numbers.as_slice(), self.values.as_slice())
+    }
+
+    /// Makes room for so many cells more. It changes none.
+    pub fn reserve(&mut self, more: usize) -> Result<(), Memory>
+        ensures { self.new ≡ self.old }
+    {
+        if self.values.is_empty() {
+            self.numbers.reserve(more)?;
+        } else {
+            self.values.reserve(more)?;
+        }
+        Ok(())
+    }
+
+    /// Adds a cell at the end. After `Memory` nothing has changed.
+    pub fn push(&mut self, cell: Value) -> Result<(), Memory>
+        ensures ok { OnOk result (self.new ≡ self.old ++ cell ∷ []) }
+        ensures err { OnErr result (self.new ≡ self.old) }
+    {
+        if let Some(number) = bare(&cell)
+            && self.values.is_empty()
+        {
+            self.numbers.push(number)?;
+        } else {
+            self.values.push(cell)?;
+        }
+        Ok(())
+    }
+
+    /// Takes away the cells past the first `count`.
+    pub fn truncate(&mut self, count: usize)
+        ensures { self.new ≡ take count self.old }
+    {
+        self.values
+            .truncate(count.saturating_sub(self.numbers.len()));
+        self.numbers.truncate(count);
+    }
+
+    /// Takes the cell at a place out, NULL past the end.
+    pub fn take_at(&mut self, place: usize) -> Value
+        ensures cell { result ≡ cell_at self.old place }
+        ensures others { (i : ℕ) → i ≢ place → cell_at self.new i ≡ cell_at self.old i }
+    {
+        match self.numbers.get(place) {
+            Some(number) => number_value(*number),
+            None => take_cell(&mut self.values, place - self.numbers.len()),
+        }
+    }
+}
+
+/// A cell as a bare number or NULL, None where it is a text.
+fn bare(cell: &Value) -> Option<Option<i64>>
+    ensures { IfSome result (λ number. number_cell number ≡ cell.now) }
+{
+    match cell {
+        Value::Null => Some(None),
+        Value::Number(number) => Some(Some(*number)),
+        Value::Text(_) => None,
+    }
+}
+
+/// A bare number or NULL as a cell.
+pub fn number_value(number: Option<i64>) -> Value
+    ensures { result ≡ number_cell number }
+{
+    match number {
+        None => Value::Null,
+        Some(number) => Value::Number(number),
+    }
+}
+
+/// Takes the cell at a place out of a list, NULL past its end.
+fn take_cell(cells: &mut Vec<Value>, place: usize) -> Value
+    ensures cell { result ≡ cell_at cells.old.items place }
+    ensures others { (i : ℕ) → i ≢ place → cell_at cells.new.items i ≡ cell_at cells.old.items i }
+{
+    match cells.get_mut(place) {
+        Some(cell) => mem::replace(cell, Value::Null),
+        None => Value::Null,
+    }
+}
