@@ -92,11 +92,13 @@ fn commit(alloc: Global, started: &Started) -> Outcome
     ensures { (begun : Begun) → IsBegun begun started.now (bound.Commit) → GivesOn (sizes_of started.now.terms.value) begun result }
 {
     let terms = &*started.terms;
-    let own = started.own.as_slice();
+    let Ok(own) = started.own.copies(alloc) else {
+        return Outcome::Short;
+    };
     match parcel_of(
         alloc,
         &terms.schema,
-        own,
+        &own,
         terms.group_rows,
         terms.direct_rows,
     ) {

@@ -11,12 +11,12 @@ use Rattle.write_set.specs.Writes.{Ascend, put, is_front_below, without_front}
 use Rattle.cs_types.proofs.KeyLemmas.{key_total}
 use Rattle.write_set.proofs.Puts.{Rises, head, tail, all_tail}
 
-all_prefix : (P : Write → Type 0) (xs ys : List Write) → All P (xs ++ ys) → All P xs
+pub all_prefix : (P : Write → Type 0) (xs ys : List Write) → All P (xs ++ ys) → All P xs
 all_prefix P [] ys ps k d l = absurd (omega (arith, l))
 all_prefix P (x ∷ xs) ys ps zero d l = ps 0 d (omega arith)
 all_prefix P (x ∷ xs) ys ps (suc k) d l = all_prefix P xs ys (all_tail P x (xs ++ ys) ps) k d (omega arith)
 
-all_suffix : (P : Write → Type 0) (xs ys : List Write) → All P (xs ++ ys) → All P ys
+pub all_suffix : (P : Write → Type 0) (xs ys : List Write) → All P (xs ++ ys) → All P ys
 all_suffix P [] ys ps = ps
 all_suffix P (x ∷ xs) ys ps = all_suffix P xs ys (all_tail P x (xs ++ ys) ps)
 
@@ -24,6 +24,11 @@ all_suffix P (x ∷ xs) ys ps = all_suffix P xs ys (all_tail P x (xs ++ ys) ps)
 pub Ascend-prefix : (xs ys : List Write) → Ascend (xs ++ ys) → Ascend xs
 Ascend-prefix [] ys up = λ i j d l there. absurd (omega (arith, there))
 Ascend-prefix (x ∷ xs) ys up = AllPairs-cons Rises x xs (all_prefix (Rises x) xs ys (head x (xs ++ ys) up)) (Ascend-prefix xs ys (tail x (xs ++ ys) up))
+
+-- and so is the rest
+pub Ascend-suffix : (xs ys : List Write) → Ascend (xs ++ ys) → Ascend ys
+Ascend-suffix [] ys up = up
+Ascend-suffix (x ∷ xs) ys up = Ascend-suffix xs ys (tail x (xs ++ ys) up)
 
 back : (a b : Key) (o : Ordering) → key_cmp a b ≡ o → key_cmp b a ≡ ordering_reverse o
 back a b o e = key_total.antisymm b a ∙ ap ordering_reverse e

@@ -1,3 +1,5 @@
 pub mod Laid
 pub mod Orders
+pub mod PartOrders
+pub mod PartWrites
 pub mod Puts

@@ -1,149 +1,156 @@
 // The list of writes that shares of it have in common.
-ghost use Rattle.std.specs.Prelude.{◌≡◌, ◌+◌, ◌<◌, ◌≤◌, IfOk, IfErr, OnOk, OnErr, vec_len, vec_capacity, length};
-ghost use Rattle.write_set.specs.Writes.{Ascend, IsFoundAt, IsGapFor, IsPlaceOf, put, staged};
+ghost use Rattle.std.specs.Prelude.{◌≡◌, ◌+◌, ◌<◌, ◌++◌, [], length, slice_get, Some, IfOk, OnOk, OnErr};
+ghost use Rattle.write_set.specs.Parts.{joined};
+ghost use Rattle.write_set.specs.Writes.{Ascend, IsPlaceOf, put, staged};
 
+use crate::chunk::search;
 use crate::merge::lay_all;
 use crate::order::{in_order, is_in_order};
+use crate::part::Part;
+use crate::parts::{copies_of, part_at, part_for, put_among, share_each};
 use crate::write::Write;
 use cs_base::Memory;
 use cs_types::Key;
 use std::alloc::Global;
 use std::marker::Model;
-use std::mem;
 
-/// Writes in the order of their keys, one for each key. Contracts see the list of them.
+/// Writes in the order of their keys, one for each key. Contracts see the list of them. They stand in chunks of at most 128
+/// writes, which lists may share, so that a write more touches one chunk.
 #[derive(Debug, Drop)]
 pub struct Writes {
-    items: Vec<Write>,
+    parts: Vec<Part>,
+    len: usize,
 }
 
 impl Model for Writes {
-    ghost use Rattle.std.specs.Prelude.{List};
+    ghost use Rattle.std.specs.Prelude.{◌^◌, ◌<◌, List};
     ghost use Rattle.write_set.specs.declared.write.Write.{Write};
-    ghost use Rattle.write_set.specs.Writes.{Ascend};
+    ghost use Rattle.write_set.specs.Parts.{joined, AreParts};
 
     ghost Value = { List Write };
 
-    ghost view = { λ writes. writes.items.items };
+    ghost view = { λ writes. joined writes.parts.items };
 
-    ghost invariant = { λ writes. Ascend writes.items.items };
+    ghost invariant = { λ writes. AreParts writes.parts.items writes.len × (writes.len < 2 ^ 64) };
 }
 
 impl Writes {
-    /// The writes of a list that is in order. It takes no memory.
-    pub fn from_vec(items: Vec<Write>) -> Writes
-        requires { Ascend items.items }
-        ensures { result ≡ items.items }
+    /// No writes. It takes no memory.
+    pub fn new(alloc: Global) -> Writes
+        ensures { result ≡ [] }
     {
-        Writes { items }
+        Writes {
+            parts: Vec::new(alloc),
+            len: 0,
+        }
     }
 
-    /// A vector of the writes. It takes no memory.
-    pub fn into_vec(self) -> Vec<Write>
-        ensures { result.items ≡ self }
-    {
-        let Writes { items } = self;
-        items
-    }
-
-    /// The writes as a slice.
-    pub fn as_slice(&self) -> &[Write]
-        ensures value { result.now ≡ self.now }
+    /// The number of writes.
+    pub fn len(&self) -> usize
+        ensures value { result ≡ length self.now }
         ensures order { Ascend self.now }
     {
-        self.items.as_slice()
+        self.len
     }
 
-    /// The same writes, in a list of its own.
-    pub fn copy(&self) -> Result<Writes, Memory>
-        ensures { IfOk result (λ copied. copied ≡ self.now) }
+    /// The write at a place.
+    pub fn get(&self, i: usize) -> &Write
+        requires { i < length self.now }
+        ensures { slice_get self.now i ≡ Some result.now }
     {
-        let items = copy_items(*self.items.allocator(), &self.items)?;
-        Ok(Writes { items })
+        let part = &self.parts[part_at(&self.parts, i)];
+        &part.as_slice()[i - part.from()]
     }
 
-    /// Lays writes over these, one for each key, the last one standing. After `Memory` nothing has changed.
-    pub fn stage(&mut self, writes: Vec<Write>) -> Result<(), Memory>
-        ensures ok { OnOk result (self.new ≡ staged self.old writes.items) }
+    /// The place of the key's write. None exactly where the key has none.
+    pub fn find(&self, key: Key) -> Option<usize>
+        ensures place { IsPlaceOf self.now key result }
+        ensures order { Ascend self.now }
+    {
+        let Some(at) = part_for(&self.parts, key) else {
+            return None;
+        };
+        let part = &self.parts[at];
+        match search(part.as_slice(), key) {
+            Ok(place) => Some(part.from() + place),
+            Err(_) => None,
+        }
+    }
+
+    /// The same writes in a list of its own, whose chunks both share.
+    pub fn share(&self) -> Result<Writes, Memory>
+        ensures { IfOk result (λ shared. shared ≡ self.now) }
+    {
+        let parts = share_each(*self.parts.allocator(), &self.parts)?;
+        Ok(Writes {
+            parts,
+            len: self.len,
+        })
+    }
+
+    /// Copies of the writes.
+    pub fn copies(&self, alloc: Global) -> Result<Vec<Write>, Memory>
+        ensures value { IfOk result (λ copied. copied.items ≡ self.now) }
+        ensures order { Ascend self.now }
+    {
+        copies_of(alloc, &self.parts, self.len)
+    }
+
+    /// Puts a write in its place. After `Memory` nothing has changed.
+    pub fn put(&mut self, alloc: Global, write: Write) -> Result<(), Memory>
+        ensures ok { OnOk result (self.new ≡ put self.old write) }
         ensures err { OnErr result (self.new ≡ self.old) }
     {
-        if is_put_each(&self.items, &writes) {
-            self.items.reserve(writes.len())?;
-            put_all(&mut self.items, writes);
-            return Ok(());
-        }
-        let writes = in_order(writes)?;
-        let alloc = *self.items.allocator();
-        let room = Vec::with_capacity(alloc, self.items.len() + writes.len())?;
-        let own = mem::replace(&mut self.items, room);
-        lay_all(&mut self.items, own, writes);
+        self.len = put_among(&mut self.parts, alloc, self.len, write)?;
         Ok(())
     }
-}
 
-/// So many writes are put each in its place.
-const FEW: usize = 8;
-
-/// Whether it is faster to put each write in its place than to go over the whole list: they are few, or they follow it in
-/// the order of their keys.
-fn is_put_each(own: &[Write], writes: &[Write]) -> bool {
-    if writes.len() <= FEW {
-        return true;
-    }
-    let follow = match (own.last(), writes.first()) {
-        (Some(last), Some(first)) => last.key < first.key,
-        _ => true,
-    };
-    follow && is_in_order(writes)
-}
-
-fn copy_items(alloc: Global, items: &[Write]) -> Result<Vec<Write>, Memory>
-    ensures { IfOk result (λ copied. copied.items ≡ items.now) }
-{
-    let mut copied = Vec::with_capacity(alloc, items.len())?;
-    for write in items {
-        copied.push(write.copy()?)?;
-    }
-    Ok(copied)
-}
-
-/// Where the write of a key is, or where it would go.
-pub fn search(items: &[Write], key: Key) -> Result<usize, usize>
-    requires { Ascend items.now }
-    ensures found { IfOk result (IsFoundAt items.now key) }
-    ensures absent { IfErr result (IsGapFor items.now key) }
-{
-    items.binary_search_by_key(&key, |write| write.key)
-}
-
-/// Puts a write in its place. There is room for it.
-pub fn put_one(items: &mut Vec<Write>, write: Write)
-    requires order { Ascend items.old.items }
-    requires room { vec_len items.old < vec_capacity items.old }
-    ensures items { items.new.items ≡ put items.old.items write }
-    ensures order { Ascend items.new.items }
-    ensures len { vec_len items.new ≤ vec_len items.old + 1 }
-    ensures room { vec_capacity items.new ≡ vec_capacity items.old }
-{
-    match search(items, write.key) {
-        Ok(at) => {
-            items[at] = write;
+    /// A list with writes laid over these, one for each key, the last one standing. Both lists share the chunks that these
+    /// writes leave as they are, where they are few or follow the list.
+    pub fn with(&self, writes: Vec<Write>) -> Result<Writes, Memory>
+        ensures { IfOk result (λ list. list ≡ staged self.now writes.items) }
+    {
+        if self.is_put_each(&writes) {
+            laid(self.share()?, writes)
+        } else {
+            self.merged(writes)
         }
-        Err(at) => match items.insert(at, write) {
-            Ok(()) => {}
-            Err(_) => unreachable!(),
-        },
+    }
+
+    /// Whether it is faster to put each write in its place than to go over all of the list: they are few beside it, or they
+    /// follow it in the order of their keys.
+    fn is_put_each(&self, writes: &[Write]) -> bool {
+        let follow = match (self.parts.last(), writes.first()) {
+            (Some(last), Some(first)) => last.is_below(first.key),
+            _ => true,
+        };
+        writes.len() <= self.len / FEW || (follow && is_in_order(writes))
+    }
+
+    /// A list with writes laid over these in one pass.
+    fn merged(&self, writes: Vec<Write>) -> Result<Writes, Memory>
+        ensures { IfOk result (λ list. list ≡ staged self.now writes.items) }
+    {
+        let alloc = *writes.allocator();
+        let writes = in_order(writes)?;
+        let own = self.copies(alloc)?;
+        let mut all = Vec::with_capacity(alloc, own.len() + writes.len())?;
+        lay_all(&mut all, own, writes);
+        laid(Writes::new(alloc), all)
     }
 }
 
-/// Puts each write in its place, in turn. There is room for them.
-fn put_all(items: &mut Vec<Write>, writes: Vec<Write>)
-    requires order { Ascend items.old.items }
-    requires room { vec_len items.old + vec_len writes ≤ vec_capacity items.old }
-    ensures items { items.new.items ≡ staged items.old.items writes.items }
-    ensures order { Ascend items.new.items }
+/// Of a list's writes such a part is few.
+const FEW: usize = 32;
+
+/// Puts each write in its place, in turn.
+pub fn laid(list: Writes, writes: Vec<Write>) -> Result<Writes, Memory>
+    ensures { IfOk result (λ laid. laid ≡ staged list writes.items) }
 {
+    let alloc = *writes.allocator();
+    let mut list = list;
     for write in writes {
-        put_one(items, write);
+        list.put(alloc, write)?;
     }
+    Ok(list)
 }

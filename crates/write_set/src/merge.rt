@@ -3,7 +3,7 @@ ghost use Rattle.std.specs.Prelude.{◌≡◌, ◌+◌, ◌<◌, ◌≤◌, ◌+
 ghost use Rattle.std.specs.VecDeque.{deque_len};
 ghost use Rattle.write_set.specs.Writes.{Ascend, put, staged, is_front_below, is_front_of, without_front};
 
-use crate::list::put_one;
+use crate::chunk::put_one;
 use crate::write::Write;
 use cs_types::Key;
 use std::collections::VecDeque;

@@ -1,7 +1,7 @@
-ghost use Rattle.std.specs.Prelude.{◌≡◌, ◌<◌, ◌↔◌, [], length, slice_get, IsTrue, IfOk, IfErr, OnOk, OnErr, Some};
-ghost use Rattle.write_set.specs.Writes.{Ascend, IsPlaceOf, staged};
+ghost use Rattle.std.specs.Prelude.{◌≡◌, ◌<◌, ◌↔◌, [], ◌∷◌, length, slice_get, IsTrue, IfOk, IfErr, OnOk, OnErr, Some};
+ghost use Rattle.write_set.specs.Writes.{Ascend, IsPlaceOf, put, staged};
 
-use crate::list::{Writes, search};
+use crate::list::{Writes, laid};
 use crate::write::Write;
 use cs_base::Memory;
 use cs_types::Key;
@@ -10,7 +10,8 @@ use std::marker::Model;
 use std::sync::Arc;
 
 /// The own writes of a transaction, in the order of their keys, one for each key. Contracts see the list of them. Shares
-/// of one list copy none of the writes, and what is staged later is not seen through them.
+/// of one list copy none of the writes, and what is staged later is not seen through them. One write staged touches one chunk
+/// of at most 128 writes.
 #[derive(Debug, Drop)]
 pub struct Own {
     /// None where there is no write.
@@ -40,8 +41,9 @@ impl Own {
         requires { Ascend writes.items }
         ensures { IfOk result (λ own. own ≡ writes.items) }
     {
+        let writes = laid(Writes::new(alloc), writes)?;
         Ok(Own {
-            shared: Some(Arc::new(alloc, Writes::from_vec(writes))?),
+            shared: Some(Arc::new(alloc, writes)?),
         })
     }
 
@@ -57,29 +59,23 @@ impl Own {
         }
     }
 
-    /// The writes as a slice. Their keys ascend strictly.
-    pub fn as_slice(&self) -> &[Write]
-        ensures value { result.now ≡ self.now }
+    /// The number of writes. Their keys ascend strictly.
+    pub fn len(&self) -> usize
+        ensures value { result ≡ length self.now }
         ensures order { Ascend self.now }
     {
         match &self.shared {
-            None => &[],
-            Some(writes) => writes.as_slice(),
+            None => 0,
+            Some(writes) => writes.len(),
         }
     }
 
-    /// The number of writes.
-    pub fn len(&self) -> usize
-        ensures { result ≡ length self.now }
-    {
-        self.as_slice().len()
-    }
-
-    /// Whether there is no write.
+    /// Whether there is no write. The keys ascend strictly.
     pub fn is_empty(&self) -> bool
-        ensures { IsTrue result ↔ (self.now ≡ []) }
+        ensures value { IsTrue result ↔ (self.now ≡ []) }
+        ensures order { Ascend self.now }
     {
-        self.as_slice().is_empty()
+        self.len() == 0
     }
 
     /// The write at a place.
@@ -87,7 +83,10 @@ impl Own {
         requires { i < length self.now }
         ensures { slice_get self.now i ≡ Some result.now }
     {
-        &self.as_slice()[i]
+        match &self.shared {
+            None => unreachable!(),
+            Some(writes) => writes.get(i),
+        }
     }
 
     /// The place of the key's write. None exactly where the key has none.
@@ -95,7 +94,21 @@ impl Own {
         ensures place { IsPlaceOf self.now key result }
         ensures order { Ascend self.now }
     {
-        search(self.as_slice(), key).ok()
+        match &self.shared {
+            None => None,
+            Some(writes) => writes.find(key),
+        }
+    }
+
+    /// Copies of the writes. Their keys ascend strictly.
+    pub fn copies(&self, alloc: Global) -> Result<Vec<Write>, Memory>
+        ensures value { IfOk result (λ copied. copied.items ≡ self.now) }
+        ensures order { Ascend self.now }
+    {
+        match &self.shared {
+            None => Ok(Vec::new(alloc)),
+            Some(writes) => writes.copies(alloc),
+        }
     }
 
     /// Lays writes over these, one for each key, the last one standing. Other shares keep what they have. After `Memory`
@@ -112,40 +125,6 @@ impl Own {
             }
         }
     }
-
-    /// The writes, moved where no other share has them, and copied where one has. On `Err`, for want of memory, they come
-    /// back.
-    pub fn into_vec(self, alloc: Global) -> Result<Vec<Write>, Own>
-        ensures ok { IfOk result (λ writes. writes.items ≡ self) }
-        ensures err { IfErr result (λ back. back ≡ self) }
-    {
-        let Own { shared } = self;
-        let Some(shared) = shared else {
-            return Ok(Vec::new(alloc));
-        };
-        match unshared(shared) {
-            Ok(writes) => Ok(writes.into_vec()),
-            Err(shared) => Err(Own {
-                shared: Some(shared),
-            }),
-        }
-    }
-}
-
-/// What is shared, alone: as it is where no one else has it, and else a copy.
-fn unshared(shared: Arc<Writes>) -> Result<Writes, Arc<Writes>>
-    ensures ok { IfOk result (λ own. own ≡ shared.value) }
-    ensures err { IfErr result (λ back. back ≡ shared) }
-{
-    let shared = match Arc::try_unwrap(shared) {
-        Ok(own) => return Ok(own),
-        Err(shared) => shared,
-    };
-    let copied = shared.copy();
-    match copied {
-        Ok(own) => Ok(own),
-        Err(Memory) => Err(shared),
-    }
 }
 
 /// The first writes of a transaction.
@@ -153,29 +132,58 @@ fn first_staged(writes: Vec<Write>) -> Result<Arc<Writes>, Memory>
     ensures { IfOk result (λ own. own.value ≡ staged [] writes.items) }
 {
     let alloc = *writes.allocator();
-    let mut own = Writes::from_vec(Vec::new(alloc));
-    own.stage(writes)?;
+    let own = Writes::new(alloc).with(writes)?;
     Ok(Arc::new(alloc, own)?)
 }
 
-/// Lays writes over what is shared: in place where no one else has it, and else over a copy.
+/// The only write of some. They come back where there are none or more.
+fn only(writes: Vec<Write>) -> Result<Write, Vec<Write>>
+    ensures ok { IfOk result (λ write. writes.items ≡ write ∷ []) }
+    ensures err { IfErr result (λ back. back.items ≡ writes.items) }
+{
+    let mut writes = writes;
+    if writes.len() != 1 {
+        return Err(writes);
+    }
+    match writes.pop() {
+        Some(write) => Ok(write),
+        None => unreachable!(),
+    }
+}
+
+/// Lays writes over what is shared: one write in place where no one else has the list, and else over a list that shares
+/// its chunks.
 fn stage_in(shared: &mut Arc<Writes>, writes: Vec<Write>) -> Result<(), Memory>
     ensures ok { OnOk result (shared.new.value ≡ staged shared.old.value writes.items) }
     ensures err { OnErr result (shared.new.value ≡ shared.old.value) }
 {
-    match Arc::get_mut(shared) {
-        Some(own) => own.stage(writes),
-        None => stage_copy(shared, writes),
+    let alloc = *writes.allocator();
+    match only(writes) {
+        Ok(write) => put_in(shared, alloc, write),
+        Err(writes) => {
+            let own = shared.with(writes)?;
+            *shared = Arc::new(alloc, own)?;
+            Ok(())
+        }
     }
 }
 
-fn stage_copy(shared: &mut Arc<Writes>, writes: Vec<Write>) -> Result<(), Memory>
-    ensures ok { OnOk result (shared.new.value ≡ staged shared.old.value writes.items) }
+fn put_in(shared: &mut Arc<Writes>, alloc: Global, write: Write) -> Result<(), Memory>
+    ensures ok { OnOk result (shared.new.value ≡ put shared.old.value write) }
     ensures err { OnErr result (shared.new.value ≡ shared.old.value) }
 {
-    let alloc = *writes.allocator();
-    let mut own = shared.copy()?;
-    own.stage(writes)?;
+    match Arc::get_mut(shared) {
+        Some(own) => own.put(alloc, write),
+        None => put_beside(shared, alloc, write),
+    }
+}
+
+fn put_beside(shared: &mut Arc<Writes>, alloc: Global, write: Write) -> Result<(), Memory>
+    ensures ok { OnOk result (shared.new.value ≡ put shared.old.value write) }
+    ensures err { OnErr result (shared.new.value ≡ shared.old.value) }
+{
+    let mut own = shared.share()?;
+    own.put(alloc, write)?;
     *shared = Arc::new(alloc, own)?;
     Ok(())
 }

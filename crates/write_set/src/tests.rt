@@ -2,6 +2,7 @@ use crate::{Own, Write};
 use cs_base::Memory;
 use cs_types::{Key, Row, Value};
 use std::alloc::Global;
+use std::mem;
 use std::test::Fail;
 
 /// A write of a row of one number, or of nothing.
@@ -32,9 +33,8 @@ fn writes_are_listed(rt: HostRuntime) -> Result<(), Fail> {
         (own.len(), own.find(Key(-3)), own.find(Key(3))),
         (1, Some(0), None)
     );
-    for listed in own.as_slice() {
-        assert!(rt; listed.key == only.key && listed.row == only.row);
-    }
+    let listed = own.get(0);
+    assert!(rt; listed.key == only.key && listed.row == only.row);
     Ok(())
 }
 
@@ -65,18 +65,12 @@ fn writes_are_staged(rt: HostRuntime) -> Result<(), Fail> {
         assert_eq!(rt; own.find(Key(key)), place, "of {key}");
     }
     assert_eq!(rt; shared.find(Key(7)), None);
-    assert!(rt;
-        own.as_slice()
-            .iter()
-            .all(|write| write.row.is_none() == (write.key == Key(2)))
-    );
-    assert!(rt; shared.as_slice().iter().all(|write| write.row.is_some()));
-    let again = own.share()?;
-    for own in [own, again] {
-        match own.into_vec(alloc) {
-            Ok(writes) => assert_eq!(rt; writes.len(), 4),
-            Err(_) => return Err(Fail::from(Memory)),
-        }
+    for i in 0..own.len() {
+        let write = own.get(i);
+        assert!(rt; write.row.is_none() == (write.key == Key(2)));
+    }
+    for write in shared.copies(alloc)? {
+        assert!(rt; write.row.is_some());
     }
     Ok(())
 }
@@ -102,12 +96,111 @@ fn many_writes_are_staged(rt: HostRuntime) -> Result<(), Fail> {
         46, 42, 38, 34, 30, 26, 45, 41, 37, 33, 29, 25, 44, 40, 36, 32, 28, 24, 43, 39, 35, 31, 27,
     ];
     assert_eq!(rt; own.len(), numbers.len());
-    for (write, number) in own.as_slice().iter().zip(numbers) {
-        let expected = scattered(alloc, number)?;
+    for i in 0..own.len() {
+        let Some(number) = numbers.get(i) else {
+            return Err(Fail::from(Memory));
+        };
+        let write = own.get(i);
+        let expected = scattered(alloc, *number)?;
         assert!(rt;
             write.key == expected.key && write.row == expected.row,
             "of {number}"
         );
+    }
+    Ok(())
+}
+
+/// In which order keys are staged.
+#[derive(Clone, Copy)]
+enum Order {
+    Up,
+    Down,
+    Scattered,
+}
+
+/// The i-th key in an order, the first 1,009 of them being different.
+fn key_of(order: Order, i: u16) -> i64 {
+    match order {
+        Order::Up => i64::from(i),
+        Order::Down => 1_009 - i64::from(i),
+        Order::Scattered => i64::from(i) * 389 % 1_009,
+    }
+}
+
+/// So many writes in an order, staged so many at a time, with a share held at each time or not.
+fn staged(
+    alloc: Global,
+    order: Order,
+    count: u16,
+    step: usize,
+    held: bool,
+) -> Result<(Own, Own), Memory> {
+    let mut own = Own::empty();
+    let mut share = own.share()?;
+    let mut writes = Vec::new(alloc);
+    for i in 0..count {
+        let number = key_of(order, i);
+        writes.push(write(alloc, number, Some(number))?)?;
+        if writes.len() == step {
+            own.stage(mem::replace(&mut writes, Vec::new(alloc)))?;
+        }
+        if held {
+            share = own.share()?;
+        }
+    }
+    own.stage(writes)?;
+    Ok((own, share))
+}
+
+/// Whether the keys ascend, each is found in its place and has its row, and none is found between them.
+fn is_list(own: &Own, count: usize) -> bool {
+    let mut last = Key(-1);
+    for i in 0..own.len() {
+        let write = own.get(i);
+        let number = match &write.row {
+            Some(row) => row.cell(0) == &Value::Number(write.key.0),
+            None => false,
+        };
+        if write.key <= last || !number || own.find(write.key) != Some(i) {
+            return false;
+        }
+        last = write.key;
+    }
+    own.len() == count && own.find(Key(-1)).is_none() && own.find(Key(5_000)).is_none()
+}
+
+/// Lists at the edges of their chunks, whichever way they grew.
+#[test]
+fn chunks_have_edges(rt: HostRuntime) -> Result<(), Fail> {
+    let alloc = rt.alloc();
+    for order in [Order::Up, Order::Down, Order::Scattered] {
+        for count in [1, 127, 128, 129, 256, 257, 1_000] {
+            for step in [1, 2, 40] {
+                let (own, _) = staged(alloc, order, count, step, false)?;
+                assert!(rt; is_list(&own, usize::from(count)), "{count} by {step}");
+            }
+        }
+    }
+    Ok(())
+}
+
+/// A share keeps what it had, whatever its owner does to chunks that both have.
+#[test]
+fn shares_stay(rt: HostRuntime) -> Result<(), Fail> {
+    let alloc = rt.alloc();
+    for order in [Order::Up, Order::Down, Order::Scattered] {
+        for step in [1, 7] {
+            let (mut own, share) = staged(alloc, order, 300, step, true)?;
+            for i in 0..300 {
+                let number = key_of(order, i);
+                own.stage(vec![in alloc; write(alloc, number, None)?]?)?;
+            }
+            assert!(rt; is_list(&share, share.len()) && 290 <= share.len());
+            assert_eq!(rt; own.len(), 300);
+            for i in 0..own.len() {
+                assert!(rt; own.get(i).row.is_none());
+            }
+        }
     }
     Ok(())
 }

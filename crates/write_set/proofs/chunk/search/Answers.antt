@@ -2,7 +2,7 @@ use Rattle.std.proofs.Common.{rules}
 use Rattle.std.proofs.lemmas.List.Sorted.{answers_always}
 use Rattle.write_set.specs.declared.write.Write.{Write}
 use Rattle.write_set.proofs.Puts.{searched}
-use Rattle.write_set.proofs.list.search.Goals as goal
+use Rattle.write_set.proofs.chunk.search.Goals as goal
 
 pub returns-clause-found : goal.returns-clause-found
 returns-clause-found c =

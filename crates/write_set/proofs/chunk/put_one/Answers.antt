@@ -1,6 +1,6 @@
 use Rattle.std.proofs.Common.{sym, ◌∙◌}
 use Rattle.write_set.proofs.Puts.{put-found, put-gap, Ascend-put}
-use Rattle.write_set.proofs.list.put_one.Goals as goal
+use Rattle.write_set.proofs.chunk.put_one.Goals as goal
 
 pub returns-in-Ok-clause-items : goal.returns-in-Ok-clause-items
 returns-in-Ok-clause-items c =
