@@ -16,7 +16,7 @@ const OWN: usize = 1024;
 /// memory.
 ///
 /// New keys go into a run that is the index's own. Before it grows too long, and when the index is shared, it becomes the
-/// newest of the runs that shares have in common and that never change; these are merged as they double. So n keys cost
+/// newest of the runs that shares have in common and that never change; these are merged as they grow. So n keys cost
 /// O(n log n) in whatever order they come, and a search looks into O(log n) runs. The form is the logarithmic method of
 /// Bentley and Saxe (Journal of Algorithms 1, 1980).
 #[derive(Debug, Drop)]

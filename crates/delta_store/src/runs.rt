@@ -58,8 +58,9 @@ pub fn share(runs: &[Arc<Run>], alloc: Global) -> Result<Vec<Arc<Run>>, Memory>
     Ok(shared)
 }
 
-/// Merges the newest runs, until each is less than half as long as the next older one. So there are O(log n) runs, and
-/// each pair is merged O(log n) times.
+/// Merges the newest runs, until each is less than a quarter as long as the next older one. So there are O(log n) runs, and
+/// each pair is merged O(log n) times. A search looks into every run where the key is new, so that few of them are worth more
+/// than few merges.
 pub fn merge_newest(runs: &mut Vec<Arc<Run>>, alloc: Global) -> Result<(), Memory>
     ensures { HaveSamePlaces (pairs_of runs.old.items) (pairs_of runs.new.items) }
 {
@@ -69,12 +70,12 @@ pub fn merge_newest(runs: &mut Vec<Arc<Run>>, alloc: Global) -> Result<(), Memor
     Ok(())
 }
 
-/// Whether the newest run is at least half as long as the next older one.
+/// Whether the newest run is at least a quarter as long as the next older one.
 fn is_newest_long(runs: &[Arc<Run>]) -> bool
     ensures { OnTrue result (2 ≤ length runs.now) }
 {
     let n = runs.len();
-    n >= 2 && runs[n - 2].len() / 2 <= runs[n - 1].len()
+    n >= 2 && runs[n - 2].len() / 4 <= runs[n - 1].len()
 }
 
 /// Makes the two newest runs one.
