@@ -1,5 +1,5 @@
 -- The states of a group, and which follow each other.
-use Rattle.std.specs.Prelude.{◌≡◌, ℕ, ◌⊎◌, ◌==◌, List, [], ◌∷◌, Contains, if◌then◌else◌}
+use Rattle.std.specs.Prelude.{◌≡◌, ◌≢◌, ℕ, ◌<◌, ◌≤◌, ◌⊎◌, ◌==◌, List, [], ◌∷◌, Contains, if◌then◌else◌}
 use Rattle.group_book.specs.Book.{Content, Group, Book}
 use Rattle.group_book.specs.Book.Content.{Opened, Closed, Compressed, Invisible, Tombstone}
 
@@ -27,8 +27,7 @@ state_of (group ∷ groups) id = if group.id == id then state_in group.content e
 -- what a mover's event makes of a group that it changes
 abbrev pub mover_transitions : List (State × State)
 mover_transitions =
-    (IsOpen, IsClosed)
-    ∷ (Absent, IsInvisible)
+    (Absent, IsInvisible)
     ∷ (IsInvisible, IsCompressed)
     ∷ (IsInvisible, Absent)
     ∷ (IsClosed, IsTombstone)
@@ -40,6 +39,13 @@ mover_transitions =
 abbrev pub commit_transitions : List (State × State)
 commit_transitions = (Absent, IsOpen) ∷ (IsOpen, IsClosed) ∷ (Absent, IsClosed) ∷ (Absent, IsCompressed) ∷ []
 
--- from the first book to the second each group stays in its state, or makes one of these transitions
-abbrev pub GroupsMoveBy : List (State × State) → Book → Book → Type 0
-GroupsMoveBy transitions before after = (id : ℕ) → (state_of before.groups id ≡ state_of after.groups id) ⊎ Contains transitions (state_of before.groups id, state_of after.groups id)
+-- what a close makes of the open store
+abbrev pub close_transitions : List (State × State)
+close_transitions = (IsOpen, IsClosed) ∷ []
+
+-- from the first book to the second each group stays in its state, or makes one of these transitions; the next id does not
+-- fall, and an id that gets a group is drawn on the way: it is at least the old next id, and below the new one
+pub record GroupsMoveBy (transitions : List (State × State)) (before after : Book) : Type 0 where
+  pub each : (id : ℕ) → (state_of before.groups id ≡ state_of after.groups id) ⊎ Contains transitions (state_of before.groups id, state_of after.groups id)
+  pub next : before.next ≤ after.next
+  pub drawn : (id : ℕ) → state_of before.groups id ≡ Absent → state_of after.groups id ≢ Absent → (before.next ≤ id) × (id < after.next)

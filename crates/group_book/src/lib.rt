@@ -4,8 +4,9 @@
 //! What is proved: from the floor on each snapshot sees its table; a risen floor, a claim, an install, a release, a settle, a
 //! clear, a close and a commit keep the book in agreement with the committed changes and the floor; what the choice of a turn
 //! gives may be done, and the turn's first event keeps that agreement; the counts of the groups and of the buffer add up to the
-//! rows of the table; movers' events, a close and a commit move the groups only by the listed transitions; and the order of
-//! packed versions is free, as long as what claims lent stands as it stood.
+//! rows of the table; movers' events, a close and a commit move the groups only by the listed transitions, and an id that
+//! gets a group is drawn by that event; and the order of packed versions is free, as long as what claims lent stands as it
+//! stood.
 //!
 //! The book has no rows: a version is a key, its begin and its end, and its row is that of the change it stems from. Each
 //! function here does nothing: its contract is a law that is proved. All that keeps row groups stands for such a book, and
@@ -26,7 +27,7 @@ ghost use Rattle.group_book.specs.Book.Choice.{Flush};
 ghost use Rattle.group_book.specs.Commits.{Sizes, replaced_by, inserted_by, after_ends, direct_parts, after_loads, after_rest, after_commit};
 ghost use Rattle.group_book.specs.Turns.{is_claimed, claim_of, claim_by, after_claim, after_flush_claim, made_of, installed_with, after_install, after_flush, after_release, after_clear, after_settle, after_close};
 ghost use Rattle.group_book.specs.Choices.{choice, after_choice, choice_work, flush_sources};
-ghost use Rattle.group_book.specs.States.{state_of, mover_transitions, commit_transitions, GroupsMoveBy};
+ghost use Rattle.group_book.specs.States.{state_of, mover_transitions, commit_transitions, close_transitions, GroupsMoveBy};
 ghost use Rattle.group_book.specs.Stocks.{AreChanges, stock_of, IsStockOf};
 ghost use Rattle.group_book.specs.Invariant.{makes_group, IsLent, MayTake, MayClaim, MayDo, IsBookOf, has_key, IsSeenAt};
 ghost use Rattle.group_book.specs.Orders.{IsGroupReordered, IsReordered, HasSameLine};
@@ -172,16 +173,19 @@ pub fn events_leave_order_free()
 
 /// A commit moves the groups only by the listed transitions, whatever the sizes and the keys: from none to the open store, to a
 /// closed one, which the commit opens and fills, or to a packed group, which it loads directly; and from the open store to a
-/// closed one. All other groups stay in their states.
+/// closed one. All other groups stay in their states, the next id does not fall, and an id that gets a group is drawn by the
+/// commit, from the next id on; so none below that is used again.
 pub fn commits_move_groups()
     ensures { (sizes : Sizes) (book : Book) (c : ℕ) (replaced inserted : List Key) → GroupsMoveBy commit_transitions book (after_commit sizes c replaced inserted book) }
 {}
 
-/// The events of movers, and a close, move the groups only by the listed transitions: from the open store to a closed one, from
-/// none to an invisible group, from that to a packed one or to none, from a closed or a packed one to a tombstone, and from
-/// that to none. All other groups stay in their states.
+/// The events of movers, a claim of any kind among them, move the groups only by the listed transitions: from none to an
+/// invisible group, from that to a packed one or to none, from a closed or a packed one to a tombstone, and from that to none.
+/// All other groups stay in their states, the next id does not fall, and an id that gets a group is drawn by the event, from the
+/// next id on; so none below that is used again.
 pub fn movers_move_groups()
     ensures claim { (book : Book) (actor : Actor) (choice : Choice) (sources : List ℕ) (floor : ℕ) → GroupsMoveBy mover_transitions book (after_claim actor choice sources floor book) }
+    ensures flush_claim { (book : Book) (actor : Actor) (sources : List ℕ) (floor : ℕ) → GroupsMoveBy mover_transitions book (after_flush_claim actor sources floor book) }
     ensures install { (group_rows : ℕ) (book : Book) (changes : List Change) (floor : ℕ) (claim : Claim) → Contains book.claims claim → IsBookOf group_rows book changes floor
         → GroupsMoveBy mover_transitions book (after_install claim book) }
     ensures flush { (book : Book) (claim : Claim) → GroupsMoveBy mover_transitions book (after_flush claim book) }
@@ -189,5 +193,10 @@ pub fn movers_move_groups()
         → GroupsMoveBy mover_transitions book (after_release claim book) }
     ensures settle { (book : Book) (at : ℕ) → GroupsMoveBy mover_transitions book (after_settle at book) }
     ensures clear { (group_rows : ℕ) (book : Book) (changes : List Change) (floor : ℕ) → IsBookOf group_rows book changes floor → GroupsMoveBy mover_transitions book (after_clear book) }
-    ensures close { (book : Book) → GroupsMoveBy mover_transitions book (after_close book) }
+{}
+
+/// A close moves the groups only by its one transition, from the open store to a closed one. All other groups stay in their
+/// states, and it draws no id.
+pub fn closes_move_groups()
+    ensures { (book : Book) → GroupsMoveBy close_transitions book (after_close book) }
 {}

@@ -1,5 +1,5 @@
 -- An entry moves the groups by the listed transitions alone.
-use Rattle.std.proofs.Common.{◌≡◌, ℕ, ◌+◌, ◌⊎◌, inl, List, [], ◌∷◌, refl, sym, ap, subst}
+use Rattle.std.proofs.Common.{◌≡◌, ℕ, ◌<◌, ◌≤◌, ◌+◌, ◌⊎◌, List, [], ◌∷◌, sym, subst, ◌∙◌}
 use Rattle.std.specs.Prelude.{Contains}
 use Rattle.std.proofs.lemmas.List.Elements.{All-contains}
 use Rattle.cs_model.specs.declared.entry.Entry.{Entry}
@@ -10,14 +10,14 @@ use Rattle.cs_model.specs.Changes.{Edit, Change}
 use Rattle.cs_model.specs.State as model
 use Rattle.group_book.specs.Book.{Choice, Claim, Book}
 use Rattle.group_book.specs.Book.Choice.{Compress, Flush, Rebuild, Merge, Settle, Clear, Idle}
-use Rattle.group_book.specs.Choices.{choice, after_choice}
+use Rattle.group_book.specs.Choices.{choice, after_choice, flush_sources}
 use Rattle.group_book.specs.Commits.{Sizes, replaced_by, inserted_by}
 use Rattle.group_book.specs.Invariant.{IsClaim, IsBookOf}
 use Rattle.group_book.specs.Orders.{IsReordered}
 use Rattle.group_book.specs.States.{State, state_of, mover_transitions, commit_transitions, GroupsMoveBy}
 use Rattle.group_book.specs.Turns.{after_work}
 use Rattle.group_book.proofs.Committed.{commit_moves}
-use Rattle.group_book.proofs.Moves.{claim_moves, install_moves, flush_moves, release_moves, settle_moves, clear_moves}
+use Rattle.group_book.proofs.Moves.{claim_moves, flush_claim_moves, install_moves, flush_moves, release_moves, settle_moves, clear_moves, itself}
 use Rattle.group_book.proofs.Orders.{same_states}
 use Rattle.group_log.specs.Followed.{Ground, committed_edits, book_with, Commits, Works, IsBookStep}
 use Rattle.group_log.specs.Followed.Works.{chosen, out_of_memory, installed, released}
@@ -25,11 +25,14 @@ use Rattle.group_log.specs.Moves.{transitions_of}
 use Rattle.group_log.proofs.Claims.{claim_in}
 
 rests : (transitions : List (State × State)) (book made : Book) → made ≡ book → GroupsMoveBy transitions book made
-rests transitions book made same id = inl (ap (λ (b : Book). state_of b.groups id) (sym same))
+rests transitions book made same = subst (GroupsMoveBy transitions book) (sym same) (itself transitions book)
 
 moves_reordered : (transitions : List (State × State)) (book made other : Book) → GroupsMoveBy transitions book made → IsReordered made other → GroupsMoveBy transitions book other
-moves_reordered transitions book made other moves r id =
-    subst (λ s. (state_of book.groups id ≡ s) ⊎ Contains transitions (state_of book.groups id, s)) (same_states made other r id) (moves id)
+moves_reordered transitions book made other moves r = record {
+  each = λ id. subst (λ s. (state_of book.groups id ≡ s) ⊎ Contains transitions (state_of book.groups id, s)) (same_states made other r id) (moves.each id);
+  next = subst (λ n. book.next ≤ n) (sym r.next) moves.next;
+  drawn = λ id is there. subst (λ n. (book.next ≤ id) × (id < n)) (sym r.next) (moves.drawn id is (λ none. there (sym (same_states made other r id) ∙ none)));
+}
 
 finish_moves : (sizes : Sizes) (m : model.State) (own : List Edit) (book made : Book) → Commits sizes m own book made → GroupsMoveBy commit_transitions book made
 finish_moves sizes m [] book made same = rests commit_transitions book made same
@@ -39,12 +42,12 @@ finish_moves sizes m (edit ∷ own) book made commits =
 
 choice_moves : (group_rows : ℕ) (book : Book) (changes : List Change) (floor at : ℕ) (by : Actor) (choice : Choice) → IsBookOf group_rows book changes floor → GroupsMoveBy mover_transitions book (after_choice choice at by book)
 choice_moves group_rows book changes floor at by (Compress source) j = claim_moves by (Compress source) (source ∷ []) at book
-choice_moves group_rows book changes floor at by Flush j = λ id. inl refl
+choice_moves group_rows book changes floor at by Flush j = flush_claim_moves by (flush_sources book) at book
 choice_moves group_rows book changes floor at by (Rebuild source) j = claim_moves by (Rebuild source) (source ∷ []) at book
 choice_moves group_rows book changes floor at by (Merge first second) j = claim_moves by (Merge first second) (first ∷ second ∷ []) at book
 choice_moves group_rows book changes floor at by Settle j = settle_moves at book
 choice_moves group_rows book changes floor at by Clear j = clear_moves book j.groups.by_id
-choice_moves group_rows book changes floor at by Idle j = λ id. inl refl
+choice_moves group_rows book changes floor at by Idle j = itself mover_transitions book
 
 claim_is : (group_rows : ℕ) (book : Book) (changes : List Change) (floor : ℕ) (claim : Claim) → Contains book.claims claim → IsBookOf group_rows book changes floor → IsClaim group_rows book changes floor claim
 claim_is group_rows book changes floor claim in_list j = All-contains (IsClaim group_rows book changes floor) book.claims claim j.claims.each in_list
@@ -55,14 +58,14 @@ work_moves group_rows book changes floor claim (Compress source) in_list j = ins
 work_moves group_rows book changes floor claim Flush in_list j = flush_moves claim book
 work_moves group_rows book changes floor claim (Rebuild source) in_list j = install_moves group_rows book changes floor claim j.groups.by_id (claim_is group_rows book changes floor claim in_list j)
 work_moves group_rows book changes floor claim (Merge first second) in_list j = install_moves group_rows book changes floor claim j.groups.by_id (claim_is group_rows book changes floor claim in_list j)
-work_moves group_rows book changes floor claim Settle in_list j = λ id. inl refl
-work_moves group_rows book changes floor claim Clear in_list j = λ id. inl refl
-work_moves group_rows book changes floor claim Idle in_list j = λ id. inl refl
+work_moves group_rows book changes floor claim Settle in_list j = itself mover_transitions book
+work_moves group_rows book changes floor claim Clear in_list j = itself mover_transitions book
+work_moves group_rows book changes floor claim Idle in_list j = itself mover_transitions book
 
 works_move : (sizes : Sizes) (at : ℕ) (by : Actor) (book : Book) (changes : List Change) (floor : ℕ) (w : Work) (made : Book) → IsBookOf sizes.group_rows book changes floor → Works sizes at by book w made
     → GroupsMoveBy mover_transitions book made
 works_move sizes at by book changes floor w made j (chosen none is) = choice_moves sizes.group_rows book changes floor at by (choice at sizes.group_rows by book) j
-works_move sizes at by book changes floor w made j (out_of_memory none is) = λ id. inl refl
+works_move sizes at by book changes floor w made j (out_of_memory none is) = itself mover_transitions book
 works_move sizes at by book changes floor w made j (installed claim holds is moved) =
     moves_reordered mover_transitions book (after_work claim.choice claim book) made (work_moves sizes.group_rows book changes floor claim claim.choice (claim_in by book claim holds) j) moved
 works_move sizes at by book changes floor w made j (released claim holds is) =

@@ -51,7 +51,8 @@ pub fn followed_counts_add_up()
 {}
 
 /// Each entry moves the groups by the listed transitions alone: a Finish by those of a commit, the work of a mover by those of
-/// movers, and a Start and an End not at all. This is so of any book that is one of the changes, and along a followed log.
+/// movers, and a Start and an End not at all; and an id that gets a group is drawn by that entry, so an id whose group has gone is
+/// not used again. This is so of any book that is one of the changes, and along a followed log.
 pub fn followed_moves_groups()
     ensures step { (origin : Ground) (m after : State) (entry : Entry) (book made : Book) (changes : List Change) (floor : ℕ) → IsBookOf origin.sizes.group_rows book changes floor
         → IsBookStep origin m book entry after made → GroupsMoveBy (transitions_of entry) book made }
