@@ -37,7 +37,7 @@ use Rattle.group_directory.specs.declared.claims.Turn.{Turn}
 use Rattle.group_directory.specs.declared.directory.Directory.{Directory}
 use Rattle.group_directory.specs.declared.movers.Claimed.TheVariants.{Lent}
 use Rattle.group_directory.specs.Calls.{IsAsBefore}
-use Rattle.group_directory.specs.Claimed.{IsTurnOf, IsTaken, IsSound}
+use Rattle.group_directory.specs.Claimed.{IsTurnOf, IsOfMoment, IsTaken, IsSound}
 use Rattle.group_directory.specs.Claiming.{PartValue, part_value, valued, IsShareOf}
 use Rattle.group_directory.specs.Claiming.PartValue.{PackedValue, StoreValue}
 use Rattle.group_directory.specs.Lending.{Keeps, place_of}
@@ -162,6 +162,10 @@ source_shown (kinds.Merge first second) (shape.Tombstone versions ends) is = cc
 source_shown kinds.Settle (shape.Tombstone versions ends) is = cc
 source_shown kinds.Clear (shape.Tombstone versions ends) is = cc
 source_shown kinds.Idle (shape.Tombstone versions ends) is = cc
+
+-- a flush makes no group
+makes_or_flushes : (kind : book.Choice) → makes_group kind ≡ true → kind ≡ kinds.Flush → ⊥
+makes_or_flushes kind makes flush = let none : makes_group kinds.Flush ≡ true = ap makes_group (sym flush) ∙ makes in cc
 
 -- what an actor takes to make one group of it
 pub record MakesOf (group_rows : ℕ) (whole : Book) (floor : ℕ) (actor : Actor) (kind : book.Choice) (sources : List ℕ) : Type 0 where
@@ -322,10 +326,25 @@ module _ (directory : Directory) (cs : List Change) (j : Stands directory cs) wh
               })
               (subst (λ (b : Book). IsBookOf g b cs j.floor) (sym after_is) is_book)
 
-        pub taken_kept : ((makes_group kind ≡ true) ⊎ (kind ≡ kinds.Flush)) → book_of list ≡ after_choice kind turn.floor turn.actor whole → IsTaken kind turn.floor turn.actor directory (record directory { list = list }) (Lent lent)
-        taken_kept work after = record {
+        moment_kept : (makes_group kind ≡ true → entries ≡ []) → (kind ≡ kinds.Flush → endings_of entries ≡ flushable whole) → IsOfMoment kind turn.floor directory.clock whole lent
+        moment_kept none flush = record {
+          at_floor = k.share.from ∙ k.lends.view.floor;
+          at_clock = k.share.to ∙ k.lends.view.clock ∙ is.at_clock;
+          buffer = ap endings_of (k.share.buffer ∙ k.lends.view.buffer);
+          none = λ makes. k.share.entries ∙ k.lends.entries ∙ none makes;
+          flush = λ flushes. ap endings_of (k.share.entries ∙ k.lends.entries) ∙ flush flushes;
+        }
+
+        pub taken_kept : ((makes_group kind ≡ true) ⊎ (kind ≡ kinds.Flush)) → (makes_group kind ≡ true → entries ≡ []) → (kind ≡ kinds.Flush → endings_of entries ≡ flushable whole)
+            → book_of list ≡ after_choice kind turn.floor turn.actor whole → IsTaken kind turn.floor turn.actor directory (record directory { list = list }) (Lent lent)
+        taken_kept work none flush after = record {
           book = after;
-          gives = (work, ap choice_of (k.share.choice ∙ k.lends.choice), ap (map claim_of) k.claims ∙ ap (λ (claim : book.Claim). claim ∷ whole.claims) (sym (share_claim turn.actor k.kept lent k.share)));
+          gives = (
+            work,
+            ap choice_of (k.share.choice ∙ k.lends.choice),
+            ap (map claim_of) k.claims ∙ ap (λ (claim : book.Claim). claim ∷ whole.claims) (sym (share_claim turn.actor k.kept lent k.share)),
+            moment_kept none flush,
+          );
           claims = (k.kept, k.claims, k.share);
         }
 
@@ -340,7 +359,7 @@ module _ (directory : Directory) (cs : List Change) (j : Stands directory cs) wh
           (claims_kept sources m.takes m.rises (Some directory.list.next) [] list lent k) k.next
 
       no_flush : kind ≡ kinds.Flush → endings_of [] ≡ entries_for whole.buffer (turns.versions_of sources whole.groups)
-      no_flush flush = absurd (let none : makes_group kinds.Flush ≡ true = ap makes_group (sym flush) ∙ makes in cc)
+      no_flush flush = absurd (makes_or_flushes kind makes flush)
 
       pub stands_made : Stands (record directory { list = list }) cs
       stands_made = stands_kept sources m.takes m.rises (Some directory.list.next) [] list lent k no_flush (after_claim turn.actor kind sources turn.floor whole) after_made
@@ -352,7 +371,7 @@ module _ (directory : Directory) (cs : List Change) (j : Stands directory cs) wh
       sound_made = sound_kept sources m.takes m.rises (Some directory.list.next) [] list lent k no_flush
 
       pub taken_made : IsTaken kind turn.floor turn.actor directory (record directory { list = list }) (Lent lent)
-      taken_made = taken_kept sources m.takes m.rises (Some directory.list.next) [] list lent k (inl makes) (after_made ∙ sym m.after)
+      taken_made = taken_kept sources m.takes m.rises (Some directory.list.next) [] list lent k (inl makes) (λ _. refl) (λ flush. absurd (makes_or_flushes kind makes flush)) (after_made ∙ sym m.after)
 
     -- ---- a flush
 
@@ -385,7 +404,7 @@ module _ (directory : Directory) (cs : List Change) (j : Stands directory cs) wh
         sound_flush = sound_kept (flush_sources whole) flush_takes flush_rises None entries list lent k entries_are
 
         pub taken_flush : IsTaken kind turn.floor turn.actor directory (record directory { list = list }) (Lent lent)
-        taken_flush = taken_kept (flush_sources whole) flush_takes flush_rises None entries list lent k (inr flush) (after_flushed ∙ by_choice)
+        taken_flush = taken_kept (flush_sources whole) flush_takes flush_rises None entries list lent k (inr flush) (λ makes. absurd (makes_or_flushes kind makes flush)) (λ _. are) (after_flushed ∙ by_choice)
 
   -- ---- where memory is wanting
 

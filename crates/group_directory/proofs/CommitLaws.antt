@@ -1,16 +1,17 @@
 -- The commit of own writes: what it rests on, and what the directory stands for after it.
 use Rattle.std.proofs.Common.{◌≡◌, ℕ, zero, suc, ◌<◌, ◌≤◌, ◌+◌, Bool, true, false, cond, nat_le, List, Vec, [], ◌∷◌, ◌++◌, map, filter, length, get_or, take, drop, Option, Some, None, is_some, refl, sym, ap, subst, ◌∙◌, arith}
-use Rattle.std.specs.Prelude.{Result, Ok, Err, OnErr}
+use Rattle.std.specs.Prelude.{Result, Ok, Err, OnErr, slice_get}
 use Rattle.std.specs.List.{All, AllByRecursion}
 use Rattle.std.specs.List.Sorted.{IsPermutation, IsStrictlySortedBy}
 use Rattle.std.specs.Option.{ForSome}
 use Rattle.std.specs.FinMap as finite
 use Rattle.std.specs.declared.alloc.Global.{Global}
 use Rattle.std.specs.declared.cmp.Ordering.TheVariants.{Less}
-use Rattle.std.proofs.lemmas.List.{append-nil, map-append}
+use Rattle.std.proofs.lemmas.List.{append-nil, map-append, map_more}
 use Rattle.std.proofs.lemmas.List.Elements.{All-weaker, All-from_recursion, recursion_from_All, filter_more}
 use Rattle.std.proofs.lemmas.List.Kept.{AllPairs-cons, AllPairs-filter}
 use Rattle.std.proofs.lemmas.List.Sorted.{IsPermutation-map}
+use Rattle.std.proofs.lemmas.Option.{get_or_from_slice_get, slice_get_within}
 use Rattle.cs_types.specs.declared.Key.{Key}
 use Rattle.cs_types.specs.declared.Value.{Value}
 use Rattle.cs_types.specs.Keys.{key_cmp}
@@ -70,10 +71,16 @@ some_up test own up = written_up (filter test own) (AllPairs-filter (λ (a b : W
 pub replaced_up : (own : List Write) → writes.Ascend own → Ascend (replaced_in own)
 replaced_up own up = some_up (λ (write : Write). write.replaces) own up
 
-pub replaced_more : (own : List Write) (i : ℕ) (d : Write) → i < length own → replaced_in (take (i + 1) own) ≡ replaced_in (take i own) ++ replaced_in (get_or own i d ∷ [])
-replaced_more own i d there =
-    ap written_in (filter_more (λ (write : Write). write.replaces) own i d there)
-    ∙ map-append (λ (write : Write). write.key) (filter (λ (write : Write). write.replaces) (take i own)) (filter (λ (write : Write). write.replaces) (get_or own i d ∷ []))
+pub written_more : (own : List Write) (i : ℕ) (write : Write) → slice_get own i ≡ Some write → written_in (take (i + 1) own) ≡ written_in (take i own) ++ write.key ∷ []
+written_more own i write is =
+    map_more (λ (w : Write). w.key) own i write (slice_get_within own i write is)
+    ∙ ap (λ (w : Write). written_in (take i own) ++ w.key ∷ []) (get_or_from_slice_get own i write write is)
+
+pub replaced_more : (own : List Write) (i : ℕ) (write : Write) → slice_get own i ≡ Some write → replaced_in (take (i + 1) own) ≡ replaced_in (take i own) ++ replaced_in (write ∷ [])
+replaced_more own i write is =
+    ap written_in (filter_more (λ (w : Write). w.replaces) own i write (slice_get_within own i write is))
+    ∙ map-append (λ (w : Write). w.key) (filter (λ (w : Write). w.replaces) (take i own)) (filter (λ (w : Write). w.replaces) (get_or own i write ∷ []))
+    ∙ ap (λ (w : Write). replaced_in (take i own) ++ replaced_in (w ∷ [])) (get_or_from_slice_get own i write write is)
 
 -- what holds of a list and of what is left of it holds of the rest of a parcel
 module _ (P : List Key → Type 0) (shorter : (key : Key) (keys : List Key) → P (key ∷ keys) → P keys) where

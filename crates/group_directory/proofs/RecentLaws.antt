@@ -69,6 +69,17 @@ module _ (c txn : ℕ) (key : Key) where
   pub newest_committed : (cs : List Change) (own : List Edit) → option_map note_of (newest key (cs ++ numbered c txn own)) ≡ cond (is_written own key) (Some note) (option_map note_of (newest key cs))
   newest_committed cs own = ap (option_map note_of) (fold-append (taken key) None cs (numbered c txn own)) ∙ newest_from own (newest key cs)
 
+  -- a key that it does not write has a change above a snapshot exactly where it had one
+  pub above_stays : (cs : List Change) (own : List Edit) (q : Option ℕ) → is_written own key ≡ false → is_above (newest key (cs ++ numbered c txn own)) q ≡ is_above (newest key cs) q
+  above_stays cs own q none = above_alike (newest key (cs ++ numbered c txn own)) (newest key cs) q (newest_committed cs own ∙ ap (λ (t : Bool). cond t (Some note) (option_map note_of (newest key cs))) none)
+    where
+      above_alike : (o p : Option Change) (q : Option ℕ) → option_map note_of o ≡ option_map note_of p → is_above o q ≡ is_above p q
+      above_alike None None q is = refl
+      above_alike None (Some y) q is = absurd (cc is)
+      above_alike (Some x) None q is = absurd (cc is)
+      above_alike (Some x) (Some y) None is = refl
+      above_alike (Some x) (Some y) (Some s) is = let same : note_of x ≡ note_of y = cc is in ap (λ (n : NewestChange). ltb s n.commit) same
+
 -- ---- a commit
 
 -- a change whose note is this one

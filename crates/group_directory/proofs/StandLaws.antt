@@ -166,8 +166,8 @@ module _ (directory : Directory) (cs : List Change) (j : Stands directory cs) wh
   pub floor_given : (floor : ℕ) → IsFloor (snapshots_in was) directory.clock floor → floor ≡ j.floor
   floor_given floor is = floor_one (snapshots_in was) directory.clock floor j.floor is j.is_floor
 
-  pub stands_pruned : (recent : Newest) (floor : ℕ) → IsFloor (snapshots_in was) directory.clock floor → KeepsAbove floor directory.recent.changes recent.changes → Stands (record directory { recent = recent; pruned = floor }) cs
-  stands_pruned recent floor is keeps = record {
+  pub stands_pruned : (recent : Newest) (floor kept : ℕ) → IsFloor (snapshots_in was) directory.clock floor → KeepsAbove floor directory.recent.changes recent.changes → Stands (record directory { recent = recent; pruned = floor; kept = kept }) cs
+  stands_pruned recent floor kept is keeps = record {
     sizes = j.sizes;
     held = j.held;
     numbered = j.numbered;

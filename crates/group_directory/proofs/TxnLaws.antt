@@ -24,8 +24,9 @@ use Rattle.group_book.proofs.Lists.{All-in}
 use Rattle.group_book.proofs.Changes.{last_at, later, last-append, last-later, last-some, last-ge, next-le, next-above, AreBelow}
 use Rattle.group_book.proofs.Visible.{ascending_of, below_of}
 use Rattle.group_book.proofs.Made.{is_written}
-use Rattle.group_directory.specs.Stands.{SayReplaced, AreTxns}
+use Rattle.group_directory.specs.Stands.{SayReplaced, AreUnchanged, AreTxns}
 use Rattle.group_directory.specs.Laws.{MayStage}
+use Rattle.group_directory.proofs.RecentLaws.{above_stays}
 use Rattle.group_directory.proofs.RowLaws.{none_made}
 use Rattle.group_directory.proofs.FloorLaws.{snapshot-deepened, snapshot-widened}
 
@@ -47,6 +48,22 @@ snapshot-fixed_low clock (Some txn) low s is = at txn.snapshot low is
     at None h e = let same : clock ≡ s = cc in omega (arith, same)
     at (Some n) h e = h s e
 
+-- the keys of own writes stay unchanged above a snapshot that is taken, as those of none are
+unchanged-fixed : (changes : List Change) (clock : ℕ) (o : Option Txn) → (snapshot_of o ≡ None → own_of o ≡ []) → AreUnchanged changes o → AreUnchanged changes (fixed clock o)
+unchanged-fixed changes clock None pin un = un
+unchanged-fixed changes clock (Some txn) pin un = at txn.snapshot refl
+  where
+    IsCalm : Option ℕ → Write → Type 0
+    IsCalm q w = is_above (newest w.key changes) q ≡ false
+
+    at : (q : Option ℕ) → txn.snapshot ≡ q → All (IsCalm (Some (unwrap_or q clock))) txn.own
+    at None is = subst (All (IsCalm (Some clock))) (sym (pin is)) (All-nil (IsCalm (Some clock)))
+    at (Some s) is = subst (λ (q : Option ℕ). All (IsCalm q) txn.own) is un
+
+pinned-fixed : (clock : ℕ) (o : Option Txn) → snapshot_of (fixed clock o) ≡ None → own_of (fixed clock o) ≡ []
+pinned-fixed clock None is = refl
+pinned-fixed clock (Some txn) is = cc
+
 pub All-staged : (P : Write → Type 0) (own writes : List Write) → All P own → All P writes → All P (staged own writes)
 All-staged P own [] h more = h
 All-staged P own (w ∷ writes) h more = All-staged P (put own w) writes (All-put P own w (more 0 w (omega arith)) h) (all_tail P w writes more)
@@ -67,11 +84,14 @@ module _ (txns : ℕ → Option Txn) (changes : List Change) (clock session : �
   other_session : (s : ℕ) → (s == session) ≡ false → s ≢ session
   other_session s is e = grind (arith, nat_tests)
 
-  pub one_changed : (o : Option Txn) → ((s : ℕ) → snapshot_of o ≡ Some s → s ≤ clock) → ((other : ℕ) (key : Key) → other ≢ session → Owns (txns other) key → Owns o key → ⊥) → SayReplaced changes clock o → AreTxns (with txns session o) changes clock
-  one_changed o low apart says = record {
+  pub one_changed : (o : Option Txn) → ((s : ℕ) → snapshot_of o ≡ Some s → s ≤ clock) → ((other : ℕ) (key : Key) → other ≢ session → Owns (txns other) key → Owns o key → ⊥) → SayReplaced changes clock o
+      → (snapshot_of o ≡ None → own_of o ≡ []) → AreUnchanged changes o → AreTxns (with txns session o) changes clock
+  one_changed o low apart says pin un = record {
     snapshots = λ s n. snap_at s n (s == session);
     owners = λ a b key ne. owner_at a b key ne (a == session) refl (b == session) refl;
     replaced = λ s. says_at s (s == session);
+    pinned = λ s. pin_at s (s == session);
+    unchanged = λ s. un_at s (s == session);
   }
     where
       snap_at : (s n : ℕ) (t : Bool) → snapshot_of (cond t o (txns s)) ≡ Some n → n ≤ clock
@@ -88,18 +108,29 @@ module _ (txns : ℕ → Option Txn) (changes : List Change) (clock session : �
       says_at s true = says
       says_at s false = j.replaced s
 
+      pin_at : (s : ℕ) (t : Bool) → snapshot_of (cond t o (txns s)) ≡ None → own_of (cond t o (txns s)) ≡ []
+      pin_at s true = pin
+      pin_at s false = j.pinned s
+
+      un_at : (s : ℕ) (t : Bool) → AreUnchanged changes (cond t o (txns s))
+      un_at s true = un
+      un_at s false = j.unchanged s
+
   -- with the same own writes
-  pub own_kept : (o : Option Txn) → own_of o ≡ own_of (txns session) → ((s : ℕ) → snapshot_of o ≡ Some s → s ≤ clock) → AreTxns (with txns session o) changes clock
-  own_kept o same low =
+  pub own_kept : (o : Option Txn) → own_of o ≡ own_of (txns session) → ((s : ℕ) → snapshot_of o ≡ Some s → s ≤ clock) → (snapshot_of o ≡ None → own_of o ≡ []) → AreUnchanged changes o → AreTxns (with txns session o) changes clock
+  own_kept o same low pin un =
       one_changed o low
       (λ other key ne p q. j.owners other session key ne p (subst (Any (λ (w : Write). w.key ≡ key)) same q))
       (subst (All (λ (w : Write). w.replaces ≡ is_in_table changes clock w.key)) (sym same) (j.replaced session))
+      pin un
 
   pub none_own : (o : Option Txn) → own_of o ≡ [] → ((s : ℕ) → snapshot_of o ≡ Some s → s ≤ clock) → AreTxns (with txns session o) changes clock
   none_own o empty low =
       one_changed o low
       (λ other key ne p q. nothing key (subst (Any (λ (w : Write). w.key ≡ key)) empty q))
       (subst (All (λ (w : Write). w.replaces ≡ is_in_table changes clock w.key)) (sym empty) (All-nil (λ (w : Write). w.replaces ≡ is_in_table changes clock w.key)))
+      (λ _. empty)
+      (subst (All (λ (w : Write). is_above (newest w.key changes) (snapshot_of o) ≡ false)) (sym empty) (All-nil (λ (w : Write). is_above (newest w.key changes) (snapshot_of o) ≡ false)))
     where
       nothing : (key : Key) → Any (λ (w : Write). w.key ≡ key) [] → ⊥
       nothing key (k, w, within, at, is) = absurd (omega (arith, within))
@@ -108,10 +139,18 @@ module _ (txns : ℕ → Option Txn) (changes : List Change) (clock session : �
   txns_opened number depth = none_own (Some (opened number depth)) refl (λ s is. cc)
 
   pub txns_deepened : (depth : ℕ) → AreTxns (with txns session (deepened depth (txns session))) changes clock
-  txns_deepened depth = own_kept (deepened depth (txns session)) (own-deepened depth (txns session)) (λ s is. j.snapshots session s (sym (snapshot-deepened depth (txns session)) ∙ is))
+  txns_deepened depth =
+      own_kept (deepened depth (txns session)) (own-deepened depth (txns session)) (λ s is. j.snapshots session s (sym (snapshot-deepened depth (txns session)) ∙ is))
+      (λ none. own-deepened depth (txns session) ∙ j.pinned session (sym (snapshot-deepened depth (txns session)) ∙ none)) (unchanged-deepened (txns session) (j.unchanged session))
+    where
+      unchanged-deepened : (o : Option Txn) → AreUnchanged changes o → AreUnchanged changes (deepened depth o)
+      unchanged-deepened None un = un
+      unchanged-deepened (Some txn) un = un
 
   pub txns_fixed : AreTxns (with txns session (fixed clock (txns session))) changes clock
-  txns_fixed = own_kept (fixed clock (txns session)) (own-fixed clock (txns session)) (snapshot-fixed_low clock (txns session) (j.snapshots session))
+  txns_fixed =
+      own_kept (fixed clock (txns session)) (own-fixed clock (txns session)) (snapshot-fixed_low clock (txns session) (j.snapshots session)) (pinned-fixed clock (txns session))
+      (unchanged-fixed changes clock (txns session) (j.pinned session) (j.unchanged session))
 
   pub txns_removed : AreTxns (with txns session None) changes clock
   txns_removed = none_own None refl (λ s is. cc)
@@ -167,7 +206,16 @@ txns_staged txns changes clock session s writes a j may =
     (λ n is. j.snapshots session n (sym (snapshot-widened writes (txns session)) ∙ is))
     apart
     (subst (All (SaysIt changes clock)) (sym own) (All-staged (SaysIt changes clock) (own_of (txns session)) writes (j.replaced session) says))
+    (λ none. absurd (cc (none, snapshot)))
+    (subst (λ (q : Option ℕ). All (IsCalm q) (own_of (widened writes (txns session)))) (sym snapshot)
+    (subst (All (IsCalm (Some s))) (sym own) (All-staged (IsCalm (Some s)) (own_of (txns session)) writes (subst (λ (q : Option ℕ). All (IsCalm q) (own_of (txns session))) may.snapshot (j.unchanged session)) may.quiet)))
   where
+    IsCalm : Option ℕ → Write → Type 0
+    IsCalm q w = is_above (newest w.key changes) q ≡ false
+
+    snapshot : snapshot_of (widened writes (txns session)) ≡ Some s
+    snapshot = snapshot-widened writes (txns session) ∙ may.snapshot
+
     own : own_of (widened writes (txns session)) ≡ staged (own_of (txns session)) writes
     own = own-widened writes (txns session) s may.snapshot
 
@@ -216,19 +264,40 @@ pub txns_committed : (txns : ℕ → Option Txn) (changes : List Change) (clock 
 txns_committed txns changes clock session number a j = record {
   snapshots = λ s n is. let le = left.snapshots s n is in omega (arith, le);
   owners = left.owners;
-  replaced = λ s. at s (s == session) refl;
+  replaced = λ s. says_at s (s == session) refl;
+  pinned = left.pinned;
+  unchanged = λ s. un_at s (s == session) refl;
 }
   where
     left : AreTxns (with txns session None) changes clock
     left = txns_removed txns changes clock session j
 
-    at : (s : ℕ) (t : Bool) → (s == session) ≡ t → SayReplaced (changes ++ numbered (clock + 1) number (edits_of (own_of (txns session)))) (clock + 1) (cond t None (txns s))
-    at s true e = All-nil (SaysIt (changes ++ numbered (clock + 1) number (edits_of (own_of (txns session)))) (clock + 1))
-    at s false e = All-in (SaysIt changes clock) (SaysIt (changes ++ numbered (clock + 1) number (edits_of (own_of (txns session)))) (clock + 1)) (own_of (txns s)) (λ w there is.
-        is ∙ row_stays changes clock number (edits_of (own_of (txns session))) (below_of changes clock a) w.key
-        (unwritten (own_of (txns session)) w.key (recursion_from_All (λ (v : Write). v.key ≡ w.key → ⊥) (own_of (txns session))
-        (not_owned (txns session) w.key (λ mine. j.owners s session w.key (other_session txns changes clock session j s e) (there.0, w, there.1, there.2, refl) mine)))))
+    own : List Edit
+    own = edits_of (own_of (txns session))
+
+    later_changes : List Change
+    later_changes = changes ++ numbered (clock + 1) number own
+
+    -- a key of another transaction is not written
+    other_key : (s : ℕ) → (s == session) ≡ false → (w : Write) → Contains (own_of (txns s)) w → is_written own w.key ≡ false
+    other_key s e w there =
+        unwritten (own_of (txns session)) w.key (recursion_from_All (λ (v : Write). v.key ≡ w.key → ⊥) (own_of (txns session))
+        (not_owned (txns session) w.key (λ mine. j.owners s session w.key (other_session txns changes clock session j s e) (there.0, w, there.1, there.2, refl) mine)))
+
+    says_at : (s : ℕ) (t : Bool) → (s == session) ≡ t → SayReplaced later_changes (clock + 1) (cond t None (txns s))
+    says_at s true e = All-nil (SaysIt later_changes (clock + 1))
+    says_at s false e = All-in (SaysIt changes clock) (SaysIt later_changes (clock + 1)) (own_of (txns s)) (λ w there is.
+        is ∙ row_stays changes clock number own (below_of changes clock a) w.key (other_key s e w there))
         (j.replaced s)
+
+    IsCalm : List Change → ℕ → Write → Type 0
+    IsCalm all s w = is_above (newest w.key all) (snapshot_of (txns s)) ≡ false
+
+    un_at : (s : ℕ) (t : Bool) → (s == session) ≡ t → AreUnchanged later_changes (cond t None (txns s))
+    un_at s true e = All-nil (λ (w : Write). is_above (newest w.key later_changes) None ≡ false)
+    un_at s false e = All-in (IsCalm changes s) (IsCalm later_changes s) (own_of (txns s)) (λ w there is.
+        above_stays (clock + 1) number w.key changes own (snapshot_of (txns s)) (other_key s e w there) ∙ is)
+        (j.unchanged s)
 
 -- ---- no transaction
 pub txns_none : (txns : ℕ → Option Txn) (changes : List Change) (clock : ℕ) → ((session : ℕ) → txns session ≡ None) → AreTxns txns changes clock
@@ -236,6 +305,8 @@ txns_none txns changes clock none = record {
   snapshots = λ s n is. absurd (cc (ap snapshot_of (none s)));
   owners = λ a b key ne p q. nothing key (subst (λ (o : Option Txn). Owns o key) (none a) p);
   replaced = λ s. subst (SayReplaced changes clock) (sym (none s)) (All-nil (λ (w : Write). w.replaces ≡ is_in_table changes clock w.key));
+  pinned = λ s _. ap own_of (none s);
+  unchanged = λ s. subst (AreUnchanged changes) (sym (none s)) (All-nil (λ (w : Write). is_above (newest w.key changes) None ≡ false));
 }
   where
     nothing : (key : Key) → Owns None key → ⊥

@@ -1,5 +1,5 @@
 -- What a directory stands for: a list of committed changes.
-use Rattle.std.specs.Prelude.{◌≡◌, ◌≢◌, ℕ, ◌<◌, ◌≤◌, List, length, All, Option, Some, IfSome}
+use Rattle.std.specs.Prelude.{◌≡◌, ◌≢◌, ℕ, ◌<◌, ◌≤◌, List, [], length, All, Option, None, Some, IfSome, false}
 use Rattle.std.specs.List.{flat_map}
 use Rattle.std.specs.Option.{option_map}
 use Rattle.std.specs.FinMap as map
@@ -8,9 +8,10 @@ use Rattle.cs_types.specs.declared.Schema.{Schema}
 use Rattle.cs_model.specs.declared.work.Actor.{Actor}
 use Rattle.cs_model.specs.Changes.{Change, newest}
 use Rattle.cs_model.specs.Floors.{IsFloor}
+use Rattle.cs_model.specs.Obstacles.{is_above}
 use Rattle.write_set.specs.declared.write.Write.{Write}
 use Rattle.txn_table.specs.declared.txn.Txn.{Txn}
-use Rattle.txn_table.specs.Txns.{txn_of, own_of, snapshots_in, Owns}
+use Rattle.txn_table.specs.Txns.{txn_of, snapshot_of, own_of, snapshots_in, Owns}
 use Rattle.version_store.specs.declared.NewestChange.{NewestChange}
 use Rattle.version_store.specs.Newest as newest_changes
 use Rattle.group_book.specs.Book.{Version, Ending}
@@ -72,11 +73,18 @@ pub record IsRecent (pruned : ℕ) (noted : newest_changes.Changes) (changes : L
 abbrev pub SayReplaced : List Change → ℕ → Option Txn → Type 0
 SayReplaced changes clock txn = All (λ (write : Write). write.replaces ≡ is_in_table changes clock write.key) (own_of txn)
 
--- snapshots are at most the clock; no two open transactions own one key; and own writes say what they replace
+-- the keys of own writes have no change above the transaction's snapshot
+abbrev pub AreUnchanged : List Change → Option Txn → Type 0
+AreUnchanged changes txn = All (λ (write : Write). is_above (newest write.key changes) (snapshot_of txn) ≡ false) (own_of txn)
+
+-- snapshots are at most the clock; no two open transactions own one key; own writes say what they replace; and who has written has
+-- a snapshot, above which its keys have no change
 pub record AreTxns (txns : ℕ → Option Txn) (changes : List Change) (clock : ℕ) : Type 0 where
   pub snapshots : (session s : ℕ) → snapshots_in txns session ≡ Some s → s ≤ clock
   pub owners : (a b : ℕ) (key : Key) → a ≢ b → Owns (txns a) key → Owns (txns b) key → ⊥
   pub replaced : (session : ℕ) → SayReplaced changes clock (txns session)
+  pub pinned : (session : ℕ) → snapshots_in txns session ≡ None → own_of (txns session) ≡ []
+  pub unchanged : (session : ℕ) → AreUnchanged changes (txns session)
 
 -- ---- the directory
 

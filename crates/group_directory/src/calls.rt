@@ -60,6 +60,7 @@ impl Directory {
             txns: Txns::new(),
             recent: Recent::new(alloc),
             pruned: 0,
+            kept: 0,
             clock: 0,
         })
     }

@@ -1,5 +1,5 @@
 // The commit of a session's own writes.
-ghost use Rattle.std.specs.Prelude.{◌≡◌, ◌≢◌, ◌≤◌, ◌<◌, ◌+◌, ◌^◌, ◌++◌, ◌↔◌, ℕ, List, [], ◌∷◌, map, length, All, IsPermutation, Option, None, Some, IsSome, IfOk, OnOk, OnErr, Err, true, unwrap_or};
+ghost use Rattle.std.specs.Prelude.{◌≡◌, ◌≢◌, ◌≤◌, ◌<◌, ◌+◌, ◌*◌, ◌^◌, ◌++◌, ◌↔◌, ℕ, List, [], ◌∷◌, map, length, All, IsPermutation, Option, None, Some, IsSome, IfOk, OnOk, OnErr, Err, true, unwrap_or};
 ghost use Rattle.std.specs.FinMap as finite;
 ghost use Rattle.std.specs.Option.{ForSome};
 ghost use Rattle.cs_model.specs.Changes.{Change};
@@ -28,15 +28,18 @@ use cs_types::Key;
 use group_view::{GroupList, Parcel};
 use std::alloc::Global;
 use version_store::{NewestChange, Recent};
-use write_set::Write;
+use write_set::{Own, Write};
+
+/// Newest changes are dropped when they are more than twice as many as were left last time, and this many.
+const UNPRUNED: usize = 1_024;
 
 /// The keys of writes, in their order.
-fn written_keys(alloc: Global, writes: &[Write]) -> Result<Vec<Key>, Memory>
-    ensures { IfOk result (λ keys. keys.items ≡ written_in writes.now) }
+fn written_keys(alloc: Global, own: &Own) -> Result<Vec<Key>, Memory>
+    ensures { IfOk result (λ keys. keys.items ≡ written_in own.now) }
 {
-    let mut keys = Vec::with_capacity(alloc, writes.len())?;
-    for write in writes {
-        keys.push(write.key)?;
+    let mut keys = Vec::with_capacity(alloc, own.len())?;
+    for i in 0..own.len() {
+        keys.push(own.get(i).key)?;
     }
     Ok(keys)
 }
@@ -52,12 +55,12 @@ fn add_replaced(keys: &mut Vec<Key>, write: &Write) -> Result<(), Memory>
 }
 
 /// The keys of writes that replace or delete rows, in their order.
-fn replaced_keys(alloc: Global, writes: &[Write]) -> Result<Vec<Key>, Memory>
-    ensures { IfOk result (λ keys. keys.items ≡ replaced_in writes.now) }
+fn replaced_keys(alloc: Global, own: &Own) -> Result<Vec<Key>, Memory>
+    ensures { IfOk result (λ keys. keys.items ≡ replaced_in own.now) }
 {
-    let mut keys = Vec::with_capacity(alloc, writes.len())?;
-    for write in writes {
-        add_replaced(&mut keys, write)?;
+    let mut keys = Vec::with_capacity(alloc, own.len())?;
+    for i in 0..own.len() {
+        add_replaced(&mut keys, own.get(i))?;
     }
     Ok(keys)
 }
@@ -91,7 +94,7 @@ fn commit_own(
     list: &mut GroupList,
     recent: &mut Recent,
     group_rows: u64,
-    own: &[Write],
+    own: &Own,
     parcel: Parcel,
     change: NewestChange,
 ) -> Result<(), CommitRefusal>
@@ -128,6 +131,24 @@ fn commit_own(
 }
 
 impl Directory {
+    /// Drops the newest changes that no open snapshot lies below, where they have become more than twice as many as the last prune
+    /// left, and some more: so they stay few while no snapshot is old, and each change pays for little. Open snapshots are judged as
+    /// before.
+    fn prune(&mut self)
+        ensures few { finite.len self.new.recent.changes ≤ 2 * self.new.kept + 1024 }
+        ensures rest { self.new ≡ record self.old { recent = self.new.recent; pruned = self.new.pruned; kept = self.new.kept } }
+        ensures stands { (changes : List Change) → Stands self.old changes → Stands self.new changes }
+    {
+        let most = self.kept.saturating_mul(2).saturating_add(UNPRUNED);
+        if self.recent.len() <= most {
+            return;
+        }
+        let floor = self.floor();
+        self.recent.prune(floor);
+        self.pruned = floor;
+        self.kept = self.recent.len();
+    }
+
     /// Commits the own writes of a session's transaction, with a parcel of the rows that they insert, and ends the
     /// transaction (Larson et al., PVLDB 2015, section 4). The answer is the number of the commit, the clock and one more, or
     /// none where nothing was written, which changes nothing else.
@@ -146,7 +167,7 @@ impl Directory {
         ensures txns { OnOk result (txn_of self.new.txns ≡ with (txn_of self.old.txns) session None) }
         ensures next { self.new.txns.next ≡ self.old.txns.next }
         ensures claims { self.new.list.claims ≡ self.old.list.claims }
-        ensures rest { self.new ≡ record self.old { list = self.new.list; txns = self.new.txns; recent = self.new.recent; clock = self.new.clock } }
+        ensures rest { self.new ≡ record self.old { list = self.new.list; txns = self.new.txns; recent = self.new.recent; pruned = self.new.pruned; kept = self.new.kept; clock = self.new.clock } }
         ensures book { IfOk result (λ number. (c : ℕ) → number ≡ Some c → book_of self.new.list ≡ after_parcel self.old.sizes.group_rows c (replaced_in (own_of (txn_of self.old.txns session))) parcel (book_of self.old.list)) }
         ensures stands { (changes : List Change) (txn : Txn) → Stands self.old changes → txn_of self.old.txns session ≡ Some txn → OnOk result (Stands self.new (changes ++ numbered (self.old.clock + 1) txn.number (edits_of txn.own))) }
         ensures full { (result ≡ Err refusal.Full) ↔ ((own_of (txn_of self.old.txns session) ≢ []) × (draws_past (book_of self.old.list) (after_parcel self.old.sizes.group_rows (self.old.clock + 1) (replaced_in (own_of (txn_of self.old.txns session))) parcel (book_of self.old.list)) ≡ true)) }
@@ -169,12 +190,13 @@ impl Directory {
             &mut self.list,
             &mut self.recent,
             self.sizes.group_rows,
-            txn.own.as_slice(),
+            &txn.own,
             parcel,
             change,
         )?;
         self.txns.remove(session);
         self.clock = change.commit;
+        self.prune();
         Ok(Some(change.commit))
     }
 }

@@ -28,6 +28,8 @@ pub struct Directory {
     pub recent: Recent,
     /// Changes numbered at most this are perhaps no longer in `recent`.
     pub pruned: u64,
+    /// How many newest changes the last prune left.
+    pub kept: usize,
     /// The number of the last commit.
     pub clock: u64,
 }

@@ -69,8 +69,8 @@ pub fn groups_keep_standing()
         → MayBeList directory list changes → IsBookOf directory.sizes.group_rows (book_of list) changes floor → Stands (record directory { list = list }) changes }
     ensures book { (directory : Directory) (changes : List Change) (floor : ℕ) → Stands directory changes → IsFloor (snapshots_in (txn_of directory.txns)) directory.clock floor
         → IsBookOf directory.sizes.group_rows (book_of directory.list) changes floor }
-    ensures pruned { (directory : Directory) (changes : List Change) (recent : Newest) (floor : ℕ) → Stands directory changes → IsFloor (snapshots_in (txn_of directory.txns)) directory.clock floor
-        → KeepsAbove floor directory.recent.changes recent.changes → Stands (record directory { recent = recent; pruned = floor }) changes }
+    ensures pruned { (directory : Directory) (changes : List Change) (recent : Newest) (floor kept : ℕ) → Stands directory changes → IsFloor (snapshots_in (txn_of directory.txns)) directory.clock floor
+        → KeepsAbove floor directory.recent.changes recent.changes → Stands (record directory { recent = recent; pruned = floor; kept = kept }) changes }
 {}
 
 /// After a commit of a session's own writes a directory stands for the changes with these: its list may stand for them, its book

@@ -11,4 +11,4 @@ pub returns-clause-book : goal.returns-clause-book
 returns-clause-book c = λ directory changes floor j is. subst (IsBookOf directory.sizes.group_rows (book_of directory.list) changes) (sym (floor_given directory changes j floor is)) j.book
 
 pub returns-clause-pruned : goal.returns-clause-pruned
-returns-clause-pruned c = λ directory changes recent floor j. stands_pruned directory changes j recent floor
+returns-clause-pruned c = λ directory changes recent floor kept j. stands_pruned directory changes j recent floor kept

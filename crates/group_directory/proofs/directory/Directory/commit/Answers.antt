@@ -1,6 +1,4 @@
-use Rattle.std.proofs.Common.{List, sym, ap, subst, ◌∙◌, ◌+◌}
-use Rattle.write_set.specs.declared.write.Write.{Write}
-use Rattle.write_set.specs.Writes.{Ascend}
+use Rattle.std.proofs.Common.{refl, sym, ap, ◌∙◌, ◌+◌}
 use Rattle.txn_table.specs.Txns.{own_of}
 use Rattle.group_directory.proofs.CommitLaws.{written_up, replaced_up, entries_later, notes_older, rest_up, rest_live, stands_done, stands_kept, stands_none, retold, on_err}
 use Rattle.group_directory.proofs.StandLaws.{stands_removed}
@@ -8,27 +6,27 @@ use Rattle.group_directory.proofs.directory.Directory.commit.Goals as goal
 
 pub returns-then-is_empty-clause-stands : goal.returns-then-is_empty-clause-stands
 returns-then-is_empty-clause-stands c = λ changes txn j is.
-    stands_none _ changes (c.args.self.now.clock + 1) txn.number txn.own (sym (ap own_of is) ∙ ap own_of (sym c.get.ensures ∙ c.in-Some.is) ∙ c.is_empty.ensures.0 c.if-is_empty.true)
+    stands_none _ changes (c.args.self.now.clock + 1) txn.number txn.own (sym (ap own_of is) ∙ ap own_of (sym c.get.ensures ∙ c.in-Some.is) ∙ c.is_empty.ensures.value.0 c.if-is_empty.true)
     (stands_removed c.args.self.now changes j c.remove.new.self c.args.session c.remove.ensures.txns)
 
 pub commit_own-requires-clause-written : goal.commit_own-requires-clause-written
-commit_own-requires-clause-written c = written_up c.as_slice.result.now (subst (λ (own : List Write). Ascend own) (sym c.as_slice.ensures.value) c.as_slice.ensures.order)
+commit_own-requires-clause-written c = written_up c.in-Some.txn.own c.is_empty.ensures.order
 
 pub commit_own-requires-clause-replaced : goal.commit_own-requires-clause-replaced
-commit_own-requires-clause-replaced c = replaced_up c.as_slice.result.now (subst (λ (own : List Write). Ascend own) (sym c.as_slice.ensures.value) c.as_slice.ensures.order)
+commit_own-requires-clause-replaced c = replaced_up c.in-Some.txn.own c.is_empty.ensures.order
 
 pub commit_own-requires-clause-later : goal.commit_own-requires-clause-later
 commit_own-requires-clause-later c = entries_later c.args.self.now c.requires.stands.0 c.requires.stands.1
 
 pub commit_own-requires-clause-rest : goal.commit_own-requires-clause-rest
 commit_own-requires-clause-rest c =
-    rest_up c.args.self.now c.requires.stands.0 c.requires.stands.1 c.args.session c.as_slice.result.now (ap own_of (sym c.get.ensures ∙ c.in-Some.is) ∙ sym c.as_slice.ensures.value)
-    (subst (λ (own : List Write). Ascend own) (sym c.as_slice.ensures.value) c.as_slice.ensures.order) c.args.parcel c.requires.parcel
+    rest_up c.args.self.now c.requires.stands.0 c.requires.stands.1 c.args.session c.in-Some.txn.own (ap own_of (sym c.get.ensures ∙ c.in-Some.is))
+    c.is_empty.ensures.order c.args.parcel c.requires.parcel
 
 pub commit_own-requires-clause-live : goal.commit_own-requires-clause-live
 commit_own-requires-clause-live c =
-    rest_live c.args.self.now c.requires.stands.0 c.requires.stands.1 c.args.session c.as_slice.result.now (ap own_of (sym c.get.ensures ∙ c.in-Some.is) ∙ sym c.as_slice.ensures.value)
-    (subst (λ (own : List Write). Ascend own) (sym c.as_slice.ensures.value) c.as_slice.ensures.order) c.args.parcel c.requires.parcel
+    rest_live c.args.self.now c.requires.stands.0 c.requires.stands.1 c.args.session c.in-Some.txn.own (ap own_of (sym c.get.ensures ∙ c.in-Some.is))
+    c.is_empty.ensures.order c.args.parcel c.requires.parcel
 
 pub commit_own-requires-clause-older : goal.commit_own-requires-clause-older
 commit_own-requires-clause-older c = notes_older c.args.self.now c.requires.stands.0 c.requires.stands.1
@@ -42,7 +40,7 @@ pub returns-clause-stands : goal.returns-clause-stands
 returns-clause-stands c = λ changes txn j is.
     let here = sym c.get.ensures ∙ c.in-Some.is in
     let done = c.in_ok-commit_own.ensures in
-    retold _ changes (c.args.self.now.clock + 1) c.as_slice.result.now c.in-Some.txn txn c.as_slice.ensures.value (sym here ∙ is)
-    (stands_done c.args.self.now changes j c.args.session c.as_slice.result.now (ap own_of here ∙ sym c.as_slice.ensures.value)
-    (subst (λ (own : List Write). Ascend own) (sym c.as_slice.ensures.value) c.as_slice.ensures.order) c.args.parcel c.requires.parcel
-    c.in-Some.txn.number c.commit_own.new.list c.remove-2.new.self c.commit_own.new.recent done.held done.claims done.book done.origins done.packed c.remove-2.ensures.txns done.noted)
+    c.prune.ensures.stands _ (retold _ changes (c.args.self.now.clock + 1) c.in-Some.txn.own c.in-Some.txn txn refl (sym here ∙ is)
+    (stands_done c.args.self.now changes j c.args.session c.in-Some.txn.own (ap own_of here)
+    c.is_empty.ensures.order c.args.parcel c.requires.parcel
+    c.in-Some.txn.number c.commit_own.new.list c.remove-2.new.self c.commit_own.new.recent done.held done.claims done.book done.origins done.packed c.remove-2.ensures.txns done.noted))
