@@ -1,18 +1,21 @@
--- Count, sum, least and greatest of cells in another order.
-use Rattle.std.proofs.Common.{◌≡◌, ℕ, ℤ, pos, ◌+ℤ◌, Bool, true, false, cond, not, ◌||◌, List, [], ◌∷◌, length, map, filter, fold, refl, sym, ap, ◌∙◌, inl, inr, true≢false}
-use Rattle.std.proofs.Math.IntN.{+ℤ_assoc, +ℤ_comm}
+-- Count, sum, least and greatest of cells in another order, and of the cells of two lists of rows.
+use Rattle.std.proofs.Common.{◌≡◌, ℕ, ℤ, pos, ◌+ℤ◌, Bool, true, false, cond, not, ◌||◌, List, [], ◌∷◌, ◌++◌, length, map, filter, fold, refl, sym, ap, ◌∙◌, inl, inr, true≢false}
+use Rattle.std.proofs.Math.IntN.{+ℤ_assoc, +ℤ_comm, +ℤ_idl, +ℤ_idr}
 use Rattle.std.specs.Cmp.{IsStrictWeakOrder}
 use Rattle.std.specs.declared.cmp.Ordering.{Ordering}
 use Rattle.std.specs.declared.cmp.Ordering.TheVariants.{Less, Equal, Greater}
 use Rattle.std.specs.Ordering.{is_lt, is_gt, is_eq, ordering_reverse}
 use Rattle.std.specs.List.Sorted.{IsPermutation}
 use Rattle.std.proofs.lemmas.Bool.{cond-true, cond-false, cases_Bool}
+use Rattle.std.proofs.lemmas.List.{map-append}
+use Rattle.std.proofs.lemmas.List.Elements.{filter-append}
 use Rattle.std.proofs.lemmas.List.Sorted.{IsPermutation-map, length_permutation, ranks_by}
+use Rattle.std.proofs.lemmas.List.Sums.{fold-append}
 use Rattle.cs_types.specs.declared.Value.{Value}
 use Rattle.cs_types.specs.declared.Value.TheVariants.{Null, Number, Text}
 use Rattle.cs_types.specs.Rows.{cell_at, number_in}
 use Rattle.cs_types.specs.Values.{value_cmp}
-use Rattle.cs_model.specs.Items.{is_null, present, sum_of, least_of, greatest_of}
+use Rattle.cs_model.specs.Items.{is_null, present, sum_of, least_of, greatest_of, lesser, greater}
 use Rattle.answer_laws.proofs.Orders.{value_total, value_decides}
 use Rattle.answer_laws.proofs.Moves.{filter-moved, fold-moved}
 
@@ -124,8 +127,19 @@ module _ (before : Value → Value → Bool) (chain : (x y z : Value) → before
         ∙ ap (λ w. fold joined w cells) (sym (cond-false _ v (chosen v cell) f))
   ]
 
+  from_front : (v : Value) (cells : List Value) → fold joined v cells ≡ joined v (fold joined Null cells)
+  from_front v [] = refl
+  from_front v (cell ∷ cells) =
+      from_front (joined v cell) cells ∙ joined-assoc v cell (fold joined Null cells)
+      ∙ ap (joined v) (sym (ap (λ w. fold joined w cells) (left_null Null cell refl) ∙ from_front cell cells))
+
   abbrev chosen_of : List Value → Value
   chosen_of cells = fold chosen Null (filter (λ cell. not (is_null cell)) cells)
+
+  chosen_of-append : (xs ys : List Value) → chosen_of (xs ++ ys) ≡ joined (chosen_of xs) (chosen_of ys)
+  chosen_of-append xs ys =
+      over_present Null (xs ++ ys) ∙ fold-append joined Null xs ys ∙ from_front (fold joined Null xs) ys
+      ∙ ap (λ v. joined v (fold joined Null ys)) (sym (over_present Null xs)) ∙ ap (joined (chosen_of xs)) (sym (over_present Null ys))
 
   chosen_of-moved : (xs ys : List Value) → IsPermutation xs ys → chosen_of xs ≡ chosen_of ys
   chosen_of-moved xs ys moved =
@@ -170,6 +184,22 @@ module _ (column : ℕ) where
   abbrev cell_in : List Value → Value
   cell_in row = cell_at row column
 
+  pub present-append : (xs ys : List (List Value)) → present column (xs ++ ys) ≡ present column xs ++ present column ys
+  present-append xs ys = ap (filter (λ cell. not (is_null cell))) (map-append cell_in xs ys) ∙ filter-append (λ cell. not (is_null cell)) (map cell_in xs) (map cell_in ys)
+
+  -- of the cells of two lists of rows the least is the lesser of both, NULL only where both are; so is the greatest
+  pub least-append : (xs ys : List (List Value)) → least_of (present column (xs ++ ys))
+      ≡ cond (is_null (least_of (present column ys))) (least_of (present column xs)) (lesser (least_of (present column xs)) (least_of (present column ys)))
+  least-append xs ys =
+      ap (λ cells. least_of (filter (λ cell. not (is_null cell)) cells)) (map-append cell_in xs ys)
+      ∙ chosen_of-append less less_ranks.chain less_ranks.one_way less_one (map cell_in xs) (map cell_in ys)
+
+  pub greatest-append : (xs ys : List (List Value)) → greatest_of (present column (xs ++ ys))
+      ≡ cond (is_null (greatest_of (present column ys))) (greatest_of (present column xs)) (greater (greatest_of (present column xs)) (greatest_of (present column ys)))
+  greatest-append xs ys =
+      ap (λ cells. greatest_of (filter (λ cell. not (is_null cell)) cells)) (map-append cell_in xs ys)
+      ∙ chosen_of-append more more_chain more_one_way more_one (map cell_in xs) (map cell_in ys)
+
   pub present-moved : (xs ys : List (List Value)) → IsPermutation xs ys → IsPermutation (present column xs) (present column ys)
   present-moved xs ys moved = filter-moved (λ cell. not (is_null cell)) (map cell_in xs) (map cell_in ys) (IsPermutation-map cell_in xs ys moved)
 
@@ -184,6 +214,15 @@ module _ (column : ℕ) where
 
 abbrev plus : ℤ → Value → ℤ
 plus sum cell = sum +ℤ number_in cell
+
+sum-from : (s : ℤ) (cells : List Value) → fold plus s cells ≡ s +ℤ fold plus (pos 0) cells
+sum-from s [] = sym (+ℤ_idr s)
+sum-from s (cell ∷ cells) =
+    sum-from (s +ℤ number_in cell) cells ∙ +ℤ_assoc s (number_in cell) (fold plus (pos 0) cells)
+    ∙ ap (λ n. s +ℤ n) (sym (sum-from (pos 0 +ℤ number_in cell) cells ∙ ap (λ n. n +ℤ fold plus (pos 0) cells) (+ℤ_idl (number_in cell))))
+
+pub sum_of-append : (xs ys : List Value) → sum_of (xs ++ ys) ≡ sum_of xs +ℤ sum_of ys
+sum_of-append xs ys = fold-append plus (pos 0) xs ys ∙ sum-from (sum_of xs) ys
 
 sums_swap : (s m n : ℤ) → (s +ℤ m) +ℤ n ≡ (s +ℤ n) +ℤ m
 sums_swap s m n = +ℤ_assoc s m n ∙ ap (λ k. s +ℤ k) (+ℤ_comm m n) ∙ sym (+ℤ_assoc s n m)

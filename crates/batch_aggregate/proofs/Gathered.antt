@@ -16,15 +16,15 @@ with_group cells row [] = (cells, row ∷ []) ∷ []
 with_group cells row (g ∷ gs) = cond (same_cells cells g.0) ((g.0, g.1 ++ row ∷ []) ∷ gs) (g ∷ with_group cells row gs)
 
 -- no list of cells is there twice
-abbrev Once : List (List Value) → Type 0
+abbrev pub Once : List (List Value) → Type 0
 Once [] = Unit {0}
 Once (k ∷ ks) = (list_any (same_cells k) ks ≡ false) × Once ks
 
-or_false : (a b : Bool) → (a || b) ≡ false → (a ≡ false) × (b ≡ false)
+pub or_false : (a b : Bool) → (a || b) ≡ false → (a ≡ false) × (b ≡ false)
 or_false false b h = (refl, h)
 or_false true b h = absurd (true≢false h)
 
-both_false : (a b : Bool) → a ≡ false → b ≡ false → (a || b) ≡ false
+pub both_false : (a b : Bool) → a ≡ false → b ≡ false → (a || b) ≡ false
 both_false a b h g = cc
 
 Once-push : (ks : List (List Value)) (k : List Value) → Once ks → list_any (same_cells k) ks ≡ false → Once (ks ++ k ∷ [])
@@ -41,7 +41,7 @@ Once-with ks k o = elim (cases_Bool (list_any (same_cells k) ks)) [
   | inr f ↦ subst Once (sym (cond-false _ _ _ f)) (Once-push ks k o f)
 ]
 
-Once-fold : (found xs : List (List Value)) → Once found → Once (fold with_cells found xs)
+pub Once-fold : (found xs : List (List Value)) → Once found → Once (fold with_cells found xs)
 Once-fold found [] o = o
 Once-fold found (x ∷ xs) o = Once-fold (with_cells found x) xs (Once-with found x o)
 

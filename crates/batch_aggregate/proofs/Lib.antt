@@ -1,7 +1,11 @@
-pub mod Changed
+pub mod Bags
 pub mod EntryLemmas
 pub mod Gathered
+pub mod Joining
+pub mod Merges
 pub mod RowLemmas
 pub mod SameRows
 pub mod ShownLemmas
 pub mod Sorting
+pub mod Stands
+pub mod TallyLemmas

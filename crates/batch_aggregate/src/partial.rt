@@ -1,13 +1,16 @@
 //! Partial answers.
 
-ghost use Rattle.std.specs.Prelude.{◌≡◌, ◌++◌, ◌∷◌, [], IfOk, OnOk, List};
+ghost use Rattle.std.specs.Prelude.{◌≡◌, ◌++◌, ◌∷◌, [], true, All, IfOk, OnOk, List, map};
 ghost use Rattle.cs_types.specs.declared.Value.{Value};
+ghost use Rattle.cs_model.specs.Groups as groups;
 ghost use Rattle.cs_model.specs.Queries as answers;
 ghost use Rattle.cs_model.specs.Queries.{Gives};
 ghost use Rattle.batch_aggregate.specs.Standing.{StandsFor};
+ghost use Rattle.batch_aggregate.specs.Tallies.{tally_of};
 
-use crate::entries::{Entries, add_row, no_rows};
+use crate::entries::{Entries, add_all, add_row, add_tallies, no_rows};
 use crate::shown::{grouped_answer, plain_answer};
+use crate::tally::Tallies;
 use cs_base::{Items, Memory};
 use cs_model::{AnswerRefusal, Pred, Query, Truth};
 use cs_predicate::truth;
@@ -15,7 +18,8 @@ use cs_types::{Loose, Row, Schema};
 use std::alloc::Global;
 
 /// What is known of the answer of a query after some rows. It stands for the list of the rows added to it; it keeps the
-/// tallies of their groups, and in a query without groups copies of the rows that the filter keeps.
+/// tallies of their groups, whatever the order of the rows, and in a query without groups copies of the rows that the filter
+/// keeps.
 #[derive(Drop)]
 pub struct Partial<'a> {
     schema: &'a Schema,
@@ -64,6 +68,42 @@ impl<'a> Partial<'a> {
             return add_row(self.alloc, &mut self.groups, self.query, row);
         }
         self.rows.push(row.copy()?)?;
+        Ok(())
+    }
+
+    /// Adds rows of one group at once, by the group's cells and the tallies of these rows: the filter keeps each of them, and
+    /// where there is none the query has no grouping columns. After `Memory` what it stands for is not known.
+    pub fn add_group(&mut self, cells: Row, tallies: Tallies) -> Result<(), Memory>
+        ensures schema { self.new.schema.now ≡ self.old.schema.now }
+        ensures query { self.new.query.now ≡ self.old.query.now }
+        ensures added { (rows more : List (List Value)) → self.old.query.now.grouped ≡ true → StandsFor self.old rows
+            → All (λ row. answers.keeps self.old.schema.now self.old.query.now.filter row ≡ true) more
+            → All (λ row. groups.cells_of self.old.query.now.groups row ≡ cells) more
+            → map (tally_of more) self.old.query.now.items ≡ tallies
+            → (more ≡ [] → (self.old.query.now.groups ≡ []) × (cells ≡ [])) → OnOk result (StandsFor self.new (rows ++ more)) }
+    {
+        add_tallies(&mut self.groups, cells, tallies)
+    }
+
+    /// Adds the rows of another partial answer of the same query. After `Memory` what it stands for is not known.
+    pub fn merge(&mut self, other: Partial<'a>) -> Result<(), Memory>
+        ensures schema { self.new.schema.now ≡ self.old.schema.now }
+        ensures query { self.new.query.now ≡ self.old.query.now }
+        ensures merged { (rows more : List (List Value)) → other.entry.schema.now ≡ self.old.schema.now → other.entry.query.now ≡ self.old.query.now
+            → StandsFor self.old rows → StandsFor other.entry more → OnOk result (StandsFor self.new (rows ++ more)) }
+    {
+        let Partial {
+            schema: _,
+            query: _,
+            rows,
+            groups,
+            alloc: _,
+        } = other;
+        if self.query.grouped {
+            return add_all(self.alloc, &mut self.groups, groups);
+        }
+        let mut rows = rows;
+        self.rows.append(&mut rows)?;
         Ok(())
     }
 

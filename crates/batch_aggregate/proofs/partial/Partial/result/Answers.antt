@@ -1,6 +1,6 @@
 use Rattle.std.proofs.Common.{subst}
 use Rattle.cs_model.specs.Queries.{Gives}
-use Rattle.batch_aggregate.proofs.ShownLemmas.{answered}
+use Rattle.batch_aggregate.proofs.Stands.{answered}
 use Rattle.batch_aggregate.proofs.partial.Partial.result.Goals as goal
 
 pub returns-then-query : goal.returns-then-query
