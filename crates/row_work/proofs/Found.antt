@@ -1,10 +1,10 @@
 -- What is found of a key in the view and among the own writes.
-use Rattle.std.proofs.Common.{◌≡◌, ◌≢◌, ℕ, Bool, true, false, not, ◌&&◌, cond, List, [], ◌∷◌, length, get_or, refl, sym, ap, ◌∙◌, arith}
+use Rattle.std.proofs.Common.{◌≡◌, ◌≢◌, ℕ, Bool, true, false, not, ◌&&◌, cond, List, [], ◌∷◌, length, get_or, refl, sym, ap, ◌∙◌, subst, arith}
 use Rattle.std.specs.Prelude.{Option, None, Some, IfNone, IfSome, IsSome, is_some, slice_get, unwrap_or}
 use Rattle.std.specs.List.{AllByRecursion}
 use Rattle.std.proofs.lemmas.List.Elements.{recursion_from_All}
 use Rattle.std.specs.Option.{option_map, option_and_then}
-use Rattle.std.proofs.lemmas.Option.{same_Some}
+use Rattle.std.proofs.lemmas.Option.{none-some, same_Some}
 use Rattle.cs_types.specs.declared.Key.{Key}
 use Rattle.cs_types.specs.declared.Value.{Value}
 use Rattle.cs_types.specs.Keys.{same_key}
@@ -30,6 +30,8 @@ use Rattle.group_view.specs.Views.{buffer_of, version_at, is_shown, HidesEach, S
 use Rattle.group_view.proofs.Versions.{padded_itself, stored_row}
 use Rattle.group_view.proofs.Looked.{found_shown, none_shown}
 use Rattle.row_work.specs.Reads.{read_by, read_key, rowed_at, shown_by, HasSnapshot}
+use Rattle.row_work.specs.declared.choose.Source.TheVariants.{Shown, Own}
+use Rattle.row_work.specs.Sources.{row_of}
 use Rattle.row_work.proofs.Overlaid.{shown_ascends}
 
 -- ---- in the view
@@ -127,3 +129,50 @@ pub mine_by : (own : List Write) (key : Key) (o : Option ℕ) → IsPlaceOf own 
 mine_by own key None none = no_key own key none
 mine_by [] key (Some i) found = absurd (omega (arith, found.within))
 mine_by (w ∷ own) key (Some i) found = has_key (w ∷ own) key i w found
+
+-- ---- where the row stands that is read at a key
+
+some_of : (o : Option (List Value)) → is_some o ≡ true → Some o ≡ option_map Some o
+some_of None is = cc
+some_of (Some row) is = refl
+
+none_of : (o : Option (List Value)) → is_some o ≡ false → None ≡ option_map Some o
+none_of None is = refl
+none_of (Some row) is = cc
+
+module _ (width : ℕ) (pinned : Pinned) (key : Key) (order : Ascend pinned.own) where
+  own_row_is : (i : ℕ) (write : Write) → IsFoundAt pinned.own key i → slice_get pinned.own i ≡ Some write → at key (read_by width pinned) ≡ write.row
+  own_row_is i write found is =
+      read_is width pinned key order ∙ ap (λ o. unwrap_or o (at key (shown_by width pinned))) (found_at pinned.own key i write order found is)
+
+  shown_row_is : IsPlaceOf pinned.own key None → at key (read_by width pinned) ≡ at key (shown_by width pinned)
+  shown_row_is none = read_is width pinned key order ∙ ap (λ o. unwrap_or o (at key (shown_by width pinned))) (none_at pinned.own key none)
+
+  pub own_source : (i : ℕ) (write : Write) → IsFoundAt pinned.own key i → slice_get pinned.own i ≡ Some write → is_some write.row ≡ true → Some (row_of width pinned (Own i)) ≡ option_map Some (at key (read_by width pinned))
+  own_source i write found is some =
+      ap (λ o. Some (option_and_then (λ (wrote : Write). wrote.row) o)) is ∙ some_of write.row some ∙ ap (option_map Some) (sym (own_row_is i write found is))
+
+  pub own_gone : (i : ℕ) (write : Write) → IsFoundAt pinned.own key i → slice_get pinned.own i ≡ Some write → is_some write.row ≡ false → None ≡ option_map Some (at key (read_by width pinned))
+  own_gone i write found is none = none_of write.row none ∙ ap (option_map Some) (sym (own_row_is i write found is))
+
+  pub shown_source : (place : Place) → HasSnapshot pinned → IsPlaceOf pinned.own key None → Shows pinned.view key pinned.snapshot place → Some (row_of width pinned (Shown place)) ≡ option_map Some (at key (read_by width pinned))
+  shown_source place has none shown =
+      let found = found_shown width pinned.view key pinned.snapshot has.view has.from_floor has.to_clock place shown in
+      ap Some found ∙ some_of (at key (shown_by width pinned)) (some_step width (version_at pinned.view place) (at key (shown_by width pinned)) _ found shown) ∙ ap (option_map Some) (sym (shown_row_is none))
+
+  pub hidden_source : HasSnapshot pinned → IsPlaceOf pinned.own key None → HidesEach pinned.view key pinned.snapshot → None ≡ option_map Some (at key (read_by width pinned))
+  hidden_source has none hidden =
+      ap (option_map Some) (sym (shown_row_is none ∙ none_shown width pinned.view key pinned.snapshot has.view has.from_floor has.to_clock hidden))
+
+-- a source where a row is read has the row
+pub source_has : (o row : Option (List Value)) → Some o ≡ option_map Some row → IsSome o
+source_has o None is = absurd (none-some o (sym is))
+source_has o (Some row) is = subst IsSome (sym (same_Some o (Some row) is)) refl
+
+pub source_row : (read : List Value) (o row : Option (List Value)) → o ≡ Some read → Some o ≡ option_map Some row → Some read ≡ row
+source_row read o None has is = absurd (none-some o (sym is))
+source_row read o (Some row) has is = sym has ∙ same_Some o (Some row) is
+
+pub source_none : (row : Option (List Value)) → None ≡ option_map Some row → None ≡ row
+source_none None is = refl
+source_none (Some row) is = absurd (none-some (Some row) is)

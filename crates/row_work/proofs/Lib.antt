@@ -1,10 +1,12 @@
 pub mod Answered
 pub mod Cells
+pub mod Constants
 pub mod Fits
 pub mod Fitting
 pub mod Found
 pub mod Judged
 pub mod Kept
+pub mod NamedRows
 pub mod Ordered
 pub mod Overlaid
 pub mod Puts

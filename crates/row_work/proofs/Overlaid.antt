@@ -36,7 +36,7 @@ use Rattle.row_work.specs.Reads.{own_row, read_by, read_row, rows_in, shown_by, 
 
 -- ---- keys
 
-reversed : (o : Ordering) → is_eq (ordering_reverse o) ≡ is_eq o
+pub reversed : (o : Ordering) → is_eq (ordering_reverse o) ≡ is_eq o
 reversed Less = refl
 reversed Equal = refl
 reversed Greater = refl
@@ -73,7 +73,7 @@ tail_ascends : (e : Key × List Value) (es : Table) → Ascends (e ∷ es) → A
 unfolding IsStrictlySortedBy
 tail_ascends e es up = up.1
 
-above_trans : (a b : Key) (keys : List Key) → key_cmp a b ≡ Less → AllByRecursion (λ y. key_cmp b y ≡ Less) keys → AllByRecursion (λ y. key_cmp a y ≡ Less) keys
+pub above_trans : (a b : Key) (keys : List Key) → key_cmp a b ≡ Less → AllByRecursion (λ y. key_cmp b y ≡ Less) keys → AllByRecursion (λ y. key_cmp a y ≡ Less) keys
 above_trans a b [] below all = tt
 above_trans a b (key ∷ keys) below all = (key_total.trans a b key below all.0, above_trans a b keys below all.1)
 

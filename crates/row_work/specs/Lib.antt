@@ -3,3 +3,4 @@ pub mod Reads
 pub mod Sources
 pub mod Keyed
 pub mod Inserts
+pub mod Named

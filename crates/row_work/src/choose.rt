@@ -10,9 +10,12 @@ ghost use Rattle.cs_model.specs.Obstacles.{has_row};
 ghost use Rattle.write_set.specs.Writes.{Ascend};
 ghost use Rattle.group_view.specs.Parts.{IsFitting};
 ghost use Rattle.group_view.specs.Views.{rowed_of};
+ghost use Rattle.row_work.specs.Named.{rows_at};
 ghost use Rattle.row_work.specs.Reads.{own_row, read_by, read_row, row_in, rowed_at, shown_by, HasSnapshot, MayRead};
 ghost use Rattle.row_work.specs.Sources.{chosen_edit, rows_as_edits, row_of, IsShown};
 
+use crate::lookup::read_at_key;
+use crate::named::named_keys;
 use crate::reading::{ReadRow, has_row_shown, read_at, row_at};
 use batch_aggregate::keeps;
 use cs_base::Memory;
@@ -109,7 +112,8 @@ fn choose_own(
     ensures shown { OnOk result (All (IsShown pinned.now) chosen.new.items) }
     ensures order { Ascend pinned.now.own }
 {
-    for (i, write) in pinned.own.as_slice().iter().enumerate() {
+    for i in 0..pinned.own.len() {
+        let write = pinned.own.get(i);
         if let Some(row) = &write.row {
             let key = write.key;
             let source = Source::Own(i);
@@ -137,7 +141,47 @@ fn sort(chosen: &mut Vec<Chosen>)
     );
 }
 
-/// The rows that are read and that the condition keeps, in the order of their keys.
+/// Reads all rows, and chooses those that the condition keeps, in the order of their keys.
+fn choose_of_all(
+    alloc: Global,
+    schema: &Schema,
+    condition: &Option<Pred>,
+    pinned: &Pinned,
+) -> Result<Vec<Chosen>, Memory>
+    requires { HasSnapshot pinned.now }
+    ensures rows { IfOk result (λ chosen. map (chosen_edit (length schema.now.columns) pinned.now) chosen.items ≡ rows_as_edits (spec.chosen schema.now condition.now (read_by (length schema.now.columns) pinned.now))) }
+    ensures shown { IfOk result (λ chosen. All (IsShown pinned.now) chosen.items) }
+{
+    let mut chosen = choose_shown(alloc, schema, condition, pinned)?;
+    choose_own(&mut chosen, schema, condition, pinned)?;
+    sort(&mut chosen);
+    Ok(chosen)
+}
+
+/// Reads the rows at keys, and chooses those that the condition keeps, in the order of the keys.
+fn choose_at_keys(
+    alloc: Global,
+    schema: &Schema,
+    condition: &Option<Pred>,
+    pinned: &Pinned,
+    keys: &[Key],
+) -> Result<Vec<Chosen>, Memory>
+    requires { HasSnapshot pinned.now }
+    ensures rows { IfOk result (λ chosen. map (chosen_edit (length schema.now.columns) pinned.now) chosen.items ≡ rows_as_edits (spec.chosen schema.now condition.now (rows_at (read_by (length schema.now.columns) pinned.now) keys.now))) }
+    ensures shown { IfOk result (λ chosen. All (IsShown pinned.now) chosen.items) }
+{
+    let width = schema.columns.len();
+    let mut chosen = Vec::new(alloc);
+    for key in keys {
+        if let Some((source, read)) = read_at_key(alloc, pinned, *key, width)? {
+            let one = Chosen { key: *key, source };
+            choose_read(&mut chosen, schema, condition, one, read)?;
+        }
+    }
+    Ok(chosen)
+}
+
+/// The rows that are read and that the condition keeps, in the order of their keys. Where it names keys, no other rows are read.
 pub fn choose(
     alloc: Global,
     schema: &Schema,
@@ -148,10 +192,10 @@ pub fn choose(
     ensures rows { IfOk result (λ chosen. map (chosen_edit (length schema.now.columns) pinned.now) chosen.items ≡ rows_as_edits (spec.chosen schema.now condition.now (read_by (length schema.now.columns) pinned.now))) }
     ensures shown { IfOk result (λ chosen. All (IsShown pinned.now) chosen.items) }
 {
-    let mut chosen = choose_shown(alloc, schema, condition, pinned)?;
-    choose_own(&mut chosen, schema, condition, pinned)?;
-    sort(&mut chosen);
-    Ok(chosen)
+    match named_keys(alloc, schema, condition)? {
+        Some(keys) => choose_at_keys(alloc, schema, condition, pinned, &keys),
+        None => choose_of_all(alloc, schema, condition, pinned),
+    }
 }
 
 /// The row of an own write that has one.

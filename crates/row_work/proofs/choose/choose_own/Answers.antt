@@ -1,8 +1,7 @@
-use Rattle.std.proofs.Common.{◌≡◌, ◌∙◌, ◌++◌, List, length, take, map, refl, ap, sym, subst}
-use Rattle.std.specs.Prelude.{Some, slice_get}
+use Rattle.std.proofs.Common.{◌∙◌, ◌++◌, List, length, take, map, ap, sym, subst}
+use Rattle.std.specs.Prelude.{slice_get}
 use Rattle.std.specs.List.{All, filter_map}
 use Rattle.std.specs.Option.{option_and_then, option_map}
-use Rattle.std.proofs.lemmas.Option.{slice_get_read}
 use Rattle.cs_types.specs.declared.Value.{Value}
 use Rattle.cs_model.specs.Queries.{keeps}
 use Rattle.write_set.specs.declared.write.Write.{Write}
@@ -22,12 +21,11 @@ loop-i-preserved c =
     let own = pinned.own in
     let width = length schema.columns in
     let n = c.loop-i.i in
-    let write = c.write-item.result in
+    let write = c.get-write.result.now in
     let front = filter_map own_row (take n own) in
     let last = option_and_then own_row (slice_get own n) in
     let initial = map (chosen_edit width pinned) c.args.chosen.now.items in
-    let here = slice_get_read c.as_slice-write-items.result.now _ n write refl c.loop-i-test.true c.write-item.is in
-    let there : slice_get own n ≡ Some write = ap (λ l. slice_get l n) (sym c.as_slice-write-items.ensures.value) ∙ here in
+    let there = c.get-write.ensures in
     let at = ap (option_and_then own_row) there in
     let more = ap (λ l. initial ++ picked schema condition l) (sym (read_more own_row own n)) in
     elim c.match-write.branch [

@@ -1,30 +1,23 @@
-use Rattle.std.proofs.Common.{◌∙◌, ◌++◌, ℕ, [], length, ap, sym}
-use Rattle.std.specs.List.{filter_map}
+use Rattle.std.proofs.Common.{length, subst}
 use Rattle.std.specs.Map.{values_of}
-use Rattle.cs_model.specs.Changes.{Table}
-use Rattle.group_view.specs.Views.{rowed_of}
-use Rattle.row_work.specs.Reads.{own_row, read_row, rows_in}
-use Rattle.row_work.proofs.Answered.{answer_read, print_read}
-use Rattle.row_work.proofs.Cells.{answered}
-use Rattle.row_work.proofs.Scanned.{values_append}
+use Rattle.cs_model.specs.Queries.{answer, Gives}
+use Rattle.row_work.specs.Named.{rows_at}
+use Rattle.row_work.specs.Reads.{read_by}
+use Rattle.row_work.proofs.Answered.{answer_named, print_read}
 use Rattle.row_work.proofs.select.answer.Goals as goal
 
-pub returns-clause-gives : goal.returns-clause-gives
-returns-clause-gives c =
+pub returns-in-Some-clause-gives : goal.returns-in-Some-clause-gives
+returns-in-Some-clause-gives c =
     let schema = c.args.schema.now in
     let query = c.args.query.now in
     let pinned = c.args.pinned.now in
-    let own = filter_map own_row pinned.own in
-    let shown : ℕ → Table = λ width. filter_map (read_row width pinned) (rowed_of pinned.view) in
-    let added = values_of (shown c.len-width.result) ++ values_of own in
-    let rows = values_of (rows_in (length schema.columns) pinned) in
-    let first = rw c.in_ok-add_shown.was at (c.add_shown.ensures.added [] c.in_ok-partial.ensures.empty) in
-    let both = rw c.in_ok-add_own.was at (c.add_own.ensures.added (values_of (shown c.len-width.result)) first) in
-    let is = ap (λ width. values_of (shown width) ++ values_of own) c.len-width.ensures ∙ sym (values_append (shown (length schema.columns)) own) in
-    answer_read schema query pinned c.requires c.result.result c.add_own.ensures.order
-    (answered schema c.add_own.new.partial.schema.now query c.add_own.new.partial.query.now rows added c.result.result
-    (c.in_ok-add_own.ensures.schema ∙ c.in_ok-add_shown.ensures.schema ∙ c.in_ok-partial.ensures.schema)
-    (c.in_ok-add_own.ensures.query ∙ c.in_ok-add_shown.ensures.query ∙ c.in_ok-partial.ensures.query) is (c.result.ensures added both))
+    let order = rw c.in-Some.is at c.in_ok-keys.ensures.order in
+    let named = rw c.in-Some.is at c.in_ok-keys.ensures.named in
+    answer_named schema query pinned c.requires c.in-Some.keys.items c.answer_at_keys.result order named
+    (subst (λ keys. Gives c.answer_at_keys.result (answer schema query (values_of (rows_at (read_by (length schema.columns) pinned) keys)))) c.deref.ensures.value c.answer_at_keys.ensures)
 
-pub returns-clause-printable : goal.returns-clause-printable
-returns-clause-printable c = print_read c.args.schema.now c.args.query.now c.args.pinned.now c.requires c.result.result (returns-clause-gives c)
+pub returns-in-Some-clause-printable : goal.returns-in-Some-clause-printable
+returns-in-Some-clause-printable c = print_read c.args.schema.now c.args.query.now c.args.pinned.now c.requires c.answer_at_keys.result (returns-in-Some-clause-gives c)
+
+pub returns-in-None-clause-printable : goal.returns-in-None-clause-printable
+returns-in-None-clause-printable c = print_read c.args.schema.now c.args.query.now c.args.pinned.now c.requires c.answer_of_all.result c.answer_of_all.ensures

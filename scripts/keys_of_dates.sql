@@ -1,0 +1,9 @@
+-- Statements that name keys where the key is a date.
+setup CREATE TABLE t (d date NOT NULL PRIMARY KEY, v int)
+s1 INSERT INTO t VALUES ('2024-02-29', 1), ('2024-03-01', 2), ('0001-01-01', 3)
+s1 SELECT * FROM t WHERE d = '2024-02-29'
+s1 SELECT * FROM t WHERE '20240301' = d AND v = 2
+s1 SELECT d FROM t WHERE d IN ('9999-12-31', '0001-01-01', '2024-02-29', NULL) ORDER BY v
+s1 UPDATE t SET v = 9 WHERE d = '0001-01-01'
+s1 DELETE FROM t WHERE d IN ('20240229', '2024-02-29')
+s1 SELECT * FROM t
