@@ -74,12 +74,12 @@ not_past x P false never full s = refl
 
 commits_some : (sizes : Sizes) (m : State) (own : List Write) (book made : Book) → own ≢ [] → IsReordered (book_with sizes m (edits_of own) book) made → draws_past book made ≡ false → Commits sizes m (edits_of own) book made
 commits_some sizes m [] book made some moved past = absurd (some refl)
-commits_some sizes m (w ∷ own) book made some moved past = (moved, past)
+commits_some sizes m (w ∷ _) book made some moved past = (moved, past)
 
 module _ (changes : List Change) (old new : CoreState) (session : ℕ) (number : Option ℕ) (j : Stands old.directory changes) (parcel : Parcel) (there : IsSome (txn_of old.directory.txns session))
     (of : IsParcelFor old.directory (own_of (txn_of old.directory.txns session)) parcel)
     (halves : new.halves ≡ old.halves)
-    (rest : new.directory ≡ record old.directory { list = new.directory.list; txns = new.directory.txns; recent = new.directory.recent; clock = new.directory.clock })
+    (rest : new.directory ≡ record old.directory { list = new.directory.list; txns = new.directory.txns; recent = new.directory.recent; pruned = new.directory.pruned; kept = new.directory.kept; clock = new.directory.clock })
     (clock : new.directory.clock ≡ unwrap_or number old.directory.clock)
     (num : number ≡ commit_number old.directory.clock (own_of (txn_of old.directory.txns session)))
     (txns : txn_of new.directory.txns ≡ with_txn (txn_of old.directory.txns) session None) (next : new.directory.txns.next ≡ old.directory.txns.next)
@@ -160,7 +160,7 @@ module _ (changes : List Change) (old new : CoreState) (session : ℕ) (number :
 -- ---- after a refusal
 
 pub still_refused : (old new : CoreState) → new.directory.list.claims ≡ old.directory.list.claims → ((changes : List Change) → Stands old.directory changes → Stands new.directory changes) → IsAsBefore old.directory new.directory
-    → new.directory ≡ record old.directory { list = new.directory.list; txns = new.directory.txns; recent = new.directory.recent; clock = new.directory.clock } → IsStill old new
+    → new.directory ≡ record old.directory { list = new.directory.list; txns = new.directory.txns; recent = new.directory.recent; pruned = new.directory.pruned; kept = new.directory.kept; clock = new.directory.clock } → IsStill old new
 still_refused old new claims stands same rest = record {
   stands = stands;
   same = record {

@@ -34,7 +34,7 @@ use Rattle.group_book.specs.Commits.{Sizes}
 use Rattle.group_book.specs.Invariant.{makes_group, AreById, AreSourcesOf, IsClaim}
 use Rattle.group_book.specs.Orders.{IsReordered}
 use Rattle.group_book.specs.Turns.{claim_by, same_actor, made_of, installed, released}
-use Rattle.group_log.specs.Followed.{ground_of, is_mover, Works}
+use Rattle.group_log.specs.Followed.{ground_of, is_mover, Ground, Works}
 use Rattle.group_log.specs.Followed.Works.{chosen, out_of_memory, installed as installed_work, released as released_work}
 use Rattle.group_view.specs.declared.claim.Claim.{Claim}
 use Rattle.group_view.specs.declared.claim.Product.{Product}
@@ -64,9 +64,9 @@ use Rattle.statement_core.specs.declared.started.Terms.{Terms}
 use Rattle.statement_core.specs.Cores.{IsCore}
 use Rattle.statement_core.specs.CoreState.{state_of, groups_of, claims_of}
 use Rattle.statement_core.specs.Fit.{AreFitting, IsFitState}
-use Rattle.statement_core.specs.Movers.{GivesTurn, IsFirstOf, IsMended, IsOfWork}
+use Rattle.statement_core.specs.Movers.{GivesTurn, IsFirstOf, IsMended, IsOfWork, IsWorkOf}
 use Rattle.statement_core.specs.Terms.{sizes_of}
-use Rattle.statement_core.specs.Turns.{IsFirst, IsLast, Moment, BeginsTurn, EndsTurn}
+use Rattle.statement_core.specs.Turns.{entry_of, HasAllClaims, IsFirst, Moment, BeginsTurn, TurnsTo, EndsBy}
 use Rattle.statement_core.proofs.Keeping.{core_push}
 use Rattle.statement_core.proofs.Mending.{mendable, shared_mendable, shared_product}
 
@@ -125,35 +125,26 @@ module _ (sizes : Sizes) (floor : ℕ) (actor : Actor) (before after : Book) whe
   abbrev turn : Choice
   turn = choice floor sizes.group_rows actor before
 
-  pub first_entry : (w : Work) → IsFirstOf turn floor actor before (Some w) after → IsFirst actor (choice_work turn floor before) (Mover actor w ∷ [])
-  first_entry w (inl given) = subst (λ (o : Option Work). IsFirst actor o (Mover actor w ∷ [])) (sym given.0) (inl refl)
-  first_entry w (inr short) = at (choice_work turn floor before) short.1
-    where
-      at : (o : Option Work) → IsSome o → IsFirst actor o (Mover actor w ∷ [])
-      at None some = absurd (cc some)
-      at (Some x) some = inr (ap (λ (y : Work). Mover actor y ∷ []) (same_Some w work.Memory short.0))
+  works_chosen : (w : Work) → claim_by actor before ≡ None → choice_work turn floor before ≡ Some w → after ≡ after_choice turn floor actor before → Works sizes floor actor before w after
+  works_chosen w none is moves = subst (Works sizes floor actor before w) (sym moves) (chosen none is)
 
-  pub first_works : (w : Work) → claim_by actor before ≡ None → IsFirstOf turn floor actor before (Some w) after → Works sizes floor actor before w after
-  first_works w none (inl given) = subst (Works sizes floor actor before w) (sym given.1) (chosen none given.0)
-  first_works w none (inr short) = at (choice_work turn floor before) refl short.1
+  pub first_works : (given : Turned) (w : Work) → claim_by actor before ≡ None → IsFirstOf turn floor actor before given (Some w) after → Works sizes floor actor before w after
+  first_works (turned.Lent claim) w none first = works_chosen w none first.0.3 first.1
+  first_works turned.Alone w none first = works_chosen w none first.0.2 first.1
+  first_works turned.Short w none first = at (choice_work turn floor before) refl first.0.0
     where
       at : (o : Option Work) → choice_work turn floor before ≡ o → IsSome o → Works sizes floor actor before w after
       at None is some = absurd (cc some)
       at (Some x) is some =
-          subst (λ (y : Work). Works sizes floor actor before y after) (sym (same_Some w work.Memory short.0)) (subst (Works sizes floor actor before work.Memory) (sym short.2) (out_of_memory none is))
+          subst (λ (y : Work). Works sizes floor actor before y after) (sym (same_Some w work.Memory first.0.1)) (subst (Works sizes floor actor before work.Memory) (sym first.1) (out_of_memory none is))
+  first_works turned.Idle w none first = absurd (cc (first.0.1))
 
-  idle_stays : (made : Choice) → choice_work made floor before ≡ None → after_choice made floor actor before ≡ before
-  idle_stays (Compress source) is = absurd (cc is)
-  idle_stays Flush is = absurd (cc is)
-  idle_stays (Rebuild source) is = absurd (cc is)
-  idle_stays (Merge first second) is = absurd (cc is)
-  idle_stays Settle is = absurd (cc is)
-  idle_stays Clear is = absurd (cc is)
-  idle_stays Idle is = refl
-
-  pub first_none : IsFirstOf turn floor actor before None after → (choice_work turn floor before ≡ None) × (after ≡ before)
-  first_none (inl given) = (given.0, given.1 ∙ idle_stays turn given.0)
-  first_none (inr short) = absurd (cc (short.0))
+  -- without a work the book stays
+  pub first_none : (given : Turned) → IsFirstOf turn floor actor before given None after → after ≡ before
+  first_none (turned.Lent claim) first = absurd (cc (first.0.2))
+  first_none turned.Alone first = absurd (cc (first.0.1))
+  first_none turned.Short first = first.1
+  first_none turned.Idle first = first.1
 
 -- ---- what a choice gives
 
@@ -182,29 +173,34 @@ module _ (floor : ℕ) (actor : Actor) (before : Book) (claim : Claim) where
 module _ (floor : ℕ) (actor : Actor) (made : Choice) (old new : Directory) where
   pub lent_first : (changes : List Change) (claim : Claim) (w : Work) → Stands old changes → IsTaken made floor actor old new (claimed.Lent claim) → IsSound old.schema.value changes actor (claimed.Lent claim)
       → ((floor : ℕ) (at : Book) → (makes_group (choice_of claim.choice) ≡ true → id_in claim.fresh ≡ at.next) → (choice_of claim.choice ≡ Flush → length claim.entries ≡ length (flushable at)) → choice_work (choice_of claim.choice) floor at ≡ Some w)
-      → IsFirstOf made floor actor (book_of old.list) (Some w) (book_of new.list)
+      → IsFirstOf made floor actor (book_of old.list) (turned.Lent claim) (Some w) (book_of new.list)
   lent_first changes claim w j taken sound given =
       let gives = taken.gives in
       let loan = sound.1 in
       let begins : Begins floor actor (book_of old.list) claim made = sym gives.2 ∙ ap (λ (b : Book). b.claims) taken.book in
-      inl (
-        subst (λ (m : Choice). choice_work m floor (book_of old.list) ≡ Some w) gives.1
-            (given floor (book_of old.list) (λ makes. lent_fresh floor actor (book_of old.list) claim made begins (ap makes_group (sym gives.1) ∙ makes))
-            (λ flush. lent_flush floor actor (book_of old.list) claim (subst (Begins floor actor (book_of old.list) claim) (sym gives.1 ∙ flush) begins) j.book.groups.by_id (loan.entries flush))),
-        taken.book,
-      )
+      let is_work : choice_work made floor (book_of old.list) ≡ Some w =
+      subst (λ (m : Choice). choice_work m floor (book_of old.list) ≡ Some w) gives.1
+      (given floor (book_of old.list) (λ makes. lent_fresh floor actor (book_of old.list) claim made begins (ap makes_group (sym gives.1) ∙ makes))
+      (λ flush. lent_flush floor actor (book_of old.list) claim (subst (Begins floor actor (book_of old.list) claim) (sym gives.1 ∙ flush) begins) j.book.groups.by_id (loan.entries flush))) in
+      ((gives.1, gives.0, refl, is_work), taken.book)
 
-  pub settled_first : (n : ℕ) → IsTaken made floor actor old new (claimed.Settled n) → IsFirstOf made floor actor (book_of old.list) (Some (work.Settle n)) (book_of new.list)
-  settled_first n taken = let gives = taken.gives in inl (ap (λ (m : Choice). choice_work m floor (book_of old.list)) gives.0 ∙ ap (λ (k : ℕ). Some (work.Settle k)) (sym gives.1), taken.book)
+  pub settled_first : (n : ℕ) → IsTaken made floor actor old new (claimed.Settled n) → IsFirstOf made floor actor (book_of old.list) turned.Alone (Some (work.Settle n)) (book_of new.list)
+  settled_first n taken =
+      let gives = taken.gives in
+      ((inl gives.0, refl, ap (λ (m : Choice). choice_work m floor (book_of old.list)) gives.0 ∙ ap (λ (k : ℕ). Some (work.Settle k)) (sym gives.1)), taken.book)
 
-  pub cleared_first : (n : ℕ) → IsTaken made floor actor old new (claimed.Cleared n) → IsFirstOf made floor actor (book_of old.list) (Some (work.Clear n)) (book_of new.list)
-  cleared_first n taken = let gives = taken.gives in inl (ap (λ (m : Choice). choice_work m floor (book_of old.list)) gives.0 ∙ ap (λ (k : ℕ). Some (work.Clear k)) (sym gives.1), taken.book)
+  pub cleared_first : (n : ℕ) → IsTaken made floor actor old new (claimed.Cleared n) → IsFirstOf made floor actor (book_of old.list) turned.Alone (Some (work.Clear n)) (book_of new.list)
+  cleared_first n taken =
+      let gives = taken.gives in
+      ((inr gives.0, refl, ap (λ (m : Choice). choice_work m floor (book_of old.list)) gives.0 ∙ ap (λ (k : ℕ). Some (work.Clear k)) (sym gives.1)), taken.book)
 
-  pub idle_first : IsTaken made floor actor old new claimed.Nothing → IsFirstOf made floor actor (book_of old.list) None (book_of new.list)
-  idle_first taken = inl (ap (λ (m : Choice). choice_work m floor (book_of old.list)) taken.gives, taken.book)
+  pub idle_first : IsTaken made floor actor old new claimed.Nothing → IsFirstOf made floor actor (book_of old.list) turned.Idle None (book_of new.list)
+  idle_first taken =
+      let idle : made ≡ Idle = taken.gives in
+      ((ap (λ (m : Choice). choice_work m floor (book_of old.list)) idle, refl), taken.book ∙ ap (λ (m : Choice). after_choice m floor actor (book_of old.list)) idle)
 
-  pub short_first : made ≢ Idle → book_of new.list ≡ book_of old.list → IsFirstOf made floor actor (book_of old.list) (Some work.Memory) (book_of new.list)
-  short_first busy same = inr (refl, busy_works made busy, same)
+  pub short_first : made ≢ Idle → book_of new.list ≡ book_of old.list → IsFirstOf made floor actor (book_of old.list) turned.Short (Some work.Memory) (book_of new.list)
+  short_first busy same = ((busy_works made busy, refl), same)
     where
       busy_works : (m : Choice) → m ≢ Idle → IsSome (choice_work m floor (book_of old.list))
       busy_works (Compress source) some = refl
@@ -292,9 +288,6 @@ module _ (d : Directory) (changes : List Change) (j : Stands d changes) (actor :
 
   -- ---- its install and its release
 
-  pub last_held : (w : Work) → (install_work (choice_of held.1.choice) (claim_of held) ≡ Some w) ⊎ (release_work (choice_of held.1.choice) (claim_of held) ≡ Some w) → IsLast actor (claim_by actor (book_of d.list)) (Mover actor w ∷ [])
-  last_held w same = subst (λ (o : Option book.Claim). IsLast actor o (Mover actor w ∷ [])) (sym held_in_book) (w, same, refl)
-
   abbrev Entries : Claim → Type 0
   Entries claim = choice_of claim.choice ≡ Flush → endings_of claim.entries ≡ lent_entries claim
 
@@ -344,28 +337,56 @@ module _ (made : Terms) (held : CoreState) (log : List Entry) (cap : ℕ) (sessi
     abbrev turns : Sizes → Choice
     turns sizes = choice floor sizes.group_rows actor (groups_of held)
 
-    pub turn_begun : (w : Work) → IsFirstOf (turns (directory_sizes held.directory)) floor actor (groups_of held) (Some w) after → BeginsTurn (ground_of made.schema.value (sizes_of made)) log actor (Mover actor w ∷ [])
-    turn_begun w first = record {
+    pub turn_told : (given : Turned) (w : Option Work) → claim_by actor (groups_of held) ≡ None → IsFirstOf (turns (directory_sizes held.directory)) floor actor (groups_of held) given w after
+        → TurnsTo (ground_of made.schema.value (sizes_of made)) log actor given (entry_of actor w)
+    turn_told given w none first = record {
       moment = moment;
       floor = floor;
       is_floor = floor_of i.changes held floor at_floor;
-      first = subst (λ (sizes : Sizes). IsFirst actor (choice_work (turns sizes) floor (groups_of held)) (Mover actor w ∷ [])) i.sizes (first_entry (directory_sizes held.directory) floor actor (groups_of held) after w first);
+      free = none;
+      work = w;
+      first = subst (λ (sizes : Sizes). IsWorkOf (turns sizes) (choice_work (turns sizes) floor (groups_of held)) given w) i.sizes first.0;
+      entry = refl;
     }
 
-    pub turn_idle : IsFirstOf (turns (directory_sizes held.directory)) floor actor (groups_of held) None after → BeginsTurn (ground_of made.schema.value (sizes_of made)) log actor []
-    turn_idle first = record {
-      moment = moment;
-      floor = floor;
-      is_floor = floor_of i.changes held floor at_floor;
-      first = subst (λ (sizes : Sizes). IsFirst actor (choice_work (turns sizes) floor (groups_of held)) []) i.sizes
-          (subst (λ (o : Option Work). IsFirst actor o []) (sym (first_none (directory_sizes held.directory) floor actor (groups_of held) after first).0) refl);
-    }
-
-  -- who holds no claim has no turn to end
-  pub turn_free : (actor : Actor) → held_by actor (claims_of held) ≡ None → EndsTurn (ground_of made.schema.value (sizes_of made)) log actor []
-  turn_free actor free = record { moment = moment; last = subst (λ (o : Option book.Claim). IsLast actor o []) (sym (free_in_book held.directory actor free)) refl }
+  -- no one else holds a claim
+  pub all_claims : HasAllClaims (ground_of made.schema.value (sizes_of made)) log (claims_of held)
+  all_claims = record { moment = moment; none = free_in_book held.directory }
 
   -- who holds one ends it by its install or its release
-  pub turn_ended : (actor : Actor) (kept : Actor × Claim) → held_by actor (claims_of held) ≡ Some kept → (w : Work)
-      → (install_work (choice_of kept.1.choice) (claim_of kept) ≡ Some w) ⊎ (release_work (choice_of kept.1.choice) (claim_of kept) ≡ Some w) → EndsTurn (ground_of made.schema.value (sizes_of made)) log actor (Mover actor w ∷ [])
-  turn_ended actor kept is w same = record { moment = moment; last = last_held held.directory i.changes i.stands actor kept is w same }
+  pub turn_ended : (ends : Choice → book.Claim → Option Work) (actor : Actor) (kept : Actor × Claim) → held_by actor (claims_of held) ≡ Some kept → (w : Work) → ends (choice_of kept.1.choice) (claim_of kept) ≡ Some w
+      → EndsBy ends (ground_of made.schema.value (sizes_of made)) log actor (Mover actor w ∷ [])
+  turn_ended ends actor kept is w same =
+      record { moment = moment; claim = claim_of kept; held = held_in_book held.directory i.changes i.stands actor kept is; work = w; of_claim = same; entry = refl }
+
+-- ---- what a turn gave, set aside
+
+-- the first event of a turn is one that its choice gives
+first_entry : (actor : Actor) (made : Choice) (due : Option Work) (given : Turned) (w : Option Work) → IsWorkOf made due given w → IsFirst actor due (entry_of actor w)
+first_entry actor made due given w is = at given is
+  where
+    its : (o : Option Work) → IsFirst actor o (entry_of actor o)
+    its None = refl
+    its (Some x) = inl refl
+
+    short : (o : Option Work) → IsSome o → IsFirst actor o (Mover actor work.Memory ∷ [])
+    short None some = absurd (cc some)
+    short (Some x) some = inr refl
+
+    at : (g : Turned) → IsWorkOf made due g w → IsFirst actor due (entry_of actor w)
+    at (turned.Lent claim) told = subst (λ (o : Option Work). IsFirst actor due (entry_of actor o)) told.3 (its due)
+    at turned.Alone told = subst (λ (o : Option Work). IsFirst actor due (entry_of actor o)) told.2 (its due)
+    at turned.Short told = subst (λ (o : Option Work). IsFirst actor due (entry_of actor o)) (sym told.1) (short due told.0)
+    at turned.Idle told = subst (λ (o : Option Work). IsFirst actor due (entry_of actor o)) (told.0 ∙ sym told.1) (its due)
+
+pub turn_begun : (origin : Ground) (before : List Entry) (actor : Actor) (given : Turned) (piece : List Entry) → TurnsTo origin before actor given piece → BeginsTurn origin before actor piece
+turn_begun origin before actor given piece told =
+    let made = choice told.floor origin.sizes.group_rows actor told.moment.book in
+    let due = choice_work made told.floor told.moment.book in
+    record {
+      moment = told.moment;
+      floor = told.floor;
+      is_floor = told.is_floor;
+      free = told.free;
+      first = subst (IsFirst actor due) (sym told.entry) (first_entry actor made due given told.work told.first);
+    }

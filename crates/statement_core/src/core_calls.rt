@@ -1,5 +1,5 @@
 // The core: the log of events, and what stands for the state that it leads to.
-ghost use Rattle.std.specs.Prelude.{◌≡◌, ◌≤◌, ◌<◌, ◌++◌, ◌∷◌, [], List, length, filter, not, All, Contains, OnErr, OnOk, IfOk, IsSome, None, true, false};
+ghost use Rattle.std.specs.Prelude.{◌≡◌, ◌≤◌, ◌<◌, ◌++◌, ◌∷◌, [], List, length, filter, not, All, Contains, OnErr, IfOk, IsSome, None, true, false};
 ghost use Rattle.cs_types.specs.Schemas.{IsSchema};
 ghost use Rattle.cs_model.specs.declared.entry.Entry.TheVariants.{Finish, End};
 ghost use Rattle.cs_model.specs.declared.entry.Entry.{Entry};
@@ -13,6 +13,7 @@ ghost use Rattle.cs_model.specs.Text.{IsPrintableEntry};
 ghost use Rattle.log_laws.specs.Laws.{AreDistinct};
 ghost use Rattle.log_laws.specs.Started.{Begun, IsStarted};
 ghost use Rattle.group_book.specs.Book.{Book};
+ghost use Rattle.group_book.specs.Choices as spec;
 ghost use Rattle.group_book.specs.Turns.{same_actor};
 ghost use Rattle.group_log.specs.Followed.{ground_of, is_mover, Followed};
 ghost use Rattle.group_directory.specs.Installing.{held_by};
@@ -21,7 +22,7 @@ ghost use Rattle.statement_core.specs.Cores.{IsDone, IsStartOf};
 ghost use Rattle.statement_core.specs.Movers.{GivesTurn, IsMended};
 ghost use Rattle.statement_core.specs.NewTable.{IsNewTable};
 ghost use Rattle.statement_core.specs.Terms.{sizes_of, AreTerms, AreTermsOf};
-ghost use Rattle.statement_core.specs.Turns.{BeginsTurn, EndsTurn};
+ghost use Rattle.statement_core.specs.Turns.{TurnsTo, EndsBy, HasAllClaims};
 
 use crate::begin::start;
 use crate::core_state::CoreState;
@@ -41,8 +42,8 @@ use std::sync::Arc;
 /// The most sessions, and so the most entries that can be owed beside a Start: a Finish and an End for each.
 const SESSIONS: usize = 64;
 
-/// Serves sessions and movers over one table: each call makes one event, or none. The log of the events is legal at any time, and the row groups
-/// follow it.
+/// Serves sessions and movers over one table: each call makes one event, or none. The log of the events is legal at any time, and
+/// the row groups follow it.
 #[derive(Drop)]
 pub struct Core {
     alloc: Global,
@@ -219,7 +220,7 @@ impl Core {
     pub fn claim(&mut self, actor: Actor) -> Result<Turned, Memory>
         requires mover { is_mover actor ≡ true }
         requires free { held_by actor self.old.claims ≡ None }
-        ensures begins { OnOk result ((piece : List Entry) × (self.new.log ≡ self.old.log ++ piece) × BeginsTurn (ground_of self.old.schema self.old.sizes) self.old.log actor piece) }
+        ensures begins { IfOk result (λ turned. (piece : List Entry) × (self.new.log ≡ self.old.log ++ piece) × TurnsTo (ground_of self.old.schema self.old.sizes) self.old.log actor turned piece) }
         ensures turned { IfOk result (GivesTurn actor self.old.claims self.new.claims) }
         ensures schema { self.new.schema ≡ self.old.schema }
         ensures sizes { self.new.sizes ≡ self.old.sizes }
@@ -240,7 +241,7 @@ impl Core {
     pub fn install(&mut self, actor: Actor, product: Product)
         requires mover { is_mover actor ≡ true }
         requires product { IsMended (held_by actor self.old.claims) product }
-        ensures ends { (piece : List Entry) × (self.new.log ≡ self.old.log ++ piece) × EndsTurn (ground_of self.old.schema self.old.sizes) self.old.log actor piece }
+        ensures ends { (piece : List Entry) × (self.new.log ≡ self.old.log ++ piece) × EndsBy spec.install_work (ground_of self.old.schema self.old.sizes) self.old.log actor piece }
         ensures claims { self.new.claims ≡ filter (λ held. not (same_actor held.0 actor)) self.old.claims }
         ensures schema { self.new.schema ≡ self.old.schema }
         ensures sizes { self.new.sizes ≡ self.old.sizes }
@@ -259,7 +260,7 @@ impl Core {
     pub fn release(&mut self, actor: Actor)
         requires mover { is_mover actor ≡ true }
         requires holds { IsSome (held_by actor self.old.claims) }
-        ensures ends { (piece : List Entry) × (self.new.log ≡ self.old.log ++ piece) × EndsTurn (ground_of self.old.schema self.old.sizes) self.old.log actor piece }
+        ensures ends { (piece : List Entry) × (self.new.log ≡ self.old.log ++ piece) × EndsBy spec.release_work (ground_of self.old.schema self.old.sizes) self.old.log actor piece }
         ensures claims { self.new.claims ≡ filter (λ held. not (same_actor held.0 actor)) self.old.claims }
         ensures schema { self.new.schema ≡ self.old.schema }
         ensures sizes { self.new.sizes ≡ self.old.sizes }
@@ -296,8 +297,8 @@ impl Core {
         ensures legal { (m : State) × Legal (begin_of self.now.schema) self.now.log m }
         ensures followed { (m : State) × (book : Book) × Followed (ground_of self.now.schema self.now.sizes) self.now.log m book }
         ensures printable { All (IsPrintableEntry self.now.schema) self.now.log }
-        // An actor without a claim has no turn to end.
-        ensures free { (actor : Actor) → held_by actor self.now.claims ≡ None → EndsTurn (ground_of self.now.schema self.now.sizes) self.now.log actor [] }
+        // In the book that it leads to, an actor that holds none of the claims has no turn to end.
+        ensures claims { HasAllClaims (ground_of self.now.schema self.now.sizes) self.now.log self.now.claims }
     {
         self.log.as_slice()
     }

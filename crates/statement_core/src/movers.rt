@@ -147,7 +147,7 @@ pub fn claim(held: &mut CoreState, actor: Actor) -> (Turned, Option<Work>)
     requires none { claim_by actor (groups_of held.old) ≡ None }
     requires stands { (changes : List Change) × Stands held.old.directory changes }
     ensures first { (floor : ℕ) → IsFloor (snapshots_in (txn_of held.old.directory.txns)) held.old.directory.clock floor
-        → IsFirstOf (choice floor held.old.directory.sizes.group_rows actor (groups_of held.old)) floor actor (groups_of held.old) result.1 (groups_of held.new) }
+        → IsFirstOf (choice floor held.old.directory.sizes.group_rows actor (groups_of held.old)) floor actor (groups_of held.old) result.0 result.1 (groups_of held.new) }
     ensures turned { (changes : List Change) → Stands held.old.directory changes → IsSchema held.old.directory.schema.value → AreFitting held.old.directory.schema.value changes
         → GivesTurn actor (claims_of held.old) (claims_of held.new) result.0 }
     ensures state { (changes : List Change) → state_of changes held.new ≡ state_of changes held.old }

@@ -1,4 +1,4 @@
-use Rattle.std.proofs.Common.{◌≡◌, ◌∙◌, ◌++◌, ◌∷◌, [], List, ap, sym, subst, arith, rules, None, Option}
+use Rattle.std.proofs.Common.{◌≡◌, ◌∙◌, ◌++◌, ◌∷◌, [], List, ap, sym, subst, arith, rules, None, Some, Option}
 use Rattle.std.proofs.lemmas.List.{append-nil}
 use Rattle.cs_types.specs.declared.Schema.{Schema}
 use Rattle.cs_types.specs.Schemas.{IsSchema}
@@ -15,9 +15,9 @@ use Rattle.statement_core.specs.CoreValue.{CoreValue}
 use Rattle.statement_core.specs.CoreState.{groups_of, claims_of}
 use Rattle.statement_core.specs.Fit.{AreFitting}
 use Rattle.statement_core.specs.Movers.{GivesTurn, IsFirstOf}
-use Rattle.statement_core.specs.Turns.{BeginsTurn}
+use Rattle.statement_core.specs.Turns.{TurnsTo}
 use Rattle.statement_core.proofs.Keeping.{core_same}
-use Rattle.statement_core.proofs.Turns.{core_worked, first_none, first_works, free_in_book, turn_begun, turn_idle, turned_claims}
+use Rattle.statement_core.proofs.Turns.{core_worked, first_none, first_works, free_in_book, turn_told, turned_claims}
 use Rattle.statement_core.proofs.core_calls.Core.claim.Goals as goal
 use Rattle.statement_core.proofs.core_calls.Core.claim.Goals.{in-Some, in_default}
 
@@ -34,17 +34,18 @@ invariant_of-self-in-Some c =
     let old = inside.held in
     let new = c.claim-turned.new.held in
     let actor = c.args.actor in
+    let given = c.claim-turned.result.0 in
     let w = c.in-Some.work in
     let gives = c.claim-turned.ensures in
-    let first = subst (λ (o : Option Work). IsFirstOf (choice j.floor old.directory.sizes.group_rows actor (groups_of old)) j.floor actor (groups_of old) o (groups_of new)) c.in-Some.is (gives.first j.floor j.is_floor) in
+    let first = subst (λ (o : Option Work). IsFirstOf (choice j.floor old.directory.sizes.group_rows actor (groups_of old)) j.floor actor (groups_of old) given o (groups_of new)) c.in-Some.is (gives.first j.floor j.is_floor) in
     let none = free_in_book old.directory actor (rw (← c.self.view_is) at c.requires.free) in
     let most = owed_at_most inside.sessions.items inside.log.items in
     let few = i.few in
     let turned = gives.turned i.changes j (subst IsSchema (sym i.schema) i.table) (subst (λ (s : Schema). AreFitting s i.changes) (sym i.schema) fits.changes) in
-    let more = turned_claims actor (claims_of old) (claims_of new) c.claim-turned.result.0 turned in
+    let more = turned_claims actor (claims_of old) (claims_of new) given turned in
     rw (c.push_reserved.ensures.items, c.in_ok-reserve.ensures.items)
     (core_worked made old inside.log.items _ inside.sessions.items i new _ actor w c.requires.mover (gives.stands i.changes j) gives.sizes gives.schema (gives.state i.changes)
-    (first_works (directory_sizes old.directory) j.floor actor (groups_of old) (groups_of new) w none first)
+    (first_works (directory_sizes old.directory) j.floor actor (groups_of old) (groups_of new) given w none first)
     (omega (arith, most, few, more, c.len-claims.ensures, c.push_reserved.ensures.capacity, c.in_ok-reserve.ensures.ok)))
 
 pub invariant_of-self-in_default : goal.invariant_of-self-in_default
@@ -57,14 +58,15 @@ invariant_of-self-in_default c =
     let old = inside.held in
     let new = c.claim-turned.new.held in
     let actor = c.args.actor in
+    let given = c.claim-turned.result.0 in
     let gives = c.claim-turned.ensures in
     let idle : c.claim-turned.result.1 ≡ None = search rules in
-    let first = subst (λ (o : Option Work). IsFirstOf (choice j.floor old.directory.sizes.group_rows actor (groups_of old)) j.floor actor (groups_of old) o (groups_of new)) idle (gives.first j.floor j.is_floor) in
-    let same = (first_none (directory_sizes old.directory) j.floor actor (groups_of old) (groups_of new) first).1 in
+    let first = subst (λ (o : Option Work). IsFirstOf (choice j.floor old.directory.sizes.group_rows actor (groups_of old)) j.floor actor (groups_of old) given o (groups_of new)) idle (gives.first j.floor j.is_floor) in
+    let same = first_none (directory_sizes old.directory) j.floor actor (groups_of old) (groups_of new) given first in
     let most = owed_at_most inside.sessions.items inside.log.items in
     let few = i.few in
     let turned = gives.turned i.changes j (subst IsSchema (sym i.schema) i.table) (subst (λ (s : Schema). AreFitting s i.changes) (sym i.schema) fits.changes) in
-    let more = turned_claims actor (claims_of old) (claims_of new) c.claim-turned.result.0 turned in
+    let more = turned_claims actor (claims_of old) (claims_of new) given turned in
     rw c.in_ok-reserve.ensures.items
     (core_same made old new inside.log.items _ _ inside.sessions.items i (gives.stands i.changes j) gives.sizes gives.schema (gives.state i.changes) same (omega (arith, most, few, more, c.len-claims.ensures, c.in_ok-reserve.ensures.ok)))
 
@@ -77,22 +79,24 @@ returns-clause-begins c =
     let old = inside.held in
     let new = c.claim-turned.new.held in
     let actor = c.args.actor in
+    let given = c.claim-turned.result.0 in
     let gives = c.claim-turned.ensures in
+    let none = free_in_book old.directory actor (rw (← c.self.view_is) at c.requires.free) in
     let log_is = c.in_ok-reserve.ensures.items ∙ ap (λ (v : CoreValue). v.log) c.self.view_is in
     elim c.match-work.branch [
       | in-Some w ↦
-          let first = subst (λ (o : Option Work). IsFirstOf (choice j.floor old.directory.sizes.group_rows actor (groups_of old)) j.floor actor (groups_of old) o (groups_of new)) w.in-Some.is (gives.first j.floor j.is_floor) in (
+          let first = subst (λ (o : Option Work). IsFirstOf (choice j.floor old.directory.sizes.group_rows actor (groups_of old)) j.floor actor (groups_of old) given o (groups_of new)) w.in-Some.is (gives.first j.floor j.is_floor) in (
             Mover actor w.in-Some.work ∷ [],
             ap (λ (v : CoreValue). v.log) w.self-is ∙ w.push_reserved.ensures.items ∙ ap (λ (l : List Entry). l ++ Mover actor w.in-Some.work ∷ []) log_is,
-            subst (λ (v : CoreValue). BeginsTurn (ground_of v.schema v.sizes) v.log actor (Mover actor w.in-Some.work ∷ [])) c.self.view_is
-                (turn_begun made old inside.log.items _ inside.sessions.items i actor (groups_of new) w.in-Some.work first),
+            subst (λ (v : CoreValue). TurnsTo (ground_of v.schema v.sizes) v.log actor given (Mover actor w.in-Some.work ∷ [])) c.self.view_is
+                (turn_told made old inside.log.items _ inside.sessions.items i actor (groups_of new) given (Some w.in-Some.work) none first),
           )
       | in_default w ↦
           let idle : c.claim-turned.result.1 ≡ None = search rules in
-          let first = subst (λ (o : Option Work). IsFirstOf (choice j.floor old.directory.sizes.group_rows actor (groups_of old)) j.floor actor (groups_of old) o (groups_of new)) idle (gives.first j.floor j.is_floor) in (
+          let first = subst (λ (o : Option Work). IsFirstOf (choice j.floor old.directory.sizes.group_rows actor (groups_of old)) j.floor actor (groups_of old) given o (groups_of new)) idle (gives.first j.floor j.is_floor) in (
             [],
             ap (λ (v : CoreValue). v.log) w.self-is ∙ log_is ∙ sym (append-nil c.args.self.now.log),
-            subst (λ (v : CoreValue). BeginsTurn (ground_of v.schema v.sizes) v.log actor []) c.self.view_is (turn_idle made old inside.log.items _ inside.sessions.items i actor (groups_of new) first),
+            subst (λ (v : CoreValue). TurnsTo (ground_of v.schema v.sizes) v.log actor given []) c.self.view_is (turn_told made old inside.log.items _ inside.sessions.items i actor (groups_of new) given None none first),
           )
     ]
 
@@ -102,9 +106,10 @@ returns-clause-turned c =
     let i = c.self.invariant in
     let fits = i.fit in
     let actor = c.args.actor in
+    let given = c.claim-turned.result.0 in
     let gives = c.claim-turned.ensures in
     let turned = gives.turned i.changes i.stands (subst IsSchema (sym i.schema) i.table) (subst (λ (s : Schema). AreFitting s i.changes) (sym i.schema) fits.changes) in
     let claims : c.match-work.self.claims ≡ claims_of c.claim-turned.new.held =
     elim c.match-work.branch [ in-Some w ↦ ap (λ (v : CoreValue). v.claims) w.self-is | in_default w ↦ ap (λ (v : CoreValue). v.claims) w.self-is ] in
-    subst (λ (new : List (Actor × Claim)). GivesTurn actor c.args.self.now.claims new c.claim-turned.result.0) (sym claims)
-    (subst (λ (v : CoreValue). GivesTurn actor v.claims (claims_of c.claim-turned.new.held) c.claim-turned.result.0) c.self.view_is turned)
+    subst (λ (new : List (Actor × Claim)). GivesTurn actor c.args.self.now.claims new given) (sym claims)
+    (subst (λ (v : CoreValue). GivesTurn actor v.claims (claims_of c.claim-turned.new.held) given) c.self.view_is turned)

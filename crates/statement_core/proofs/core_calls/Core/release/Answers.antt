@@ -1,8 +1,9 @@
-use Rattle.std.proofs.Common.{◌∙◌, ◌++◌, ◌∷◌, [], List, ap, inr, refl, sym, subst, arith, length, Option}
+use Rattle.std.proofs.Common.{◌∙◌, ◌++◌, ◌∷◌, [], List, ap, refl, sym, subst, arith, length, Option}
 use Rattle.std.specs.Prelude.{IsSome}
 use Rattle.cs_model.specs.declared.entry.Entry.TheVariants.{Mover}
 use Rattle.cs_model.specs.declared.work.Actor.{Actor}
 use Rattle.group_book.specs.Book as book
+use Rattle.group_book.specs.Choices.{release_work}
 use Rattle.group_log.specs.Followed.{ground_of}
 use Rattle.group_view.specs.declared.claim.Claim.{Claim}
 use Rattle.group_view.specs.Books.{choice_of, book_of}
@@ -12,7 +13,7 @@ use Rattle.group_directory.specs.Laws.{sizes_of as directory_sizes}
 use Rattle.statement_core.specs.declared.core_state.CoreState.{CoreState}
 use Rattle.statement_core.specs.CoreValue.{CoreValue}
 use Rattle.statement_core.specs.Movers.{IsOfWork}
-use Rattle.statement_core.specs.Turns.{EndsTurn}
+use Rattle.statement_core.specs.Turns.{EndsBy}
 use Rattle.statement_core.proofs.Turns.{fewer_claims, state_listed, core_worked, held_found, held_in_book, held_release, held_work, works_release, turn_ended}
 use Rattle.statement_core.proofs.core_calls.Core.release.Goals as goal
 
@@ -76,5 +77,5 @@ returns-clause-ends c =
     let is_work = held_release old.directory i.changes j actor kept.0 kept.1 c.in-Some.claim.now w kept.2 c.release_work-work.ensures in (
       Mover actor w ∷ [],
       c.push_reserved.ensures.items ∙ ap (λ (v : CoreValue). v.log ++ Mover actor w ∷ []) c.self.view_is,
-      subst (λ (v : CoreValue). EndsTurn (ground_of v.schema v.sizes) v.log actor (Mover actor w ∷ [])) c.self.view_is (turn_ended inside.terms.value old inside.log.items _ inside.sessions.items i actor kept.0 kept.1 w (inr is_work)),
+      subst (λ (v : CoreValue). EndsBy release_work (ground_of v.schema v.sizes) v.log actor (Mover actor w ∷ [])) c.self.view_is (turn_ended inside.terms.value old inside.log.items _ inside.sessions.items i release_work actor kept.0 kept.1 w is_work),
     )
