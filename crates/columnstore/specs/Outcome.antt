@@ -10,6 +10,7 @@ use Rattle.cs_model.specs.Text.{text}
 use Rattle.script_reader.specs.declared.script.Script.{Script}
 use Rattle.script_reader.specs.Scripts.{IsScript, IsBadLine}
 use Rattle.group_book.specs.Commits.{Sizes}
+use Rattle.group_log.specs.Followed.{ground_of}
 use Rattle.script_runner.specs.Logs.{IsLogOf}
 use Rattle.columnstore.specs.declared.status.Status.{Status}
 use Rattle.columnstore.specs.declared.status.Status.TheVariants as status
@@ -31,7 +32,7 @@ pub record Performed (sizes : Sizes) (bytes whole : List ℕ) : Type 0 where
   pub script : Script
   pub log : List Entry
   pub reads : IsScript bytes script
-  pub run : IsLogOf sizes script log
+  pub run : IsLogOf (ground_of script.schema sizes) script log
   pub is : whole ≡ text (begin_of script.schema) log
 
 -- ` error <number>`, for a refused setup statement

@@ -1,11 +1,12 @@
 // What is to be written for an input.
-ghost use Rattle.std.specs.Prelude.{◌≡◌, ◌++◌, List, [], IfOk, OnOk};
+ghost use Rattle.std.specs.Prelude.{◌≡◌, ◌++◌, List, [], IfErr, IfOk, MatchResult, OnOk};
 ghost use Rattle.cs_model.specs.declared.entry.Entry.{Entry};
 ghost use Rattle.cs_model.specs.State.{begin_of};
 ghost use Rattle.cs_model.specs.Text.{text};
 ghost use Rattle.script_reader.specs.declared.script.Script.{Script};
-ghost use Rattle.script_reader.specs.Scripts.{IsScript, IsRunnable};
+ghost use Rattle.script_reader.specs.Scripts.{IsScript, IsRunnable, RefusesScript};
 ghost use Rattle.statement_core.specs.Terms.{AreTermsOf};
+ghost use Rattle.group_log.specs.Followed.{ground_of};
 ghost use Rattle.script_runner.specs.Logs.{IsLogOf, IsMadeOf};
 ghost use Rattle.columnstore.specs.Outcome.{sizes_in, IsAnswered, setup_error_text, bad_line_text};
 
@@ -16,7 +17,7 @@ use cs_model::print_log;
 use cs_types::Line;
 use script_reader::{Script, ScriptRefusal, read_script};
 use script_runner::{Runner, run_schedule};
-use statement_core::Core;
+use statement_core::{Core, Desk};
 use statement_work::Clerk;
 use std::alloc::Global;
 
@@ -46,7 +47,11 @@ fn bad_line(alloc: Global, line: u64, reason: u32, number: u32) -> Result<Line, 
 }
 
 /// A runner over a new core for the table and the sessions of a script, with row groups so large.
-fn runner_for(alloc: Global, sizes: GroupSizes, script: &Script) -> Result<Runner, Memory>
+pub(crate) fn runner_for(
+    alloc: Global,
+    sizes: GroupSizes,
+    script: &Script,
+) -> Result<Runner, Memory>
     requires runnable { IsRunnable script.now }
     requires sizes { AreTermsOf sizes.group_rows sizes.direct_rows }
     ensures schema { IfOk result (λ runner. runner.schema ≡ script.now.schema) }
@@ -66,19 +71,24 @@ fn runner_for(alloc: Global, sizes: GroupSizes, script: &Script) -> Result<Runne
     Runner::new(alloc, core)
 }
 
-/// Runs a script with a runner that was made for it, and gives the text of the log. Where memory gives out, in the run or for
-/// the text, the runner still has the log of the steps that were made.
-fn run(alloc: Global, runner: &mut Runner, script: &Script) -> Result<Line, Memory>
+/// Runs a script with a runner that was made for it, the work done at this desk, and gives the text of the log. Where memory gives
+/// out, in the run or for the text, the runner still has the log of the steps that were made.
+pub(crate) fn run<D: Desk>(
+    alloc: Global,
+    runner: &mut Runner,
+    script: &Script,
+    desk: &D,
+) -> Result<Line, Memory>
     requires runnable { IsRunnable script.now }
     requires schema { runner.old.schema ≡ script.now.schema }
     requires log { runner.old.log ≡ [] }
     requires sessions { runner.old.sessions ≡ script.now.sessions }
     requires claims { runner.old.claims ≡ [] }
-    ensures whole { IfOk result (λ line. IsLogOf runner.old.sizes script.now runner.new.log) }
+    ensures whole { IfOk result (λ line. IsLogOf (ground_of script.now.schema runner.old.sizes) script.now runner.new.log) }
     ensures text { IfOk result (λ line. line ≡ text (begin_of script.now.schema) runner.new.log) }
-    ensures made { IsMadeOf runner.old.sizes script.now runner.new.log }
+    ensures made { IsMadeOf (ground_of script.now.schema runner.old.sizes) script.now runner.new.log }
 {
-    run_schedule(runner, script, &Clerk)?;
+    run_schedule(runner, script, desk)?;
     print_log(alloc, runner.schema(), runner.log())
 }
 
@@ -86,21 +96,32 @@ fn run(alloc: Global, runner: &mut Runner, script: &Script) -> Result<Line, Memo
 fn replay(alloc: Global, sizes: GroupSizes, script: &Script) -> Result<Line, Memory>
     requires runnable { IsRunnable script.now }
     requires sizes { AreTermsOf sizes.group_rows sizes.direct_rows }
-    ensures text { IfOk result (λ line. (log : List Entry) × IsLogOf (sizes_in sizes) script.now log × (line ≡ text (begin_of script.now.schema) log)) }
+    ensures text { IfOk result (λ line. (log : List Entry) × IsLogOf (ground_of script.now.schema (sizes_in sizes)) script.now log × (line ≡ text (begin_of script.now.schema) log)) }
 {
     let mut runner = runner_for(alloc, sizes, script)?;
-    run(alloc, &mut runner, script)
+    run(alloc, &mut runner, script, &Clerk)
+}
+
+/// The script that the bytes are, or why they are none. The bytes are let go: a script has its own copies of the texts, so that a long
+/// run keeps no second one.
+fn script_of(alloc: Global, bytes: Vec<u8>) -> Result<Script, ScriptRefusal>
+    ensures found { IfOk result (λ script. IsScript bytes.items script) }
+    ensures only { (other : Script) → IsScript bytes.items other → MatchResult result (λ script. script ≡ other) (λ e. e ≡ ScriptRefusal.Memory) }
+    ensures refused { IfErr result (λ e. RefusesScript bytes.items e) }
+    ensures runs { IfOk result (λ script. IsRunnable script) }
+{
+    read_script(alloc, bytes.as_slice())
 }
 
 /// The whole text that is to be written for an input, with row groups so large, and the status that goes with it. `Memory` where
 /// there is no room for the script, its run or the text.
-pub fn answer(alloc: Global, sizes: GroupSizes, bytes: &[u8]) -> Result<(Status, Line), Memory>
+pub fn answer(alloc: Global, sizes: GroupSizes, bytes: Vec<u8>) -> Result<(Status, Line), Memory>
     requires sizes { AreTermsOf sizes.group_rows sizes.direct_rows }
-    ensures answered { IfOk result (λ a. IsAnswered (sizes_in sizes) bytes.now a.0 a.1) }
+    ensures answered { IfOk result (λ a. IsAnswered (sizes_in sizes) bytes.items a.0 a.1) }
     // A script is run.
-    ensures runs { (script : Script) → IsScript bytes.now script → IfOk result (λ a. a.0 ≡ Status.Done) }
+    ensures runs { (script : Script) → IsScript bytes.items script → IfOk result (λ a. a.0 ≡ Status.Done) }
 {
-    match read_script(alloc, bytes) {
+    match script_of(alloc, bytes) {
         Ok(script) => {
             let text = replay(alloc, sizes, &script)?;
             Ok((Status::Done, text))

@@ -1,5 +1,6 @@
 // The program over a source and a sink in memory. The expected texts are worked by hand or by a plain model of the
 // language, and none is the program's own.
+mod desks;
 mod rows;
 
 use crate::status::Status;

@@ -1,5 +1,7 @@
 // The top call.
-ghost use Rattle.std.specs.Prelude.{◌≡◌, ◌⊎◌, ◌≤◌, List, ℕ, map, length, string_bytes, IfSome, Some};
+ghost use Rattle.std.specs.Prelude.{◌≡◌, ◌≢◌, ◌⊎◌, ◌≤◌, List, ℕ, map, length, string_bytes, IfErr, IfSome, Some};
+ghost use Rattle.std.specs.IoError.{error_kind};
+ghost use Rattle.std.specs.declared.io.ErrorKind.TheVariants as ErrorKind;
 ghost use Rattle.std.specs.Result.{ForOk};
 ghost use Rattle.std.specs.Iterator.{IsFinite};
 ghost use Rattle.command_words.specs.declared.order.GroupSizes.{GroupSizes};
@@ -77,7 +79,7 @@ pub fn columnstore<I: Source, O: Sink>(
         }
         Err(InputRefusal::Memory) => return Status::Memory,
     };
-    match answer(alloc, sizes, bytes.as_slice()) {
+    match answer(alloc, sizes, bytes) {
         Ok((status, text)) => finish(output, text.as_slice(), status),
         Err(_) => Status::Memory,
     }
@@ -100,6 +102,8 @@ pub fn program<A: Iterator<Item = String> + Drop, I: Source, O: Sink>(
         × Adds (O.held output.old) (O.held output.new) added
         × Ends words came (I.left input.new) added result)
         ⊎ ((result ≡ Status.Memory) × (input.new ≡ input.old) × (output.new ≡ output.old)) }
+    // An argument that is no text is no want of memory.
+    ensures no_text { IfErr args (λ error. error_kind error ≢ ErrorKind.OutOfMemory → result ≢ Status.Memory) }
     ensures read_fault { result ≡ Status.ReadFault → Rose (I.faults input.old) (I.faults input.new) }
     ensures write_fault { result ≡ Status.WriteFault → Rose (O.faults output.old) (O.faults output.new) }
 {

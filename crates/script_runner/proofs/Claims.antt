@@ -1,6 +1,6 @@
 -- What is lent stands ready, after the events of a mover's turn.
 use Rattle.std.proofs.Common.{◌≡◌, ℕ, ◌<◌, List, [], ◌∷◌, refl, sym, ap, subst, ◌∙◌, cond, Bool, true, false, arith}
-use Rattle.std.specs.Prelude.{Option, None, Some, ◌==◌, filter, not}
+use Rattle.std.specs.Prelude.{Option, None, Some, ◌==◌, filter, not, Result, Ok, Err, IfOk, IsSome}
 use Rattle.std.proofs.lemmas.Bool.{eq-eqb}
 use Rattle.std.proofs.lemmas.Bool.Decides.{nat_tests}
 use Rattle.cs_model.specs.declared.work.Actor.{Actor}
@@ -10,9 +10,11 @@ use Rattle.group_book.specs.Choices.{first_of}
 use Rattle.group_book.specs.Turns.{same_actor}
 use Rattle.group_directory.specs.Installing.{held_by}
 use Rattle.group_view.specs.declared.claim.Claim.{Claim}
+use Rattle.group_view.specs.declared.claim.Product.{Product}
+use Rattle.group_view.specs.Claims.{IsProductOf}
 use Rattle.script_runner.specs.Running.{IsReadyFor, AreReady, OthersKeep}
 use Rattle.statement_core.specs.declared.movers.Turned.TheVariants.{Lent}
-use Rattle.statement_core.specs.Movers.{GivesTurn}
+use Rattle.statement_core.specs.Movers.{GivesTurn, IsMended}
 
 abbrev Held : Type 0
 Held = Actor × Claim
@@ -105,6 +107,21 @@ pub waits_free : (held : Option Held) (lent : Option Claim) → IsReadyFor held 
 waits_free None lent ready none = refl
 waits_free (Some held) None ready none = absurd ready
 waits_free (Some held) (Some lent) ready none = absurd (cc none)
+
+-- what waits was lent by a claim that the mover holds
+pub waits_held : (held : Option Held) (lent : Option Claim) (claim : Claim) → IsReadyFor held lent → lent ≡ Some claim → IsSome held
+waits_held None None claim ready is = absurd (cc is)
+waits_held None (Some lent) claim ready is = absurd (cc ready)
+waits_held (Some held) lent claim ready is = refl
+
+-- what was made of it is of a share of that claim
+pub waits_mended : {E : Type 0} (held : Option Held) (lent : Option Claim) (claim : Claim) (product : Result Product E) → IsReadyFor held lent → lent ≡ Some claim → IfOk product (IsProductOf claim) → IfOk product (IsMended held)
+waits_mended held lent claim (Err why) ready is made = tt
+waits_mended held lent claim (Ok product) ready is made = at held (subst (IsReadyFor held) is ready)
+  where
+    at : (o : Option Held) → IsReadyFor o (Some claim) → IsMended o product
+    at None ready = absurd (cc ready)
+    at (Some kept) ready = (claim, ready.0, made)
 
 -- ---- a new runner
 

@@ -1,6 +1,7 @@
 -- What the definitions of logs and schedules say, at examples.
-use Rattle.std.proofs.Common.{◌≡◌, ℕ, List, [], ◌∷◌, ◌++◌, length, refl, sym, ap, subst, Bool, false, inl, inr, arith, length-append, Global}
-use Rattle.std.proofs.lemmas.List.{append-nil}
+use Rattle.std.proofs.Common.{◌≡◌, ℕ, List, [], ◌∷◌, ◌++◌, length, map, take, drop, refl, sym, ap, subst, Bool, false, inl, inr, arith, length-append, Global}
+use Rattle.std.proofs.lemmas.List.{append-nil, map-append, take-append-drop, take_all}
+use Rattle.std.proofs.Common.{append_assoc, ◌∙◌}
 use Rattle.std.specs.Prelude.{None}
 use Rattle.std.specs.declared.sync.Arc.{Arc}
 use Rattle.cs_model.specs.declared.work.Actor.{Actor}
@@ -22,14 +23,14 @@ use Rattle.cs_types.specs.declared.Schema.{Schema}
 use Rattle.script_reader.specs.declared.script.Script.{Script}
 use Rattle.script_reader.specs.declared.script.Step.TheVariants.{Whole, Finished, Turn, Claiming, Installing}
 use Rattle.script_reader.specs.Scripts.{IsRunnable}
-use Rattle.script_runner.specs.Schedule.{IsBoundAfter, IsFinishOf, AreMoves, IsPiece, ArePieces, AreTurns, AreMeant}
-use Rattle.script_runner.specs.Logs.{IsMadeOf}
-use Rattle.statement_core.specs.Turns.{Moment, BeginsTurn, EndsTurn, IsFirst, IsLast}
-use Rattle.script_runner.proofs.Turning.{has_turns, has_front_turns}
+use Rattle.script_runner.specs.Schedule.{Turns, IsBoundAfter, IsFinishOf, AreMoves, IsPiece, ArePieces, AreTurns, AreMeant}
+use Rattle.script_runner.specs.Logs.{IsLogOf, IsMadeOf}
+use Rattle.statement_core.specs.Turns.{Moment, BeginsTurn, EndsTurn, IsFirst}
+use Rattle.script_runner.proofs.Turning.{has_turns, has_front_turns, turns_cut}
 
 -- a run that stopped before its first line has made no step
-none_made : (sizes : Sizes) (script : Script) → IsRunnable script → IsMadeOf sizes script []
-none_made sizes script can = inr (record { state = start; book = empty; followed = (refl, refl); lines = 0; pieces = refl; turns = has_front_turns sizes script 0 [] can refl })
+none_made : (sizes : Sizes) (script : Script) → IsRunnable script → IsMadeOf (ground_of script.schema sizes) script []
+none_made sizes script can = inr (record { state = start; book = empty; followed = (refl, refl); lines = 0; ended = 0; last = λ some. absurd (omega (arith, some)); events = []; pieces = refl; ends = refl; turns = has_front_turns sizes script 0 [] can refl })
 
 -- a script of one statement of session 1
 abbrev one_line : Schema → List ℕ → Script
@@ -37,7 +38,7 @@ one_line schema text = record { schema = schema; lines = Whole 1 text ∷ []; se
 
 module _ (sizes : Sizes) (schema : Schema) (text : List ℕ) (can : IsRunnable (one_line schema text)) (bound : Arc Bound Global) (means : IsBoundAfter (begin_of schema) [] text bound.value) (reply : Reply) (m : State) (book : Book) where
   -- its whole log, which is the log of a run also where the text of it found no room
-  whole_made : Followed (ground_of schema sizes) (Start 1 bound false ∷ Finish 1 reply ∷ End 1 ∷ []) m book → IsMadeOf sizes (one_line schema text) (Start 1 bound false ∷ Finish 1 reply ∷ End 1 ∷ [])
+  whole_made : Followed (ground_of schema sizes) (Start 1 bound false ∷ Finish 1 reply ∷ End 1 ∷ []) m book → IsMadeOf (ground_of schema sizes) (one_line schema text) (Start 1 bound false ∷ Finish 1 reply ∷ End 1 ∷ [])
   whole_made followed = inl (record {
     history = record { state = m; book = book; followed = followed; turns = has_turns sizes (one_line schema text) (Start 1 bound false ∷ Finish 1 reply ∷ End 1 ∷ []) (Start 1 bound false ∷ Finish 1 reply ∷ []) can pieces refl };
     scheduled = (Start 1 bound false ∷ Finish 1 reply ∷ [], pieces, refl);
@@ -45,6 +46,31 @@ module _ (sizes : Sizes) (schema : Schema) (text : List ℕ) (can : IsRunnable (
     where
       pieces : ArePieces (ground_of schema sizes) [] (Whole 1 text ∷ []) (Start 1 bound false ∷ Finish 1 reply ∷ [])
       pieces = (Start 1 bound false ∷ Finish 1 reply ∷ [], [], refl, (Start 1 bound false, Finish 1 reply ∷ [], refl, (refl, means), ([], Finish 1 reply, refl, refl, refl)), refl)
+
+-- the log of a whole run, cut among its Ends, is that of a run that stopped
+module _ (origin : Ground) (script : Script) (log : List Entry) (whole : IsLogOf origin script log) (ended : ℕ) (m : State) (book : Book) where
+  abbrev begun_ends : List Entry
+  begun_ends = whole.scheduled.0 ++ map End (take ended script.sessions)
+
+  ends_begun : Followed origin begun_ends m book → IsMadeOf origin script begun_ends
+  ends_begun followed = inr (record {
+    state = m;
+    book = book;
+    followed = followed;
+    lines = length script.lines;
+    ended = ended;
+    last = λ some. omega arith;
+    events = whole.scheduled.0;
+    pieces = subst (λ lines. ArePieces origin [] lines whole.scheduled.0) (sym (take_all (length script.lines) script.lines (omega arith))) whole.scheduled.1;
+    ends = refl;
+    turns = turns_cut origin.begin script begun_ends (map End (drop ended script.sessions)) (subst (Turns origin.begin script) cut whole.history.turns);
+  })
+    where
+      cut : log ≡ begun_ends ++ map End (drop ended script.sessions)
+      cut =
+          whole.scheduled.2 ∙ ap (λ sessions. whole.scheduled.0 ++ map End sessions) (sym (take-append-drop ended script.sessions))
+          ∙ ap (λ ends. whole.scheduled.0 ++ ends) (map-append End (take ended script.sessions) (drop ended script.sessions))
+          ∙ sym (append_assoc whole.scheduled.0 (map End (take ended script.sessions)) (map End (drop ended script.sessions)))
 
 -- ---- schedules
 
@@ -70,7 +96,7 @@ no_early_end : (bound : Arc Bound Global) (short : Bool) (reply : Reply) → Are
 no_early_end bound short reply t = let is : t.1 ≡ End 1 = cc in subst (IsFinishOf 1) is t.5
 
 -- the events of a whole line with any moves that a session may make
-whole_line : (origin : Ground) (before moves : List Entry) (session : ℕ) (text : List ℕ) (bound : Arc Bound Global) (short : Bool) (reply : Reply) → IsBoundAfter origin.begin before text bound.value → AreMoves session moves
+whole_line : (origin : Ground) (before moves : List Entry) (session : ℕ) (text : List ℕ) (bound : Arc Bound Global) (short : Bool) (reply : Reply) → IsBoundAfter origin.begin before text bound.value → AreMoves origin (before ++ Start session bound short ∷ []) session moves (Finish session reply)
     → IsPiece origin before (Whole session text) (Start session bound short ∷ (moves ++ Finish session reply ∷ []))
 whole_line origin before moves session text bound short reply means are =
     (Start session bound short, moves ++ Finish session reply ∷ [], refl, (refl, means), (moves, Finish session reply, refl, are, refl))
@@ -119,6 +145,6 @@ module _ (origin : Ground) (before : List Entry) (mover : ℕ) (moment : Moment 
     first = [];
     last = [];
     joined = refl;
-    begins = record { moment = moment; floor = floor; is_floor = is; first = subst (λ work. IsFirst (actor.Mover mover) work []) (sym nothing) refl };
-    ends = subst (λ log. EndsTurn origin log (actor.Mover mover) []) (sym (append-nil before)) (record { moment = moment; last = subst (λ claim. IsLast (actor.Mover mover) claim []) (sym free) refl });
+    begins = record { moment = moment; floor = floor; is_floor = is; free = free; first = subst (λ work. IsFirst (actor.Mover mover) work []) (sym nothing) refl };
+    ends = subst (λ log. EndsTurn origin log (actor.Mover mover) []) (sym (append-nil before)) (inr (inr (record { moment = moment; free = free; none = refl })));
   }

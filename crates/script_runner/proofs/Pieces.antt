@@ -9,8 +9,7 @@ use Rattle.cs_model.specs.declared.work.Actor.TheVariants as actor
 use Rattle.cs_model.specs.declared.work.Work.{Work}
 use Rattle.cs_model.specs.State.{Begin}
 use Rattle.cs_model.specs.Actors.{actor_of, is_turn, entries_of, begun_by, is_end, is_begun, has_ended}
-use Rattle.group_book.specs.Book.{Claim}
-use Rattle.group_book.specs.Turns.{claim_by, same_actor}
+use Rattle.group_book.specs.Turns.{same_actor}
 use Rattle.group_log.specs.Followed.{Ground}
 use Rattle.log_laws.proofs.Entries.{entries_push, begun_push, ended_push}
 use Rattle.script_reader.specs.declared.script.Step.{Step}
@@ -18,7 +17,7 @@ use Rattle.script_reader.specs.declared.script.Step.TheVariants.{Whole, Begun, F
 use Rattle.script_reader.specs.Scripts as reader
 use Rattle.script_reader.specs.Scripts.{taken_by}
 use Rattle.script_runner.specs.Schedule.{IsStart, IsFinishOf, IsFinishing, IsPiece, ArePieces}
-use Rattle.statement_core.specs.Turns.{BeginsTurn, EndsTurn, IsFirst, IsLast}
+use Rattle.statement_core.specs.Turns.{BeginsTurn, EndsTurn, IsFirst}
 
 -- ---- one entry more
 
@@ -93,10 +92,6 @@ works_first by None piece h = subst AreWorks (sym h) tt
 works_first by (Some work) piece (inl e) = subst AreWorks (sym e) (tt, tt)
 works_first by (Some work) piece (inr e) = subst AreWorks (sym e) (tt, tt)
 
-works_last : (by : Actor) (claim : Option Claim) (piece : List Entry) → IsLast by claim piece → AreWorks piece
-works_last by None piece h = subst AreWorks (sym h) tt
-works_last by (Some claim) piece h = subst AreWorks (sym h.2) (tt, tt)
-
 -- a work leaves what each session has half done
 pub work_begun : (log : List Entry) (e : Entry) (s : ℕ) → IsWork e → is_begun (entries_of s (log ++ e ∷ [])) ≡ is_begun (entries_of s log)
 work_begun log (Start n b short) s w = absurd w
@@ -140,19 +135,21 @@ IsPlain begin before (Turn mover) piece = AreWorks piece
 IsPlain begin before (Claiming mover) piece = AreWorks piece
 IsPlain begin before (Installing mover) piece = AreWorks piece
 
-one_finish : (session : ℕ) (piece : List Entry) → IsFinishing session piece → (b : Entry) × (piece ≡ b ∷ []) × IsFinishOf session b
-one_finish session piece f = (f.1, f.2 ∙ ap (λ moves. moves ++ f.1 ∷ []) f.3, f.4)
+one_finish : (origin : Ground) (before : List Entry) (session : ℕ) (piece : List Entry) → IsFinishing origin before session piece → (b : Entry) × (piece ≡ b ∷ []) × IsFinishOf session b
+one_finish origin before session piece f = (f.1, f.2 ∙ ap (λ moves. moves ++ f.1 ∷ []) f.3, f.4)
 
 pub begins_works : (origin : Ground) (before : List Entry) (by : Actor) (piece : List Entry) → BeginsTurn origin before by piece → AreWorks piece
 begins_works origin before by piece h = works_first by _ piece h.first
 
 pub ends_works : (origin : Ground) (before : List Entry) (by : Actor) (piece : List Entry) → EndsTurn origin before by piece → AreWorks piece
-ends_works origin before by piece h = works_last by (claim_by by h.moment.book) piece h.last
+ends_works origin before by piece (inl h) = subst AreWorks (sym h.entry) (tt, tt)
+ends_works origin before by piece (inr (inl h)) = subst AreWorks (sym h.entry) (tt, tt)
+ends_works origin before by piece (inr (inr h)) = subst AreWorks (sym h.none) tt
 
 pub plain : (origin : Ground) (before : List Entry) (step : Step) (piece : List Entry) → IsPiece origin before step piece → IsPlain origin.begin before step piece
-plain origin before (Whole session text) piece p = let f = one_finish session p.1 p.4 in (p.0, f.0, p.2 ∙ ap (λ es. p.0 ∷ es) f.1, p.3, f.2)
+plain origin before (Whole session text) piece p = let f = one_finish origin (before ++ p.0 ∷ []) session p.1 p.4 in (p.0, f.0, p.2 ∙ ap (λ es. p.0 ∷ es) f.1, p.3, f.2)
 plain origin before (Begun session text) piece p = p
-plain origin before (Finished session) piece p = one_finish session piece p
+plain origin before (Finished session) piece p = one_finish origin before session piece p
 plain origin before (Turn mover) piece p =
     subst AreWorks (sym p.joined)
     (works_append p.first p.last (begins_works origin before (actor.Mover mover) p.first p.begins) (ends_works origin (before ++ p.first) (actor.Mover mover) p.last p.ends))

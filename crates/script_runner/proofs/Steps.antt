@@ -3,7 +3,7 @@ use Rattle.std.proofs.lemmas.List.Elements.{All-contains}
 use Rattle.std.proofs.Common.{◌≡◌, ℕ, ◌+◌, ◌<◌, ◌≤◌, List, [], ◌∷◌, ◌++◌, length, get_or, take, drop, refl, sym, ap, subst, ◌∙◌, cond, Bool, true, false, map, Contains, All, arith}
 use Rattle.std.proofs.lemmas.Bool.{eq-eqb}
 use Rattle.std.proofs.lemmas.Bool.Decides.{nat_tests}
-use Rattle.std.proofs.lemmas.List.{take_more, drop_more}
+use Rattle.std.proofs.lemmas.List.{append-nil, take_more, drop_more}
 use Rattle.std.specs.Prelude.{None, Some, ◌==◌, Result, Ok, Err, OnOk, OnErr}
 use Rattle.cs_model.specs.declared.entry.Entry.{Entry}
 use Rattle.cs_model.specs.declared.entry.Entry.TheVariants.{End}
@@ -146,7 +146,7 @@ runnable_of script sessions known can = record {
 }
 
 pub scheduled_of : (script : Script) (first : Schema) (sizes : Sizes) (steps : List Step) (sessions : List ℕ) (core : CoreValue) (log : List Entry) → first ≡ script.schema → steps ≡ script.lines
-    → sessions ≡ script.sessions → Running (ground_of first sizes) core steps [] → log ≡ core.log ++ map End sessions → Scheduled sizes script log
+    → sessions ≡ script.sessions → Running (ground_of first sizes) core steps [] → log ≡ core.log ++ map End sessions → Scheduled (ground_of script.schema sizes) script log
 scheduled_of script first sizes steps sessions core log of_first of_steps of_sessions run is = (
   core.log,
   subst (λ xs. ArePieces (ground_of script.schema sizes) [] xs core.log) of_steps (subst (λ s. ArePieces (ground_of s sizes) [] steps core.log) of_first run.pieces),
@@ -163,7 +163,7 @@ front_of script first sizes steps log of_first of_steps x = (
 -- ---- the log
 
 pub log_of : (sizes : Sizes) (script : Script) (schema : Schema) (now : Sizes) (log : List Entry) → IsRunnable script → schema ≡ script.schema → now ≡ sizes
-    → (m : State) × (book : Book) × Followed (ground_of schema now) log m book → Scheduled sizes script log → IsLogOf sizes script log
+    → (m : State) × (book : Book) × Followed (ground_of schema now) log m book → Scheduled (ground_of script.schema sizes) script log → IsLogOf (ground_of script.schema sizes) script log
 log_of sizes script schema now log can same sized legal x = record {
   history = record {
     state = legal.0;
@@ -175,13 +175,17 @@ log_of sizes script schema now log can same sized legal x = record {
 }
 
 pub front_log_of : (sizes : Sizes) (script : Script) (schema : Schema) (now : Sizes) (log : List Entry) → IsRunnable script → schema ≡ script.schema → now ≡ sizes
-    → (m : State) × (book : Book) × Followed (ground_of schema now) log m book → IsFrontRun (ground_of script.schema sizes) script.lines log → IsFrontLogOf sizes script log
+    → (m : State) × (book : Book) × Followed (ground_of schema now) log m book → IsFrontRun (ground_of script.schema sizes) script.lines log → IsFrontLogOf (ground_of script.schema sizes) script log
 front_log_of sizes script schema now log can same sized legal x = record {
   state = legal.0;
   book = legal.1;
   followed = subst (λ s. Followed (ground_of s sizes) log legal.0 legal.1) same (subst (λ z. Followed (ground_of schema z) log legal.0 legal.1) sized legal.2);
   lines = x.0;
+  ended = 0;
+  last = λ some. absurd (omega (arith, some));
+  events = log;
   pieces = x.1;
+  ends = sym (append-nil log);
   turns = has_front_turns sizes script x.0 log can x.1;
 }
 

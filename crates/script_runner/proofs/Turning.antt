@@ -1,6 +1,6 @@
 -- A log that follows a script has each session's turns.
 use Rattle.std.proofs.Common.{◌≡◌, ℕ, zero, suc, List, [], ◌∷◌, ◌++◌, length, map, take, get_or, refl, sym, ap, subst, ◌∙◌, cond, Bool, true, false, arith, All, Contains, append_assoc}
-use Rattle.std.proofs.lemmas.List.{append-nil}
+use Rattle.std.proofs.lemmas.List.{append-nil, take_all}
 use Rattle.std.specs.Prelude.{◌==◌, ◌&&◌, None, Some}
 use Rattle.std.specs.List.{cons_option}
 use Rattle.std.proofs.lemmas.Bool.{eqb-true}
@@ -11,7 +11,7 @@ use Rattle.cs_model.specs.declared.entry.Reply.TheVariants.{Done}
 use Rattle.cs_model.specs.Actors.{actor_of, is_turn, turns_of}
 use Rattle.cs_model.specs.declared.work.Actor.{Actor}
 use Rattle.cs_model.specs.declared.work.Actor.TheVariants as actor
-use Rattle.cs_model.specs.State.{Begin}
+use Rattle.cs_model.specs.State.{Begin, begin_of}
 use Rattle.group_book.specs.Commits.{Sizes}
 use Rattle.group_book.specs.Turns.{same_actor}
 use Rattle.group_log.specs.Followed.{Ground, ground_of}
@@ -19,7 +19,7 @@ use Rattle.script_reader.specs.declared.script.Script.{Script}
 use Rattle.script_reader.specs.declared.script.Step.{Step}
 use Rattle.script_reader.specs.declared.script.Step.TheVariants.{Whole, Begun, Finished, Turn, Claiming, Installing}
 use Rattle.script_reader.specs.Scripts.{taken_by, half_done, may_follow, ArePaired, IsServed, IsRunnable}
-use Rattle.script_runner.specs.Schedule.{IsStart, IsStartIn, IsFinishOf, ArePieces, texts_of, AreTurns, Turns, FrontTurns}
+use Rattle.script_runner.specs.Schedule.{IsStart, IsStartIn, IsFinishOf, ArePieces, texts_of, AreTurns, AreMeant, Turns, FrontTurns}
 use Rattle.script_reader.proofs.Halves.{half_same, half_other, half_empty}
 use Rattle.script_runner.specs.Logs.{first_lines}
 use Rattle.script_runner.proofs.Pieces.{Does, AreWorks, IsPlain, start_does, finish_does, is_not, plain}
@@ -218,7 +218,7 @@ module _ (sizes : Sizes) (script : Script) (can : IsRunnable script) (session : 
       last : (u : Bool) → half_done (actor.Session session) (take n script.lines) ≡ u → Turned session 0 (left (half_done (actor.Session session) (take n script.lines))) u
       last u h = subst (λ k. Turned session 0 (left k) u) (sym h) (at u)
 
-pub has_turns : (sizes : Sizes) (script : Script) (log events : List Entry) → IsRunnable script → ArePieces (ground_of script.schema sizes) [] script.lines events → log ≡ events ++ map End script.sessions → Turns script log
+pub has_turns : (sizes : Sizes) (script : Script) (log events : List Entry) → IsRunnable script → ArePieces (ground_of script.schema sizes) [] script.lines events → log ≡ events ++ map End script.sessions → Turns (begin_of script.schema) script log
 has_turns sizes script log events can pieces is = record {
   each = λ session has.
       subst (λ es. AreTurns session (length (texts_of session script.lines)) es)
@@ -233,10 +233,32 @@ has_turns sizes script log events can pieces is = record {
     split : (session : ℕ) → turns_of session log ≡ turns_of session events ++ turns_of session (map End script.sessions)
     split session = ap (turns_of session) is ∙ filter-append (λ entry. is_turn entry && (actor_of entry == session)) events (map End script.sessions)
 
-pub has_front_turns : (sizes : Sizes) (script : Script) (n : ℕ) (log : List Entry) → IsRunnable script → ArePieces (ground_of script.schema sizes) [] (take n script.lines) log → FrontTurns (first_lines n script) log
+pub has_front_turns : (sizes : Sizes) (script : Script) (n : ℕ) (log : List Entry) → IsRunnable script → ArePieces (ground_of script.schema sizes) [] (take n script.lines) log → FrontTurns (begin_of script.schema) (first_lines n script) log
 has_front_turns sizes script n log can pieces = record {
   each = λ session has. front_turned sizes script can session n log pieces;
   none = λ session has_not.
       none_in (ground_of script.schema sizes) session [] (take n script.lines) [] log (All-take (λ step. same_actor (taken_by step) (actor.Session session) ≡ false) n script.lines (unnamed sizes script can session has_not)) pieces;
   meant = all_meant (ground_of script.schema sizes) (take n script.lines) log pieces;
 }
+
+-- ---- a log cut short
+
+first_empty : {A : Type 0} (xs ys : List A) → xs ++ ys ≡ [] → xs ≡ []
+first_empty [] ys e = refl
+first_empty (x ∷ xs) ys e = absurd (cc)
+
+meant_front : (begin : Begin) (steps : List Step) (before xs ys : List Entry) → AreMeant begin steps before (xs ++ ys) → AreMeant begin steps before xs
+meant_front begin steps before [] ys meant = tt
+meant_front begin steps before (e ∷ xs) ys meant = (meant.0, meant_front begin steps (before ++ e ∷ []) xs ys meant.1)
+
+-- where a log has all turns, a front of it has the first of them
+pub turns_cut : (begin : Begin) (script : Script) (log rest : List Entry) → Turns begin script (log ++ rest) → FrontTurns begin (first_lines (length script.lines) script) log
+turns_cut begin script log rest turns =
+    subst (λ lines. FrontTurns begin (record { schema = script.schema; lines = lines; sessions = script.sessions }) log) (sym (take_all (length script.lines) script.lines (omega arith))) (record {
+      each = λ session has. (turns_of session rest, subst (AreTurns session (length (texts_of session script.lines))) (split session) (turns.each session has));
+      none = λ session has_not. first_empty (turns_of session log) (turns_of session rest) (sym (split session) ∙ turns.none session has_not);
+      meant = meant_front begin script.lines [] log rest turns.meant;
+    })
+  where
+    split : (session : ℕ) → turns_of session (log ++ rest) ≡ turns_of session log ++ turns_of session rest
+    split session = filter-append (λ entry. is_turn entry && (actor_of entry == session)) log rest

@@ -8,12 +8,11 @@ use Rattle.cs_model.specs.declared.entry.Refusal.TheVariants.{Memory}
 use Rattle.cs_model.specs.declared.entry.Entry.{Entry}
 use Rattle.cs_model.specs.declared.entry.Entry.TheVariants.{Start, Finish, End, Mover}
 use Rattle.cs_model.specs.Actors.{turns_of}
-use Rattle.cs_model.specs.State.{State, Begin, begin_of, schema_now}
+use Rattle.cs_model.specs.State.{State, Begin, schema_now}
 use Rattle.cs_model.specs.Steps.{Legal}
 use Rattle.cs_model.specs.Text.{statements_of}
 use Rattle.cs_model.specs.declared.work.Actor.TheVariants as actor
-use Rattle.group_book.specs.Commits.{Sizes}
-use Rattle.group_log.specs.Followed.{Ground, ground_of}
+use Rattle.group_log.specs.Followed.{Ground}
 use Rattle.tsql_binder.specs.Meaning.{Means}
 use Rattle.script_reader.specs.declared.script.Script.{Script}
 use Rattle.script_reader.specs.declared.script.Step.{Step}
@@ -43,13 +42,13 @@ IsFinishOf session (Finish s reply) = s ≡ session
 IsFinishOf session (End s) = ⊥
 IsFinishOf session (Mover actor work) = ⊥
 
--- the moves of a session before the Finish of its statement; no statement makes any so far
-abbrev pub AreMoves : ℕ → List Entry → Type 0
-AreMoves session moves = moves ≡ []
+-- the moves of a session after this log, and before this Finish of its statement; no statement makes any so far
+abbrev pub AreMoves : Ground → List Entry → ℕ → List Entry → Entry → Type 0
+AreMoves origin before session moves finish = moves ≡ []
 
 -- the moves and the Finish of a statement
-abbrev pub IsFinishing : ℕ → List Entry → Type 0
-IsFinishing session piece = (moves : List Entry) × (b : Entry) × (piece ≡ moves ++ b ∷ []) × AreMoves session moves × IsFinishOf session b
+abbrev pub IsFinishing : Ground → List Entry → ℕ → List Entry → Type 0
+IsFinishing origin before session piece = (moves : List Entry) × (b : Entry) × (piece ≡ moves ++ b ∷ []) × AreMoves origin before session moves b × IsFinishOf session b
 
 -- the events of a mover's whole turn: the first, and then the last
 pub record IsTurn (origin : Ground) (before : List Entry) (mover : ℕ) (piece : List Entry) : Type 0 where
@@ -63,9 +62,9 @@ pub record IsTurn (origin : Ground) (before : List Entry) (mover : ℕ) (piece :
 -- one, or both
 abbrev pub IsPiece : Ground → List Entry → Step → List Entry → Type 0
 IsPiece origin before (Whole session text) piece =
-    (a : Entry) × (rest : List Entry) × (piece ≡ a ∷ rest) × IsStart origin.begin before session text a × IsFinishing session rest
+    (a : Entry) × (rest : List Entry) × (piece ≡ a ∷ rest) × IsStart origin.begin before session text a × IsFinishing origin (before ++ a ∷ []) session rest
 IsPiece origin before (Begun session text) piece = (a : Entry) × (piece ≡ a ∷ []) × IsStart origin.begin before session text a
-IsPiece origin before (Finished session) piece = IsFinishing session piece
+IsPiece origin before (Finished session) piece = IsFinishing origin before session piece
 IsPiece origin before (Turn mover) piece = IsTurn origin before mover piece
 IsPiece origin before (Claiming mover) piece = BeginsTurn origin before (actor.Mover mover) piece
 IsPiece origin before (Installing mover) piece = EndsTurn origin before (actor.Mover mover) piece
@@ -76,10 +75,9 @@ ArePieces origin before [] entries = entries ≡ []
 ArePieces origin before (step ∷ steps) entries =
     (piece : List Entry) × (others : List Entry) × (entries ≡ piece ++ others) × IsPiece origin before step piece × ArePieces origin (before ++ piece) steps others
 
--- the log has a piece for each line, in order, and last the Ends of the sessions by their numbers; row groups are so large
-abbrev pub Scheduled : Sizes → Script → List Entry → Type 0
-Scheduled sizes script log =
-    (events : List Entry) × ArePieces (ground_of script.schema sizes) [] script.lines events × (log ≡ events ++ map End script.sessions)
+-- the log has a piece for each line, in order, and last the Ends of the sessions by their numbers
+abbrev pub Scheduled : Ground → Script → List Entry → Type 0
+Scheduled origin script log = (events : List Entry) × ArePieces origin [] script.lines events × (log ≡ events ++ map End script.sessions)
 
 -- ---- session by session
 
@@ -123,13 +121,13 @@ AreMeant begin steps before (entry ∷ entries) = IsMeant begin steps before ent
 
 -- each session of the script has its statements' turns once and in order, and then its End; no other session has a turn; and
 -- each statement is what its text means
-pub record Turns (script : Script) (log : List Entry) : Type 0 where
+pub record Turns (begin : Begin) (script : Script) (log : List Entry) : Type 0 where
   pub each : (session : ℕ) → Contains script.sessions session → AreTurns session (length (texts_of session script.lines)) (turns_of session log)
   pub none : (session : ℕ) → (Contains script.sessions session → ⊥) → turns_of session log ≡ []
-  pub meant : AreMeant (begin_of script.schema) script.lines [] log
+  pub meant : AreMeant begin script.lines [] log
 
 -- the same of a run that stopped: each session's turns are the first of those that it is to have
-pub record FrontTurns (script : Script) (log : List Entry) : Type 0 where
+pub record FrontTurns (begin : Begin) (script : Script) (log : List Entry) : Type 0 where
   pub each : (session : ℕ) → Contains script.sessions session → (rest : List Entry) × AreTurns session (length (texts_of session script.lines)) (turns_of session log ++ rest)
   pub none : (session : ℕ) → (Contains script.sessions session → ⊥) → turns_of session log ≡ []
-  pub meant : AreMeant (begin_of script.schema) script.lines [] log
+  pub meant : AreMeant begin script.lines [] log

@@ -57,7 +57,7 @@ fn run_script<D: Desk>(runner: &mut Runner, script: &Script, desk: &D) -> Result
     requires free { runner.old.claims ≡ [] }
     requires schema { runner.old.schema ≡ script.now.schema }
     requires known { All (λ session. Contains runner.old.sessions session) script.now.sessions }
-    ensures scheduled { OnOk result (Scheduled runner.old.sizes script.now runner.new.log) }
+    ensures scheduled { OnOk result (Scheduled (ground_of script.now.schema runner.old.sizes) script.now runner.new.log) }
     ensures free { OnOk result (AreFree runner.new.claims) }
     ensures front { OnErr result (IsFrontRun (ground_of script.now.schema runner.old.sizes) script.now.lines runner.new.log) }
     ensures schema { runner.new.schema ≡ runner.old.schema }
@@ -78,10 +78,10 @@ pub fn run_schedule<D: Desk>(runner: &mut Runner, script: &Script, desk: &D) -> 
     requires free { runner.old.claims ≡ [] }
     requires schema { runner.old.schema ≡ script.now.schema }
     requires known { All (λ session. Contains runner.old.sessions session) script.now.sessions }
-    ensures log { OnOk result (IsLogOf runner.old.sizes script.now runner.new.log) }
+    ensures log { OnOk result (IsLogOf (ground_of script.now.schema runner.old.sizes) script.now runner.new.log) }
     // At the end no mover holds a claim.
     ensures free { OnOk result (AreFree runner.new.claims) }
-    ensures front { OnErr result (IsFrontLogOf runner.old.sizes script.now runner.new.log) }
+    ensures front { OnErr result (IsFrontLogOf (ground_of script.now.schema runner.old.sizes) script.now runner.new.log) }
     ensures schema { runner.new.schema ≡ runner.old.schema }
     ensures sizes { runner.new.sizes ≡ runner.old.sizes }
     ensures sessions { runner.new.sessions ≡ runner.old.sessions }

@@ -1,5 +1,5 @@
 // Runs steps over a core, one by one.
-ghost use Rattle.std.specs.Prelude.{All, ◌≡◌, ◌≤◌, ◌<◌, ◌++◌, ◌∷◌, [], List, length, Contains, IfOk, OnOk, OnErr, None, true, false};
+ghost use Rattle.std.specs.Prelude.{All, ◌≡◌, ◌≤◌, ◌<◌, ◌++◌, ◌∷◌, [], List, length, filter, not, Contains, IfOk, OnOk, OnErr, IsSome, None, true, false};
 ghost use Rattle.cs_types.specs.Schemas.{IsSchema};
 ghost use Rattle.cs_model.specs.declared.entry.Entry.{Entry};
 ghost use Rattle.cs_model.specs.declared.entry.Entry.TheVariants.{End};
@@ -7,19 +7,22 @@ ghost use Rattle.cs_model.specs.Actors.{entries_of, is_begun, has_ended};
 ghost use Rattle.cs_model.specs.Ready.{IsReady};
 ghost use Rattle.cs_model.specs.State.{State, begin_of};
 ghost use Rattle.group_book.specs.Book.{Book};
+ghost use Rattle.group_book.specs.Choices.{install_work, release_work};
+ghost use Rattle.group_book.specs.Turns.{same_actor};
 ghost use Rattle.group_log.specs.Followed.{ground_of, Followed};
 ghost use Rattle.cs_model.specs.Text.{IsPrintableEntry};
 ghost use Rattle.group_directory.specs.Installing.{held_by};
 ghost use Rattle.cs_model.specs.declared.work.Actor.TheVariants as Actor;
 ghost use Rattle.statement_core.specs.Seats.{seat};
-ghost use Rattle.statement_core.specs.Turns.{BeginsTurn, EndsTurn};
+ghost use Rattle.statement_core.specs.Movers.{IsMended};
+ghost use Rattle.statement_core.specs.Turns.{BeginsTurn, EndsBy, EndsTurn};
 ghost use Rattle.script_runner.specs.Running.{AreReady, IsFree, LeavesClaims, MayRun, OthersKeep, Waits};
 ghost use Rattle.script_runner.specs.Schedule.{IsBound, IsStart, IsFinishOf, IsPiece};
 
 use cs_base::Memory;
 use cs_model::{Actor, Bound, Entry, Refusal};
 use cs_types::Schema;
-use group_view::Claim;
+use group_view::{Claim, Product};
 use script_reader::Step;
 use statement_core::{Core, Desk, Seats, Started, Turned};
 use std::alloc::Global;
@@ -115,6 +118,24 @@ fn claim(core: &mut Core, lent: &mut Seats<Claim>, mover: u32) -> Result<(), Mem
     Ok(())
 }
 
+/// Makes the last event of a mover's turn by the work on its claim: the install of the product, or the claim's release, where there
+/// was no memory for one.
+fn end_turn(core: &mut Core, mover: u32, product: Result<Product, Memory>)
+    requires holds { IsSome (held_by (Actor.Mover mover) core.old.claims) }
+    requires mended { IfOk product (IsMended (held_by (Actor.Mover mover) core.old.claims)) }
+    ensures installs { OnOk product ((piece : List Entry) × (core.new.log ≡ core.old.log ++ piece) × EndsBy install_work (ground_of core.old.schema core.old.sizes) core.old.log (Actor.Mover mover) piece) }
+    ensures releases { OnErr product ((piece : List Entry) × (core.new.log ≡ core.old.log ++ piece) × EndsBy release_work (ground_of core.old.schema core.old.sizes) core.old.log (Actor.Mover mover) piece) }
+    ensures claims { core.new.claims ≡ filter (λ held. not (same_actor held.0 (Actor.Mover mover))) core.old.claims }
+    ensures schema { core.new.schema ≡ core.old.schema }
+    ensures sizes { core.new.sizes ≡ core.old.sizes }
+    ensures sessions { core.new.sessions ≡ core.old.sessions }
+{
+    match product {
+        Ok(product) => core.install(Actor::Mover(mover), product),
+        Err(_) => core.release(Actor::Mover(mover)),
+    }
+}
+
 /// Makes the last event of a mover's turn, by what waits in its seat; none where nothing waits.
 fn install<D: Desk>(alloc: Global, core: &mut Core, lent: &mut Seats<Claim>, mover: u32, desk: &D)
     requires seat { mover < 65 }
@@ -127,15 +148,13 @@ fn install<D: Desk>(alloc: Global, core: &mut Core, lent: &mut Seats<Claim>, mov
     ensures sizes { core.new.sizes ≡ core.old.sizes }
     ensures sessions { core.new.sessions ≡ core.old.sessions }
 {
-    // Its contract says that a mover without a claim has no turn to end.
+    // By its contract a mover that holds no claim has no turn to end.
     let _log = core.log();
     let Some(claim) = lent.set(mover, None) else {
         return;
     };
-    match desk.mend(alloc, &claim) {
-        Ok(product) => core.install(Actor::Mover(mover), product),
-        Err(_) => core.release(Actor::Mover(mover)),
-    }
+    let product = desk.mend(alloc, &claim);
+    end_turn(core, mover, product);
 }
 
 /// What waits between events: a started statement for each session that has one half done, and what is lent for each mover that

@@ -39,7 +39,7 @@ returns-in-Ok-answer-clause-ends g c =
     let words = map string_bytes c.args.words.now in
     ending words c.in-Ok.bytes.items (g.I.Source.left c.read_all.new.source) c.in-Ok-answer.status c.finish-in-Ok-answer.result c.in-Ok-answer.text (g.I.Source.left c.args.input.now)
     (g.O.Sink.held c.args.output.now) (g.O.Sink.held c.finish-in-Ok-answer.new.output) (g.O.Sink.faults c.args.output.now) (g.O.Sink.faults c.finish-in-Ok-answer.new.output)
-    c.in-Ok.ensures.ok (answered (sizes_in c.in-Some.sizes) c.in-Some.ensures.found c.in-Ok.ensures.within c.in-Ok.ensures.end (rw c.as_slice.ensures.value at c.in-Ok-answer.ensures.answered)) (rw c.as_slice-in-Ok-answer.ensures at c.finish-in-Ok-answer.ensures)
+    c.in-Ok.ensures.ok (answered (sizes_in c.in-Some.sizes) c.in-Some.ensures.found c.in-Ok.ensures.within c.in-Ok.ensures.end c.in-Ok-answer.ensures.answered) (rw c.as_slice.ensures at c.finish-in-Ok-answer.ensures)
 
 pub returns-in-Err-TooLong-clause-complete : goal.returns-in-Err-TooLong-clause-complete
 returns-in-Err-TooLong-clause-complete g c = λ bytes sizes script told replays small reads.
@@ -52,14 +52,14 @@ returns-in-Ok-answer-clause-complete g c = λ bytes sizes script told replays sm
     let left = g.I.Source.left c.read_all.new.source in
     let all = all_came bytes came left (subst (λ o. Takes o left came) told c.in-Ok.ensures.ok) c.in-Ok.ensures.end in
     finished (g.O.Sink.held c.args.output.now) (g.O.Sink.held c.finish-in-Ok-answer.new.output) (g.O.Sink.faults c.args.output.now) (g.O.Sink.faults c.finish-in-Ok-answer.new.output)
-    c.as_slice-in-Ok-answer.result.now c.in-Ok-answer.status c.finish-in-Ok-answer.result c.finish-in-Ok-answer.ensures
-    ((rw c.as_slice.ensures.value at c.in-Ok-answer.ensures.runs) script (subst (λ bs. IsScript bs script) all reads))
+    c.as_slice.result.now c.in-Ok-answer.status c.finish-in-Ok-answer.result c.finish-in-Ok-answer.ensures
+    (c.in-Ok-answer.ensures.runs script (subst (λ bs. IsScript bs script) all reads))
 
 pub returns-in-Err-Memory-clause-ends : goal.returns-in-Err-Memory-clause-ends
 returns-in-Err-Memory-clause-ends g c =
     let came = c.in-Err-Memory.ensures.came in
     (came.0, [], came.1, none_added (g.O.Sink.held c.args.output.now), ((sizes_in c.in-Some.sizes, c.in-Some.ensures.found), refl))
 
-pub returns-clause-ends : goal.returns-clause-ends
-returns-clause-ends g c =
+pub returns-in-Err-clause-ends : goal.returns-in-Err-clause-ends
+returns-in-Err-clause-ends g c =
     (c.in-Ok.bytes.items, [], c.in-Ok.ensures.ok, none_added (g.O.Sink.held c.args.output.now), ((sizes_in c.in-Some.sizes, c.in-Some.ensures.found), refl))
