@@ -79,7 +79,7 @@ fn places_of(
 }
 
 /// The bitmap of a packed group with the entries' numbers as the ends of the versions that they end. They are marked in
-/// the order of positions, in which each goes to the end of the stamps, or near it.
+/// the order of positions, in which each goes to the end of the stamps, but for those behind it that the bitmap had before.
 fn marked_by(
     alloc: Global,
     packed: &Packed,

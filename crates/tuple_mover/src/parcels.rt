@@ -101,8 +101,8 @@ fn entries_of(alloc: Global, writes: &[Write]) -> Result<Vec<(Key, Row)>, Memory
 
 /// The parcel of a commit of own writes, by key (Larson et al., PVLDB 2015, section 4): while at least `direct_rows` rows are
 /// left, the first `group_rows` of them become a packed group, or all where they are fewer, with base 0 and begins 0; the rest
-/// follows by key. Each row fits the schema, with its key in the key's column, and each group is a packed one of the schema. `Memory` comes only where there is no room for
-/// the parcel or on the way to it.
+/// follows by key. Each row fits the schema, with its key in the key's column, and each group is a packed one of the schema.
+/// `Memory` comes only where there is no room for the parcel or on the way to it.
 pub fn parcel_of(
     alloc: Global,
     schema: &Schema,
