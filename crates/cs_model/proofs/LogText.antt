@@ -6,7 +6,7 @@ use Rattle.cs_model.specs.State.{Begin}
 use Rattle.cs_model.specs.declared.entry.Entry.{Entry}
 use Rattle.cs_model.specs.Actors.{actor_of}
 use Rattle.cs_model.specs.Text.{statements_of, is_start_of, entry_text, text_after, text}
-use Rattle.cs_model.specs.Places.{begun_by}
+use Rattle.cs_model.specs.Places.{start_added}
 
 -- an entry behind the first i ones
 module _ (log : List Entry) (i : ℕ) (e : Entry) (within : i < length log) (is : e ≡ get_or log i e) where
@@ -23,9 +23,9 @@ module _ (log : List Entry) (i : ℕ) (e : Entry) (within : i < length log) (is 
   pub few : (session : ℕ) → statements_of session (take i log) ≤ i
   few session = let most : statements_of session (take i log) ≤ length (take i log) = count_by-le-length (is_start_of session) (take i log) in rw count at most
 
-  pub counts_more : (session before now : ℕ) → before ≡ statements_of session (take i log) → now ≡ before + begun_by e session → now ≡ statements_of session (take (i + 1) log)
+  pub counts_more : (session before now : ℕ) → before ≡ statements_of session (take i log) → now ≡ before + start_added e session → now ≡ statements_of session (take (i + 1) log)
   counts_more session before now b n =
-      n ∙ ap (λ k. k + begun_by e session) b ∙ sym (ap (statements_of session) taken ∙ fold-append (λ k entry. k + begun_by entry session) 0 (take i log) (e ∷ []))
+      n ∙ ap (λ k. k + start_added e session) b ∙ sym (ap (statements_of session) taken ∙ fold-append (λ k entry. k + start_added entry session) 0 (take i log) (e ∷ []))
 
   pub prints_more : (begin : Begin) (out new : List ℕ) (place : ℕ) → place ≡ statements_of (actor_of e) (take (i + 1) log) → new ≡ out ++ entry_text begin.schema (i + 1) place e
       → out ++ text_after begin (take i log) (drop i log) ≡ text begin log → new ++ text_after begin (take (i + 1) log) (drop (i + 1) log) ≡ text begin log

@@ -19,7 +19,7 @@ use Rattle.cs_model.specs.Expressions.{Computed, compute, refusal_number as expr
 use Rattle.cs_model.specs.Series.{series_schema}
 use Rattle.cs_model.specs.Queries.{keeps}
 use Rattle.cs_model.specs.declared.entry.Bound.{Bound}
-use Rattle.cs_model.specs.declared.entry.Bound.TheVariants.{Begin, Commit, Rollback, Nothing, Insert, Update, Delete, Select, GroupReport, SegmentReport, Refused}
+use Rattle.cs_model.specs.declared.entry.Bound.TheVariants.{Begin, Commit, Rollback, Nothing, Statistics, Insert, Update, Delete, Select, GroupReport, SegmentReport, Refused}
 use Rattle.cs_model.specs.declared.entry.Refusal.{Refusal}
 use Rattle.cs_model.specs.declared.entry.Refusal.TheVariants.{Valued}
 use Rattle.cs_model.specs.Changes.{Edit, Table}
@@ -140,6 +140,7 @@ writes schema table Begin = Ok []
 writes schema table Commit = Ok []
 writes schema table Rollback = Ok []
 writes schema table Nothing = Ok []
+writes schema table (Statistics on) = Ok []
 writes schema table (Insert plan) = edits_by schema (inserted schema plan)
 writes schema table (Update plan) = updated schema plan table
 writes schema table (Delete condition) = Ok (deleted schema condition table)

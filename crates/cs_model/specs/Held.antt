@@ -1,24 +1,17 @@
 -- Rows that the columns of a table hold, and edits that a table may take.
-use Rattle.std.specs.Prelude.{◌≡◌, ℕ, ◌≤◌, Bool, IsTrue, List, length, slice_get, All, IfSome, Option, None, Some}
+use Rattle.std.specs.Prelude.{◌≡◌, ℕ, ◌≤◌, IsTrue, List, length, slice_get, All, IfSome, Option, None, Some}
 use Rattle.cs_types.specs.declared.Column.{Column}
 use Rattle.cs_types.specs.declared.Key.{Key}
 use Rattle.cs_types.specs.declared.Schema.{Schema}
 use Rattle.cs_types.specs.declared.Value.{Value}
-use Rattle.cs_types.specs.declared.Value.TheVariants.{Null, Number, Text}
-use Rattle.cs_types.specs.Kinds.{keeps_number, is_short}
 use Rattle.cs_types.specs.Rows.{cell_at, key_in}
+use Rattle.cs_types.specs.Schemas.{may_hold}
 use Rattle.cs_model.specs.Changes.{Edit, Table, Change}
 use Rattle.cs_model.specs.Text.{IsPrintableKey}
 
--- NULL where it may stand, a number in the type's range, a text that is short enough
-abbrev pub holds : Column → Value → Bool
-holds column Null = column.nullable
-holds column (Number z) = keeps_number column.kind z
-holds column (Text t) = is_short column.kind t
-
--- each column holds its cell of the row
+-- each column may hold its cell of the row
 abbrev pub IsHeld : Schema → List Value → Type 0
-IsHeld schema row = (i : ℕ) (column : Column) → slice_get schema.columns i ≡ Some column → IsTrue (holds column (cell_at row i))
+IsHeld schema row = (i : ℕ) (column : Column) → slice_get schema.columns i ≡ Some column → IsTrue (may_hold column (cell_at row i))
 
 -- a row of the table under its key: no more cells than there are columns, each held by its column, and in the key's column
 -- the key

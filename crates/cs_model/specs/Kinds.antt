@@ -10,6 +10,7 @@ kind_of bound.Begin = kind.Control
 kind_of bound.Commit = kind.Control
 kind_of bound.Rollback = kind.Control
 kind_of bound.Nothing = kind.Control
+kind_of (bound.Statistics on) = kind.Control
 kind_of (bound.Insert plan) = kind.Insert
 kind_of (bound.Update plan) = kind.Change
 kind_of (bound.Delete condition) = kind.Change

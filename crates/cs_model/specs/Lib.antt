@@ -7,6 +7,8 @@ pub mod Groups
 pub mod Order
 pub mod Items
 pub mod Queries
+pub mod Skips
+pub mod Scans
 pub mod Changes
 pub mod Kinds
 pub mod State

@@ -9,6 +9,6 @@ use Rattle.cs_model.specs.Text.{is_start_of}
 abbrev pub place_in : BTreeMap ℕ ℕ → ℕ → ℕ
 place_in places session = unwrap_or (get nat_cmp places session) 0
 
--- what an entry adds to the count of a session
-abbrev pub begun_by : Entry → ℕ → ℕ
-begun_by entry session = if is_start_of session entry then 1 else 0
+-- what an entry adds to the count of a session: one where it begins a statement of that session
+abbrev pub start_added : Entry → ℕ → ℕ
+start_added entry session = if is_start_of session entry then 1 else 0

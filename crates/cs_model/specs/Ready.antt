@@ -23,6 +23,7 @@ IsReady schema bound.Begin = Unit {0}
 IsReady schema bound.Commit = Unit {0}
 IsReady schema bound.Rollback = Unit {0}
 IsReady schema bound.Nothing = Unit {0}
+IsReady schema (bound.Statistics on) = Unit {0}
 IsReady schema (bound.Insert plan) = Unit {0}
 IsReady schema (bound.Update plan) = All (λ (set : ℕ × Expr). set.0 ≢ schema.key) plan.sets
 IsReady schema (bound.Delete condition) = Unit {0}

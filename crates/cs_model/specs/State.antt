@@ -54,6 +54,9 @@ txn_set m session txn = record m { txns = with m.txns session txn }
 abbrev pub half_set : State → ℕ → Option Half → State
 half_set m session half = record m { half = with m.half session half }
 
+abbrev pub statistics_set : State → ℕ → Bool → State
+statistics_set m session on = record m { statistics = with m.statistics session on }
+
 abbrev pub seen_at : List Change → Option ℕ → List Edit → Table
 seen_at changes None own = laid [] own
 seen_at changes (Some s) own = laid (table changes s) own

@@ -15,7 +15,7 @@ use Rattle.cs_model.specs.declared.entry.Entry.{Entry}
 use Rattle.cs_model.specs.declared.entry.Entry.TheVariants.{Start, Finish, End, Mover}
 use Rattle.cs_types.specs.Keys.{key_cmp}
 use Rattle.cs_model.specs.Changes.{Edit, Table, Change}
-use Rattle.cs_model.specs.State.{Txn, Half, State, Begin, schema_now, with, txn_set, half_set, seen}
+use Rattle.cs_model.specs.State.{Txn, Half, State, Begin, schema_now, with, txn_set, half_set, statistics_set, seen}
 use Rattle.cs_model.specs.Queries.{answer}
 use Rattle.cs_model.specs.Kinds.{is_of_table}
 use Rattle.cs_model.specs.Answers.{writes}
@@ -126,6 +126,7 @@ IsReply schema m session bound.Begin r = r ≡ begin_reply (m.txns session)
 IsReply schema m session bound.Commit r = r ≡ done_in (m.txns session) 3902
 IsReply schema m session bound.Rollback r = r ≡ done_in (m.txns session) 3903
 IsReply schema m session bound.Nothing r = r ≡ reply.Done
+IsReply schema m session (bound.Statistics on) r = r ≡ reply.Done
 IsReply schema m session (bound.Insert plan) r = IsWriteReply schema m session (m.txns session) (bound.Insert plan) r
 IsReply schema m session (bound.Update plan) r = IsWriteReply schema m session (m.txns session) (bound.Update plan) r
 IsReply schema m session (bound.Delete condition) r = IsWriteReply schema m session (m.txns session) (bound.Delete condition) r
@@ -199,6 +200,7 @@ accepted schema m session bound.Begin = began m session (m.txns session)
 accepted schema m session bound.Commit = unwound m session (m.txns session)
 accepted schema m session bound.Rollback = gone m session
 accepted schema m session bound.Nothing = m
+accepted schema m session (bound.Statistics on) = statistics_set m session on
 accepted schema m session (bound.Insert plan) = wrote m session (m.txns session) (writes_in schema m.changes (m.txns session) (bound.Insert plan))
 accepted schema m session (bound.Update plan) = wrote m session (m.txns session) (writes_in schema m.changes (m.txns session) (bound.Update plan))
 accepted schema m session (bound.Delete condition) = wrote m session (m.txns session) (writes_in schema m.changes (m.txns session) (bound.Delete condition))

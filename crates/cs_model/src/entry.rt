@@ -23,6 +23,8 @@ pub enum Bound {
     /// SET of something that changes nothing here: the isolation level, which is always SNAPSHOT, or the time to wait for a
     /// lock, since no statement waits.
     Nothing,
+    /// SET STATISTICS IO ON or OFF: whether the session's answers tell how many segments were read and skipped.
+    Statistics(bool),
     /// INSERT of the rows of VALUES, or of a row over each number of a series.
     Insert(Boxed<InsertPlan>),
     /// UPDATE of the rows for which its filter is true.

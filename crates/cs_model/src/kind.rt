@@ -27,7 +27,11 @@ impl Bound {
         ensures { result ≡ kind_of self.now }
     {
         match self {
-            Bound::Begin | Bound::Commit | Bound::Rollback | Bound::Nothing => Kind::Control,
+            Bound::Begin
+            | Bound::Commit
+            | Bound::Rollback
+            | Bound::Nothing
+            | Bound::Statistics(_) => Kind::Control,
             Bound::Insert(_) => Kind::Insert,
             Bound::Update(_) | Bound::Delete(_) => Kind::Change,
             Bound::Select(_) => Kind::Query,

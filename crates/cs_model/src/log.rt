@@ -3,7 +3,7 @@ ghost use Rattle.std.specs.Prelude.{◌≡◌, ◌+◌, ◌<◌, ◌^◌, ℕ, A
 ghost use Rattle.cs_model.specs.Actors.{number_of, actor_of};
 ghost use Rattle.cs_model.specs.State.{begin_of};
 ghost use Rattle.cs_model.specs.Text.{text, IsPrintableEntry};
-ghost use Rattle.cs_model.specs.Places.{place_in, begun_by};
+ghost use Rattle.cs_model.specs.Places.{place_in, start_added};
 
 use crate::entry::Entry;
 use crate::print::append_entry;
@@ -39,7 +39,7 @@ fn number_of(actor: Actor) -> u64
 /// Counts an entry, and answers the place of its statement in its session.
 fn count(places: &mut Places, entry: &Entry) -> Result<u64, Memory>
     requires { place_in places.old (actor_of entry.now) + 1 < 2 ^ 64 }
-    ensures counts { OnOk result ((session : ℕ) → place_in places.new session ≡ place_in places.old session + begun_by entry.now session) }
+    ensures counts { OnOk result ((session : ℕ) → place_in places.new session ≡ place_in places.old session + start_added entry.now session) }
     ensures place { IfOk result (λ place. place ≡ place_in places.new (actor_of entry.now)) }
 {
     match entry {

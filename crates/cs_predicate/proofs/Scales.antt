@@ -39,7 +39,7 @@ ranks_mul Equal a b c one h = ap (λ z. z *ℤ pos c) h
 ranks_mul Greater a b c one h = less_mul b a c one h
 
 -- two numbers are in the order of their products with a positive number
-same_mul : (a b : ℤ) (c : ℕ) → 1 ≤ c → int_cmp (a *ℤ pos c) (b *ℤ pos c) ≡ int_cmp a b
+pub same_mul : (a b : ℤ) (c : ℕ) → 1 ≤ c → int_cmp (a *ℤ pos c) (b *ℤ pos c) ≡ int_cmp a b
 same_mul a b c one = sym (int_cmp_is (a *ℤ pos c) (b *ℤ pos c) (int_cmp a b) (ranks_mul (int_cmp a b) a b c one (int_ranks a b)))
 
 split_nat : (x s t : ℕ) → s ≤ t → x * 10 ^ t ≡ x * 10 ^ (t - s) * 10 ^ s

@@ -1,8 +1,9 @@
 //! Expressions and predicates over a row.
 //!
 //! Its one contract: `compute` gives exactly the value that the definition in specs/ gives an expression over a row, or
-//! its refusal, and `truth` exactly the truth value of a predicate. Both answer for every bound form, row and schema. It
-//! stands on `cs_model`, which has the bound forms and those definitions, and on `cs_types`, which has values, rows and schemas.
+//! its refusal, `truth` exactly the truth value of a predicate, and `compare` that of one comparison. They answer for every
+//! bound form, row and schema. It stands on `cs_model`, which has the bound forms and those definitions, and on `cs_types`,
+//! which has values, rows and schemas.
 #![tactic(auto)]
 
 mod arithmetic;
@@ -15,4 +16,5 @@ mod tests;
 
 pub use expression::compute;
 pub use pattern::is_like;
-pub use predicate::truth;
+pub use predicate::{compare, truth};
+pub use side::Side;

@@ -25,7 +25,7 @@ fn holds(sign: Relation, order: Ordering) -> bool
 }
 
 /// The truth of a comparison: Unknown where the sides have no order.
-fn compare(sign: Relation, left: Side<'_>, right: Side<'_>) -> Truth
+pub fn compare(sign: Relation, left: Side<'_>, right: Side<'_>) -> Truth
     ensures { result ≡ spec.compare sign (lent left.entry) (lent right.entry) }
 {
     match left.order(right) {

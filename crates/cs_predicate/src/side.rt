@@ -4,7 +4,7 @@ ghost use Rattle.std.specs.Prelude.{◌≡◌, ◌^◌, ◌*ℤ◌, pos, FitsSig
 ghost use Rattle.std.specs.Int.{w128};
 ghost use Rattle.std.specs.Option.{SomeIff};
 ghost use Rattle.std.specs.Ordering.{int_cmp};
-ghost use Rattle.cs_types.specs.Text.{loose_of};
+ghost use Rattle.cs_types.specs.Text.{loose_number, loose_of};
 ghost use Rattle.cs_model.specs.Cells as cells;
 ghost use Rattle.cs_model.specs.Truths as spec;
 ghost use Rattle.cs_predicate.specs.Sides.{lent};
@@ -14,13 +14,16 @@ use cs_model::Operand;
 use cs_types::{ColumnType, Loose, Row, Schema, Value};
 use std::cmp::Ordering;
 
-/// A value that is compared, lent by a row or a literal.
+/// A value that is compared, lent by a row, a column's cell or a literal.
 #[derive(Clone, Copy)]
 pub enum Side<'a> {
+    /// NULL.
     Null,
     /// The number `m` over ten to the `s`.
     Number { m: i128, s: u8 },
+    /// A text.
     Text(&'a [u8]),
+    /// A day, as the number of days since 1970-01-01.
     Day(i64),
 }
 
@@ -66,13 +69,7 @@ fn side_of_value(kind: ColumnType, value: &Value) -> Side<'_>
 {
     match value {
         Value::Null => Side::Null,
-        Value::Number(number) => match kind {
-            ColumnType::Date => Side::Day(*number),
-            _ => Side::Number {
-                m: *number as i128,
-                s: kind.scale(),
-            },
-        },
+        Value::Number(number) => Side::of_number(kind, *number),
         Value::Text(text) => Side::Text(text.as_slice()),
     }
 }
@@ -85,6 +82,19 @@ impl<'a> Side<'a> {
         match schema.columns.get(column) {
             Some(found) => side_of_value(found.kind, row.cell(column)),
             None => Side::Null,
+        }
+    }
+
+    /// What a number of a column of this type lends.
+    pub fn of_number(kind: ColumnType, number: i64) -> Side<'a>
+        ensures { lent result ≡ loose_number kind number }
+    {
+        match kind {
+            ColumnType::Date => Side::Day(number),
+            _ => Side::Number {
+                m: number as i128,
+                s: kind.scale(),
+            },
         }
     }
 

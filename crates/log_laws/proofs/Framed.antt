@@ -13,7 +13,7 @@ use Rattle.cs_model.specs.declared.entry.Reply.{Reply}
 use Rattle.cs_model.specs.declared.entry.Reply.TheVariants as reply
 use Rattle.cs_model.specs.Actors.{actor_of, begun_by}
 use Rattle.cs_model.specs.Changes.{Edit}
-use Rattle.cs_model.specs.State.{Txn, Half, State, Begin, schema_now, with, txn_set, half_set}
+use Rattle.cs_model.specs.State.{Txn, Half, State, Begin, schema_now, with, txn_set, half_set, statistics_set}
 use Rattle.cs_model.specs.Kinds.{is_of_table}
 use Rattle.cs_model.specs.Steps.{IsStep, IsFinish, pinned, next_opened, or_clock, fixed, txn_opened, staged, is_empty, committed, writes_in, wrote, began, unwound, accepted, replied, commits, gone, ends_txn, rested}
 use Rattle.log_laws.specs.Frames.{Acts, Frames, SnapIn, SnapAtMost, IsDrawn, Ticks}
@@ -34,6 +34,23 @@ acts_same : (m : State) (s : ℕ) → Acts m s m
 acts_same m s = record {
   half = refl;
   statistics = λ i e. refl;
+  txns = λ i e. refl;
+  txn = 0;
+  own = [];
+  changes = sym (append-nil m.changes);
+  clock = ticks_none m.clock;
+  next = omega arith;
+  later = omega arith;
+  snap = λ p. p;
+  drawn = λ p. p;
+  writer = λ p e. absurd (cc e);
+}
+
+-- the setting is another
+acts_setting : (m : State) (s : ℕ) (on : Bool) → Acts m s (statistics_set m s on)
+acts_setting m s on = record {
+  half = refl;
+  statistics = λ i e. at_other m.statistics s i on e;
   txns = λ i e. refl;
   txn = 0;
   own = [];
@@ -126,6 +143,7 @@ acts_accepted schema m s bound.Begin = acts_began m s (m.txns s) refl
 acts_accepted schema m s bound.Commit = acts_unwound m s (m.txns s) refl
 acts_accepted schema m s bound.Rollback = acts_gone m s
 acts_accepted schema m s bound.Nothing = acts_same m s
+acts_accepted schema m s (bound.Statistics on) = acts_setting m s on
 acts_accepted schema m s (bound.Insert plan) = acts_wrote m s (m.txns s) (writes_in schema m.changes (m.txns s) (bound.Insert plan)) refl
 acts_accepted schema m s (bound.Update plan) = acts_wrote m s (m.txns s) (writes_in schema m.changes (m.txns s) (bound.Update plan)) refl
 acts_accepted schema m s (bound.Delete condition) = acts_wrote m s (m.txns s) (writes_in schema m.changes (m.txns s) (bound.Delete condition)) refl

@@ -198,6 +198,7 @@ owned_accepted schema m s bound.Begin r not h = owned_began (rested m s) s (m.tx
 owned_accepted schema m s bound.Commit r not h = owned_unwound (rested m s) s (m.txns s) refl
 owned_accepted schema m s bound.Rollback r not h = owned_rolled (rested m s) s
 owned_accepted schema m s bound.Nothing r not h = owned_same m s
+owned_accepted schema m s (bound.Statistics on) r not h = owned_same m s
 owned_accepted schema m s (bound.Insert plan) r not h = owned_wrote (rested m s) s (m.txns s) (writes_in schema m.changes (m.txns s) (bound.Insert plan)) refl (freed schema m s (m.txns s) (bound.Insert plan) r not h)
 owned_accepted schema m s (bound.Update plan) r not h = owned_wrote (rested m s) s (m.txns s) (writes_in schema m.changes (m.txns s) (bound.Update plan)) refl (freed schema m s (m.txns s) (bound.Update plan) r not h)
 owned_accepted schema m s (bound.Delete condition) r not h =

@@ -177,6 +177,7 @@ writes_accepted schema m s bound.Begin r not h k pins = writes_began (rested m s
 writes_accepted schema m s bound.Commit r not h k pins = writes_unwound (rested m s) s (m.txns s) refl k
 writes_accepted schema m s bound.Rollback r not h k pins = writes_gone (rested m s) s
 writes_accepted schema m s bound.Nothing r not h k pins = writes_same m s k
+writes_accepted schema m s (bound.Statistics on) r not h k pins = writes_same m s k
 writes_accepted schema m s (bound.Insert plan) r not h k pins =
     let edits = writes_in schema m.changes (m.txns s) (bound.Insert plan) in
     writes_wrote (rested m s) s (m.txns s) edits refl k (pinned_laid (m.txns s) m.clock edits (pins refl)) (cleared schema m s (m.txns s) (bound.Insert plan) r not h)
