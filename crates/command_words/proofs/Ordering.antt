@@ -26,7 +26,9 @@ mode_word word mode e = sym ((bytes_eq-Decides (name_of mode) word).0 (find_pass
 
 mode_of_name : (mode : Mode) → mode_named (name_of mode) ≡ Some mode
 mode_of_name mode.Replay = refl
+mode_of_name mode.Run = refl
 mode_of_name mode.Generate = refl
+mode_of_name mode.Load = refl
 
 -- ---- orders
 

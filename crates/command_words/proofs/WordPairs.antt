@@ -8,9 +8,10 @@ use Rattle.std.proofs.lemmas.Slice.Eq.{bytes_eq-Decides}
 use Rattle.cs_types.specs.Calendar.{digits_value}
 use Rattle.command_words.specs.declared.mode.Mode.{Mode}
 use Rattle.command_words.specs.declared.mode.Mode.TheVariants as mode
-use Rattle.command_words.specs.Options.{OptionRow, group_rows_row, direct_rows_row, number_row, sessions_row, statements_row, is_number, is_value}
+use Rattle.command_words.specs.Options.{OptionRow, group_rows_row, direct_rows_row, workers_row, movers_row, number_row, sessions_row, statements_row, is_number, is_value}
 use Rattle.command_words.specs.declared.order.Order.{Order}
-use Rattle.command_words.specs.Orders.{Words, Pair, words_of, is_pair, are_once, value_of, order_with, IsWithin, IsInRange, IsOrder}
+use Rattle.command_words.specs.declared.order.Order.TheVariants as order
+use Rattle.command_words.specs.Orders.{Words, Pair, words_of, is_pair, are_once, value_of, options_with, workload_with, order_with, IsWithin, AreInRange, IsWorkload, IsInRange, IsOrder}
 use Rattle.command_words.specs.Walk.{is_named, are_pairs, value_among}
 
 and_left : (a b : Bool) → (a && b) ≡ true → a ≡ true
@@ -67,47 +68,94 @@ value_is : (mode : Mode) (row : OptionRow) → Fits mode row → (pairs : List P
 value_is mode row fits [] values = refl
 value_is mode row fits (pair ∷ pairs) values = value_at row pair pairs (words_of pairs) (bytes_eq row.name pair.0) (fits pair (and_left _ _ values)) (value_is mode row fits pairs (and_right _ _ values))
 
-fits_group_rows : Fits mode.Replay group_rows_row
-unfolding is_pair
-fits_group_rows pair is named =
-    let P : List ℕ → Type 0 = λ name. is_pair mode.Replay (name, pair.1) ≡ true → is_value group_rows_row pair.1 ≡ true in
-    subst P ((bytes_eq-Decides group_rows_row.name pair.0).0 named) (or_false (is_value group_rows_row pair.1)) is
+-- a name that stands once among the options of a mode has the values of its line there
+fits : (mode : Mode) (row : OptionRow) → ((text : List ℕ) → is_pair mode (row.name, text) ≡ (is_value row text || false)) → Fits mode row
+fits mode row one pair is named =
+    let P : List ℕ → Type 0 = λ name. is_pair mode (name, pair.1) ≡ true → is_value row pair.1 ≡ true in
+    subst P ((bytes_eq-Decides row.name pair.0).0 named) (λ same. or_false (is_value row pair.1) (sym (one pair.1) ∙ same)) is
 
-fits_direct_rows : Fits mode.Replay direct_rows_row
-unfolding is_pair
-fits_direct_rows pair is named =
-    let P : List ℕ → Type 0 = λ name. is_pair mode.Replay (name, pair.1) ≡ true → is_value direct_rows_row pair.1 ≡ true in
-    subst P ((bytes_eq-Decides direct_rows_row.name pair.0).0 named) (or_false (is_value direct_rows_row pair.1)) is
+-- the options of a run, in a mode that has them
+record HasOptions (mode : Mode) : Type 0 where
+  group_rows : Fits mode group_rows_row
+  direct_rows : Fits mode direct_rows_row
+  workers : Fits mode workers_row
 
-fits_number : Fits mode.Generate number_row
-unfolding is_pair
-fits_number pair is named =
-    let P : List ℕ → Type 0 = λ name. is_pair mode.Generate (name, pair.1) ≡ true → is_value number_row pair.1 ≡ true in
-    subst P ((bytes_eq-Decides number_row.name pair.0).0 named) (or_false (is_value number_row pair.1)) is
+-- the options of a workload, in a mode that has them
+record HasWorkload (mode : Mode) : Type 0 where
+  number : Fits mode number_row
+  sessions : Fits mode sessions_row
+  statements : Fits mode statements_row
 
-fits_sessions : Fits mode.Generate sessions_row
+replay_has : HasOptions mode.Replay
 unfolding is_pair
-fits_sessions pair is named =
-    let P : List ℕ → Type 0 = λ name. is_pair mode.Generate (name, pair.1) ≡ true → is_value sessions_row pair.1 ≡ true in
-    subst P ((bytes_eq-Decides sessions_row.name pair.0).0 named) (or_false (is_value sessions_row pair.1)) is
+replay_has = record {
+  group_rows = fits mode.Replay group_rows_row (λ text. refl);
+  direct_rows = fits mode.Replay direct_rows_row (λ text. refl);
+  workers = fits mode.Replay workers_row (λ text. refl);
+}
 
-fits_statements : Fits mode.Generate statements_row
+run_has : HasOptions mode.Run
 unfolding is_pair
-fits_statements pair is named =
-    let P : List ℕ → Type 0 = λ name. is_pair mode.Generate (name, pair.1) ≡ true → is_value statements_row pair.1 ≡ true in
-    subst P ((bytes_eq-Decides statements_row.name pair.0).0 named) (or_false (is_value statements_row pair.1)) is
+run_has = record {
+  group_rows = fits mode.Run group_rows_row (λ text. refl);
+  direct_rows = fits mode.Run direct_rows_row (λ text. refl);
+  workers = fits mode.Run workers_row (λ text. refl);
+}
+
+run_has_movers : Fits mode.Run movers_row
+unfolding is_pair
+run_has_movers = fits mode.Run movers_row (λ text. refl)
+
+generate_has : HasWorkload mode.Generate
+unfolding is_pair
+generate_has = record {
+  number = fits mode.Generate number_row (λ text. refl);
+  sessions = fits mode.Generate sessions_row (λ text. refl);
+  statements = fits mode.Generate statements_row (λ text. refl);
+}
+
+load_has : HasOptions mode.Load
+unfolding is_pair
+load_has = record {
+  group_rows = fits mode.Load group_rows_row (λ text. refl);
+  direct_rows = fits mode.Load direct_rows_row (λ text. refl);
+  workers = fits mode.Load workers_row (λ text. refl);
+}
+
+load_has_workload : HasWorkload mode.Load
+unfolding is_pair
+load_has_workload = record {
+  number = fits mode.Load number_row (λ text. refl);
+  sessions = fits mode.Load sessions_row (λ text. refl);
+  statements = fits mode.Load statements_row (λ text. refl);
+}
+
+options_are : (mode : Mode) → HasOptions mode → (pairs : List Pair) → list_all (is_pair mode) pairs ≡ true → options_with (λ row. value_among row (words_of pairs)) ≡ options_with (value_of pairs)
+options_are mode has pairs values =
+    let group_rows = value_is mode group_rows_row has.group_rows pairs values in
+    let direct_rows = value_is mode direct_rows_row has.direct_rows pairs values in
+    let workers = value_is mode workers_row has.workers pairs values in
+    cc
+
+workload_is : (mode : Mode) → HasWorkload mode → (pairs : List Pair) → list_all (is_pair mode) pairs ≡ true → workload_with (λ row. value_among row (words_of pairs)) ≡ workload_with (value_of pairs)
+workload_is mode has pairs values =
+    let number = value_is mode number_row has.number pairs values in
+    let sessions = value_is mode sessions_row has.sessions pairs values in
+    let statements = value_is mode statements_row has.statements pairs values in
+    cc
 
 -- the order is the same where the first values among the words are those of the pairs
 pub order_is : (mode : Mode) (pairs : List Pair) → list_all (is_pair mode) pairs ≡ true → order_with mode (λ row. value_among row (words_of pairs)) ≡ order_with mode (value_of pairs)
-order_is mode.Replay pairs values =
-    let group_rows = value_is mode.Replay group_rows_row fits_group_rows pairs values in
-    let direct_rows = value_is mode.Replay direct_rows_row fits_direct_rows pairs values in
-    cc
-order_is mode.Generate pairs values =
-    let number = value_is mode.Generate number_row fits_number pairs values in
-    let sessions = value_is mode.Generate sessions_row fits_sessions pairs values in
-    let statements = value_is mode.Generate statements_row fits_statements pairs values in
-    cc
+order_is mode.Replay pairs values = ap order.Replay (options_are mode.Replay replay_has pairs values)
+order_is mode.Run pairs values =
+    let options = options_are mode.Run run_has pairs values in
+    let movers = value_is mode.Run movers_row run_has_movers pairs values in
+    ap (λ z. order.Run z (value_among movers_row (words_of pairs))) options ∙ ap (order.Run (options_with (value_of pairs))) movers
+order_is mode.Generate pairs values = ap order.Generate (workload_is mode.Generate generate_has pairs values)
+order_is mode.Load pairs values =
+    let workload = workload_is mode.Load load_has_workload pairs values in
+    let options = options_are mode.Load load_has pairs values in
+    ap (λ z. order.Load z (options_with (λ row. value_among row (words_of pairs)))) workload ∙ ap (order.Load (workload_with (value_of pairs))) options
 
 -- ---- ranges
 
@@ -127,14 +175,25 @@ range_of : (mode : Mode) (row : OptionRow) → Fits mode row → IsWithin row ro
 range_of mode row fits usual [] values = usual
 range_of mode row fits usual (pair ∷ pairs) values = range_at row pair pairs (bytes_eq row.name pair.0) (fits pair (and_left _ _ values)) (range_of mode row fits usual pairs (and_right _ _ values))
 
-ranges : (mode : Mode) (pairs : List Pair) → list_all (is_pair mode) pairs ≡ true → IsInRange (order_with mode (value_of pairs))
-ranges mode.Replay pairs values =
-    (range_of mode.Replay group_rows_row fits_group_rows (omega arith, omega arith) pairs values, range_of mode.Replay direct_rows_row fits_direct_rows (omega arith, omega arith) pairs values)
-ranges mode.Generate pairs values = (
-  range_of mode.Generate number_row fits_number (omega arith, omega arith) pairs values,
-  range_of mode.Generate sessions_row fits_sessions (omega arith, omega arith) pairs values,
-  range_of mode.Generate statements_row fits_statements (omega arith, omega arith) pairs values,
+options_range : (mode : Mode) → HasOptions mode → (pairs : List Pair) → list_all (is_pair mode) pairs ≡ true → AreInRange (options_with (value_of pairs))
+options_range mode has pairs values = (
+  range_of mode group_rows_row has.group_rows (omega arith, omega arith) pairs values,
+  range_of mode direct_rows_row has.direct_rows (omega arith, omega arith) pairs values,
+  range_of mode workers_row has.workers (omega arith, omega arith) pairs values,
 )
+
+workload_range : (mode : Mode) → HasWorkload mode → (pairs : List Pair) → list_all (is_pair mode) pairs ≡ true → IsWorkload (workload_with (value_of pairs))
+workload_range mode has pairs values = (
+  range_of mode number_row has.number (omega arith, omega arith) pairs values,
+  range_of mode sessions_row has.sessions (omega arith, omega arith) pairs values,
+  range_of mode statements_row has.statements (omega arith, omega arith) pairs values,
+)
+
+ranges : (mode : Mode) (pairs : List Pair) → list_all (is_pair mode) pairs ≡ true → IsInRange (order_with mode (value_of pairs))
+ranges mode.Replay pairs values = options_range mode.Replay replay_has pairs values
+ranges mode.Run pairs values = (options_range mode.Run run_has pairs values, range_of mode.Run movers_row run_has_movers (omega arith, omega arith) pairs values)
+ranges mode.Generate pairs values = workload_range mode.Generate generate_has pairs values
+ranges mode.Load pairs values = (workload_range mode.Load load_has_workload pairs values, options_range mode.Load load_has pairs values)
 
 pub in_range : (words : Words) (order : Order) → IsOrder words order → IsInRange order
 in_range words order is = subst IsInRange (sym is.is) (ranges is.mode is.pairs is.values)

@@ -3,7 +3,7 @@ use Rattle.std.specs.Prelude.{ℕ, List, [], ◌∷◌, length, codes, Bool, ◌
 use Rattle.std.specs.List.{list_all}
 use Rattle.cs_types.specs.Calendar.{is_digit, digits_value}
 use Rattle.command_words.specs.declared.mode.Mode.{Mode}
-use Rattle.command_words.specs.declared.mode.Mode.TheVariants.{Replay, Generate}
+use Rattle.command_words.specs.declared.mode.Mode.TheVariants.{Replay, Run, Generate, Load}
 
 -- a line of the table of options
 pub record OptionRow : Type 0 where
@@ -20,6 +20,12 @@ group_rows_row = record { name = codes "--group-rows"; least = 2; greatest = 104
 abbrev pub direct_rows_row : OptionRow
 direct_rows_row = record { name = codes "--direct-rows"; least = 1; greatest = 1048576; usual = 102400 }
 
+abbrev pub workers_row : OptionRow
+workers_row = record { name = codes "--workers"; least = 1; greatest = 16; usual = 1 }
+
+abbrev pub movers_row : OptionRow
+movers_row = record { name = codes "--movers"; least = 0; greatest = 8; usual = 1 }
+
 abbrev pub number_row : OptionRow
 number_row = record { name = codes "--number"; least = 0; greatest = 2147483647; usual = 1 }
 
@@ -31,17 +37,21 @@ statements_row = record { name = codes "--statements"; least = 0; greatest = 200
 
 -- the modes
 abbrev pub modes : List Mode
-modes = Replay ∷ Generate ∷ []
+modes = Replay ∷ Run ∷ Generate ∷ Load ∷ []
 
 -- the word of a mode
 abbrev pub name_of : Mode → List ℕ
 name_of Replay = codes "replay"
+name_of Run = codes "run"
 name_of Generate = codes "generate"
+name_of Load = codes "load"
 
 -- the options of a mode
 abbrev pub rows_of : Mode → List OptionRow
-rows_of Replay = group_rows_row ∷ direct_rows_row ∷ []
+rows_of Replay = group_rows_row ∷ direct_rows_row ∷ workers_row ∷ []
+rows_of Run = group_rows_row ∷ direct_rows_row ∷ workers_row ∷ movers_row ∷ []
 rows_of Generate = number_row ∷ sessions_row ∷ statements_row ∷ []
+rows_of Load = group_rows_row ∷ direct_rows_row ∷ workers_row ∷ number_row ∷ sessions_row ∷ statements_row ∷ []
 
 -- ---- values
 

@@ -9,7 +9,7 @@ mod option;
 mod order;
 mod pairs;
 
-pub use order::{GroupSizes, Order, Workload, orders_are_in_range};
+pub use order::{Order, RunOptions, Workload, orders_are_in_range};
 
 #[cfg(test)]
 mod tests;

@@ -34,6 +34,22 @@ pub const DIRECT_ROWS: CommandOption = CommandOption {
     usual: 102_400,
 };
 
+/// How many workers a scan has.
+pub const WORKERS: CommandOption = CommandOption {
+    name: "--workers",
+    least: 1,
+    greatest: 16,
+    usual: 1,
+};
+
+/// How many movers work beside the sessions.
+pub const MOVERS: CommandOption = CommandOption {
+    name: "--movers",
+    least: 0,
+    greatest: 8,
+    usual: 1,
+};
+
 /// The number that a workload is drawn from.
 pub const NUMBER: CommandOption = CommandOption {
     name: "--number",
@@ -59,10 +75,23 @@ pub const STATEMENTS: CommandOption = CommandOption {
 };
 
 /// The options of the mode `replay`.
-pub const REPLAY: [CommandOption; 2] = [GROUP_ROWS, DIRECT_ROWS];
+pub const REPLAY: [CommandOption; 3] = [GROUP_ROWS, DIRECT_ROWS, WORKERS];
+
+/// The options of the mode `run`.
+pub const RUN: [CommandOption; 4] = [GROUP_ROWS, DIRECT_ROWS, WORKERS, MOVERS];
 
 /// The options of the mode `generate`.
 pub const GENERATE: [CommandOption; 3] = [NUMBER, SESSIONS, STATEMENTS];
+
+/// The options of the mode `load`.
+pub const LOAD: [CommandOption; 6] = [
+    GROUP_ROWS,
+    DIRECT_ROWS,
+    WORKERS,
+    NUMBER,
+    SESSIONS,
+    STATEMENTS,
+];
 
 /// The number of a text, which is 1 to 10 digits; None of any other text.
 fn number(text: &[u8]) -> Option<u64>

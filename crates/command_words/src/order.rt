@@ -5,13 +5,15 @@ ghost use Rattle.command_words.specs.Orders.{Words, IsInRange, IsOrder};
 
 use crate::mode::Mode;
 
-/// How large row groups are.
+/// How a script is run.
 #[derive(Clone, Copy, Debug, PartialEq, Eq)]
-pub struct GroupSizes {
+pub struct RunOptions {
     /// The most versions of a group, 2 to 1,048,576.
     pub group_rows: u32,
     /// From how many rows on a commit loads them directly, 1 to 1,048,576.
     pub direct_rows: u32,
+    /// How many workers a scan has, 1 to 16.
+    pub workers: u32,
 }
 
 /// A workload that is drawn: a script of statements.
@@ -28,10 +30,21 @@ pub struct Workload {
 /// What the program is to do.
 #[derive(Clone, Copy, Debug, PartialEq, Eq)]
 pub enum Order {
-    /// Replay the script of the input, with row groups so large.
-    Replay(GroupSizes),
+    /// Replay the script of the input, line by line.
+    Replay(RunOptions),
+    /// Run the sessions of the script of the input, each on a thread of its own.
+    Run {
+        options: RunOptions,
+        /// How many movers work beside the sessions, 0 to 8.
+        movers: u32,
+    },
     /// Write the script of a workload.
     Generate(Workload),
+    /// Replay the script of a workload.
+    Load {
+        workload: Workload,
+        options: RunOptions,
+    },
 }
 
 impl Order {
