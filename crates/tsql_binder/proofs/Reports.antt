@@ -76,7 +76,7 @@ module _ (schema : Schema) (report : Bound) (name : List ℕ) (other : (statemen
   only statements.Commit e = absurd (not_planned statements.Commit (first_fault schema statements.Commit) e)
   only statements.Rollback e = absurd (not_planned statements.Rollback (first_fault schema statements.Rollback) e)
   only statements.SetSnapshot e = absurd (not_planned statements.SetSnapshot (first_fault schema statements.SetSnapshot) e)
-  only (statements.SetStatistics on) e = absurd (cc e)
+  only (statements.SetStatistics on) e = absurd (not_planned (statements.SetStatistics on) (first_fault schema (statements.SetStatistics on)) e)
   only (statements.SetLockTimeout number) e = absurd (not_planned (statements.SetLockTimeout number) (first_fault schema (statements.SetLockTimeout number)) e)
   only (statements.AlterIndex index table compress) e = absurd (cc e)
   only (statements.Insert table names source) e = absurd (not_planned (statements.Insert table names source) (first_fault schema (statements.Insert table names source)) e)

@@ -2,7 +2,7 @@
 use Rattle.std.specs.Prelude.{◌≡◌, ◌⊎◌, ℕ, List, Bool, true, false, Option, None, Some, Result, Ok, Err, if◌then◌else◌}
 use Rattle.cs_types.specs.declared.Schema.{Schema}
 use Rattle.cs_model.specs.declared.entry.Bound.{Bound}
-use Rattle.cs_model.specs.declared.entry.Bound.TheVariants.{Begin, Commit, Rollback, Nothing, Insert, Update, Delete, Select, Refused}
+use Rattle.cs_model.specs.declared.entry.Bound.TheVariants.{Begin, Commit, Rollback, Nothing, Statistics, Insert, Update, Delete, Select, Refused}
 use Rattle.cs_model.specs.declared.entry.Refusal.TheVariants.{Reading}
 use Rattle.tsql_trees.specs.declared.statement.Statement.{Statement}
 use Rattle.tsql_trees.specs.declared.statement.Statement.TheVariants as statements
@@ -30,6 +30,7 @@ plan_of schema statements.Begin = Begin
 plan_of schema statements.Commit = Commit
 plan_of schema statements.Rollback = Rollback
 plan_of schema statements.SetSnapshot = Nothing
+plan_of schema (statements.SetStatistics on) = Statistics on
 plan_of schema (statements.SetLockTimeout number) = Nothing
 plan_of schema (statements.Insert table names source) = Insert (insert_plan schema names source)
 plan_of schema (statements.Update table sets filter) = Update (update_plan schema sets filter)

@@ -10,7 +10,7 @@ pub fn is_postponed(statement: &Statement) -> bool
     ensures { result ≡ spec.is_postponed statement.now }
 {
     match statement {
-        Statement::SetStatistics { .. } | Statement::AlterIndex { .. } => true,
+        Statement::AlterIndex { .. } => true,
         _ => false,
     }
 }

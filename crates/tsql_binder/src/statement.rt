@@ -42,6 +42,7 @@ fn plan_of(alloc: Global, schema: &Schema, statement: &Statement) -> Result<Boun
         Statement::Commit => Ok(Bound::Commit),
         Statement::Rollback => Ok(Bound::Rollback),
         Statement::SetSnapshot | Statement::SetLockTimeout { .. } => Ok(Bound::Nothing),
+        Statement::SetStatistics { on } => Ok(Bound::Statistics(*on)),
         Statement::Insert { names, source, .. } => {
             let plan = insert_plan(alloc, schema, names.as_ref(), source)?;
             Ok(Bound::Insert(Boxed::new(alloc, plan)?))

@@ -12,12 +12,14 @@ enum Meant {
     Groups,
     Segments,
     Query,
+    /// STATISTICS IO on or off.
+    Setting(bool),
     /// The number and the place of a refusal.
     Refused(u32, u32),
     Other,
 }
 
-use Meant::{Groups, Other, Query, Refused, Segments};
+use Meant::{Groups, Other, Query, Refused, Segments, Setting};
 
 fn bytes(alloc: Global, text: &[u8]) -> Result<Bytes, Memory> {
     let mut bytes = Items::new(alloc);
@@ -47,6 +49,7 @@ fn outcome(bound: &Bound) -> Meant {
         Bound::GroupReport => Groups,
         Bound::SegmentReport => Segments,
         Bound::Select(_) => Query,
+        Bound::Statistics(on) => Setting(*on),
         Bound::Refused(Refusal::Reading { number, at }) => Refused(*number, *at),
         _ => Other,
     }
@@ -148,6 +151,19 @@ fn a_table_may_have_the_name_of_a_report(rt: HostRuntime) -> Result<(), Fail> {
         (b"SELECT k FROM column_store_segments", Query),
         (b"SELECT k FROM dbo.COLUMN_STORE_SEGMENTS", Query),
         (b"DELETE FROM sys.column_store_segments", Other),
+    ];
+    check(&rt, rt.alloc(), &schema, &cases)?;
+    Ok(())
+}
+
+#[test]
+fn statistics_io_is_a_setting(rt: HostRuntime) -> Result<(), Fail> {
+    let schema = table(rt.alloc(), b"t")?;
+    let cases: [(&[u8], Meant); 4] = [
+        (b"SET STATISTICS IO ON", Setting(true)),
+        (b"set statistics io off", Setting(false)),
+        (b"SET STATISTICS TIME ON", Refused(102, 16)),
+        (b"SET LOCK_TIMEOUT 0", Other),
     ];
     check(&rt, rt.alloc(), &schema, &cases)?;
     Ok(())

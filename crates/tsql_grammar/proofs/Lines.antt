@@ -15,7 +15,7 @@ use Rattle.tsql_grammar.specs.declared.terminal.Terminal.TheVariants as terminal
 use Rattle.tsql_grammar.specs.declared.terminal.Symbol.{Symbol}
 use Rattle.tsql_grammar.specs.Terminals.{subset}
 use Rattle.tsql_grammar.specs.Forms.{Form}
-use Rattle.tsql_grammar.specs.Values.{name_of, number_of, sign_of, signed, text_of, factor_of, null_of, nested_of, times_of, term_of, expr_of, is_some, is_odd, null_const, cmp_of, nested_pred, neg_of, conj_of, pred_of, table_of, row_of, series_of, set_of, all_of, oitem_of, is_on, begin_of, commit_of, rollback_of, snapshot_of, all_indexes, one_index, alter_of, insert_of, update_of, delete_of, select_of, plain_of, decimal_of, varchar_of}
+use Rattle.tsql_grammar.specs.Values.{name_of, number_of, sign_of, signed, text_of, factor_of, null_of, nested_of, times_of, term_of, expr_of, is_some, is_odd, null_const, cmp_of, nested_pred, neg_of, conj_of, pred_of, table_of, row_of, series_of, set_of, all_of, oitem_of, is_word_on, begin_tran_of, commit_of, rollback_of, snapshot_of, all_indexes, one_index, alter_of, insert_of, update_of, delete_of, select_of, plain_of, decimal_of, varchar_of}
 use Rattle.tsql_grammar.specs.Grammar.{all_names, other_names, column_aggregates, begins_part, begins_primary, atom_lines, item_lines, set_lines, with_left, with_name, with_low, with_list, with_pattern, with_null, with_not, applied, applied_const, counted_star, counted_name, named_or, name, sign, unsigned, literal, table, names, whole, constant, operand, cmp, maybe_not, compared, between, within_list, like, tested, maybe_tested, is_null, after_name, atom_read, atom, nots, neg_from, conj_from, pred_from, part_at, pred, plain, times, factor_from, term_from, expr_from, primary_at, expr, row, counted, aggregated, item_read, item, items, oitem, where_part, on_off, values, series, set_part, index, group_part, order_part, begin_statement, commit_statement, rollback_statement, set_snapshot, set_statistics, set_lock_timeout, set_read, set_statement, compress_part, alter_index, alter_statement, insert_statement, update_statement, delete_statement, select_statement, statement, line, plain_types, decimal_types, digits_part, size_part, column_type}
 use Rattle.tsql_grammar.proofs.Laws.{Laws}
 use Rattle.tsql_grammar.proofs.Makers.{one_of, made, both, choose, maybe, repeated, declared_laws, word_laws, behind_laws, maybe_behind_laws, within_laws, listed_laws}
@@ -251,7 +251,7 @@ where_part_laws text n = behind_laws terminal.Where refl (pred_laws text n)
 
 pub on_off_laws : Laws on_off
 unfolding name sign unsigned literal table names whole constant operand cmp maybe_not compared between within_list like tested maybe_tested is_null after_name atom_read atom nots neg_from conj_from pred_from part_at pred plain times factor_from term_from expr_from primary_at expr row counted aggregated item_read item items oitem where_part on_off
-on_off_laws = made is_on (one_of (terminal.On ∷ terminal.Off ∷ []) terminal.On refl)
+on_off_laws = made is_word_on (one_of (terminal.On ∷ terminal.Off ∷ []) terminal.On refl)
 
 pub values_laws : (text : List ℕ) (n : ℕ) → Laws (values text n)
 unfolding name sign unsigned literal table names whole constant operand cmp maybe_not compared between within_list like tested maybe_tested is_null after_name atom_read atom nots neg_from conj_from pred_from part_at pred plain times factor_from term_from expr_from primary_at expr row counted aggregated item_read item items oitem where_part on_off values
@@ -281,7 +281,7 @@ order_part_laws text = behind_laws terminal.Order refl (behind_laws terminal.By 
 
 pub begin_statement_laws : Laws begin_statement
 unfolding name sign unsigned literal table names whole constant operand cmp maybe_not compared between within_list like tested maybe_tested is_null after_name atom_read atom nots neg_from conj_from pred_from part_at pred plain times factor_from term_from expr_from primary_at expr row counted aggregated item_read item items oitem where_part on_off values series set_part index group_part order_part begin_statement
-begin_statement_laws = behind_laws terminal.Begin refl (made begin_of (one_of (terminal.Tran ∷ terminal.Transaction ∷ []) terminal.Tran refl))
+begin_statement_laws = behind_laws terminal.Begin refl (made begin_tran_of (one_of (terminal.Tran ∷ terminal.Transaction ∷ []) terminal.Tran refl))
 
 pub commit_statement_laws : Laws commit_statement
 unfolding name sign unsigned literal table names whole constant operand cmp maybe_not compared between within_list like tested maybe_tested is_null after_name atom_read atom nots neg_from conj_from pred_from part_at pred plain times factor_from term_from expr_from primary_at expr row counted aggregated item_read item items oitem where_part on_off values series set_part index group_part order_part begin_statement commit_statement

@@ -1,10 +1,11 @@
 -- The names known by their places are names.
 use Rattle.std.proofs.Common.{◌≡◌, ℕ, Bool, true, false, List, [], ◌∷◌, Option, Some, None, refl, subst}
 use Rattle.std.specs.Prelude.{◌&&◌, if◌then◌else◌, unwrap_or}
+use Rattle.tsql_tokens.specs.Reserved.{is_word}
 use Rattle.tsql_grammar.specs.declared.terminal.Terminal.{Terminal}
 use Rattle.tsql_grammar.specs.declared.terminal.Terminal.TheVariants as terminal
 use Rattle.tsql_grammar.specs.Terminals.{among}
-use Rattle.tsql_grammar.specs.Words.{is_word, looked_up, or_else, placed_1, placed_2, placed_3, name_terminal}
+use Rattle.tsql_grammar.specs.Words.{looked_up, or_else, placed_1, placed_2, placed_3, name_terminal}
 use Rattle.tsql_grammar.specs.Grammar.{all_names}
 
 -- each word of a table is a name

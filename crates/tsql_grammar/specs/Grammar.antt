@@ -39,7 +39,7 @@ use Rattle.tsql_grammar.specs.declared.terminal.Terminal.{Terminal}
 use Rattle.tsql_grammar.specs.declared.terminal.Terminal.TheVariants.{All, Alter, And, Asc, Begin, Between, By, Commit, Delete, Desc, From, Group, In, Index, Insert, Into, Is, Like, Not, Null, Off, On, Or, Order, Rollback, Select, Set, Tran, Transaction, Update, Values, Where, With, Plain, Work, Isolation, Level, Snapshot, Statistics, Io, LockTimeout, Reorganize, CompressAllRowGroups, GenerateSeries, Count, Sum, Min, Max, Avg, Tinyint, Smallint, Int, Integer, Bigint, Date, Decimal, Numeric, Varchar, Columnstore, OpenSign, CloseSign, CommaSign, PointSign, SemicolonSign, StarSign, PlusSign, MinusSign, SlashSign, PercentSign, EqualSign, UnequalSign, BangEqualSign, LessSign, LessEqualSign, GreaterSign, GreaterEqualSign, Number, Text}
 use Rattle.tsql_grammar.specs.declared.terminal.Symbol.{Symbol}
 use Rattle.tsql_grammar.specs.Forms.{Form, token, mapped, seq, either, optional, many, declared, written}
-use Rattle.tsql_grammar.specs.Values.{name_of, number_of, sign_of, signed, text_of, factor_of, null_of, nested_of, times_of, term_of, expr_of, is_some, is_odd, null_const, cmp_of, compare_of, between_of, in_of, like_of, is_null_of, nested_pred, neg_of, conj_of, pred_of, table_of, row_of, series_of, set_of, aggregate_of, count_all_of, all_of, oitem_of, is_on, begin_of, commit_of, rollback_of, snapshot_of, all_indexes, one_index, alter_of, insert_of, update_of, delete_of, select_of, plain_of, decimal_of, varchar_of}
+use Rattle.tsql_grammar.specs.Values.{name_of, number_of, sign_of, signed, text_of, factor_of, null_of, nested_of, times_of, term_of, expr_of, is_some, is_odd, null_const, cmp_of, compare_of, between_of, in_of, like_of, is_null_of, nested_pred, neg_of, conj_of, pred_of, table_of, row_of, series_of, set_of, aggregate_of, count_all_of, all_of, oitem_of, is_word_on, begin_tran_of, commit_of, rollback_of, snapshot_of, all_indexes, one_index, alter_of, insert_of, update_of, delete_of, select_of, plain_of, decimal_of, varchar_of}
 
 -- ---- ways to write lines
 
@@ -332,7 +332,7 @@ where_part text n = behind Where (pred text n)
 
 -- ON | OFF
 unfoldable pub on_off : Form Bool
-on_off = mapped is_on (token (On ∷ Off ∷ []))
+on_off = mapped is_word_on (token (On ∷ Off ∷ []))
 
 -- VALUES row {"," row}
 unfoldable pub values : List ℕ → ℕ → Form SourceTree
@@ -364,7 +364,7 @@ order_part text = behind Order (behind By (listed (oitem text)))
 
 -- BEGIN (TRAN | TRANSACTION)
 unfoldable pub begin_statement : Form Statement
-begin_statement = behind Begin (mapped begin_of (token (Tran ∷ Transaction ∷ [])))
+begin_statement = behind Begin (mapped begin_tran_of (token (Tran ∷ Transaction ∷ [])))
 
 -- COMMIT [TRAN | TRANSACTION | WORK]
 unfoldable pub commit_statement : Form Statement

@@ -215,11 +215,11 @@ is_descending (Some t) = same t.terminal terminal.Desc
 abbrev pub oitem_of : NameTree × Option Symbol → OitemTree
 oitem_of (name, order) = record { name = name; descending = is_descending order }
 
-abbrev pub is_on : Symbol → Bool
-is_on t = same t.terminal terminal.On
+abbrev pub is_word_on : Symbol → Bool
+is_word_on t = same t.terminal terminal.On
 
-abbrev pub begin_of : Symbol → Statement
-begin_of t = statements.Begin
+abbrev pub begin_tran_of : Symbol → Statement
+begin_tran_of t = statements.Begin
 
 abbrev pub commit_of : Option Symbol → Statement
 commit_of t = statements.Commit

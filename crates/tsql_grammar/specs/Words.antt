@@ -1,16 +1,12 @@
 -- Which terminal a token is.
 use Rattle.std.specs.Prelude.{ℕ, ◌+◌, ◌-◌, List, [], ◌∷◌, codes, length, take, drop, map, if◌then◌else◌, Option, None, Some, unwrap_or, Bool, ◌==◌}
-use Rattle.std.specs.Str.{str_eq_ignore_ascii_case}
 use Rattle.tsql_tokens.specs.declared.token.TokenKind.{TokenKind}
 use Rattle.tsql_tokens.specs.declared.token.TokenKind.TheVariants as kind
 use Rattle.tsql_tokens.specs.declared.token.Token.{Token}
+use Rattle.tsql_tokens.specs.Reserved.{is_word}
 use Rattle.tsql_grammar.specs.declared.terminal.Terminal.{Terminal}
 use Rattle.tsql_grammar.specs.declared.terminal.Terminal.TheVariants as terminal
 use Rattle.tsql_grammar.specs.declared.terminal.Symbol.{Symbol}
-
--- two words are the same but for ASCII case
-unfoldable pub is_word : List ℕ → List ℕ → Bool
-is_word bytes word = str_eq_ignore_ascii_case bytes word
 
 -- what a table has for a word
 abbrev pub looked_up : List (List ℕ × Terminal) → List ℕ → Option Terminal

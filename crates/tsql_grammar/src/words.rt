@@ -3,21 +3,13 @@
 ghost use Rattle.std.specs.Prelude.{◌≡◌, ◌+◌, ◌<◌, ◌≤◌, ◌^◌, ℕ, List, true, length, All, IfOk, take};
 ghost use Rattle.tsql_grammar.specs.Terminals.{among};
 ghost use Rattle.tsql_grammar.specs.Grammar.{all_names};
-ghost use Rattle.tsql_grammar.specs.Words.{is_word, looked_up, or_else, bytes_at, unbracketed, reserved_terminal, name_terminal, sign_terminal, terminal_of, symbol_of, symbols_of, reserved_1, reserved_2, reserved_3, reserved_4, reserved_5, placed_1, placed_2, placed_3, signs_1, signs_2};
+ghost use Rattle.tsql_grammar.specs.Words.{looked_up, or_else, bytes_at, unbracketed, reserved_terminal, name_terminal, sign_terminal, terminal_of, symbol_of, symbols_of, reserved_1, reserved_2, reserved_3, reserved_4, reserved_5, placed_1, placed_2, placed_3, signs_1, signs_2};
 ghost use Rattle.tsql_tokens.specs.Tokens.{IsSpan};
 
 use crate::terminal::{Symbol, Terminal};
 use cs_base::{Items, Memory};
 use std::alloc::Global;
-use tsql_tokens::{Token, TokenKind};
-
-/// Whether two words are the same but for ASCII case.
-#[tactic(auto, unfolding(crate::specs::Words::is_word))]
-fn is_word(bytes: &[u8], word: &[u8]) -> bool
-    ensures { result ≡ is_word bytes.now word.now }
-{
-    bytes.eq_ignore_ascii_case(word)
-}
+use tsql_tokens::{Token, TokenKind, is_word};
 
 fn reserved_1(bytes: &[u8]) -> Option<Terminal>
     ensures { result ≡ looked_up reserved_1 bytes.now }

@@ -45,19 +45,19 @@ RefusesStatement text refusal.Memory = Unit {0}
 -- ---- how it is found
 
 -- what reading all the symbols gave
-abbrev pub Judged : ℕ → Symbols → ReadRefusal → Result Statement Symbols → Type 0
-Judged size symbols refusal.Memory read = Unit {0}
-Judged size symbols (refusal.At number at) read = (rest : Symbols) × (read ≡ Err rest) × (number ≡ number_at symbols rest) × (at ≡ place_at size rest)
+abbrev pub JudgedStatement : ℕ → Symbols → ReadRefusal → Result Statement Symbols → Type 0
+JudgedStatement size symbols refusal.Memory read = Unit {0}
+JudgedStatement size symbols (refusal.At number at) read = (rest : Symbols) × (read ≡ Err rest) × (number ≡ number_at symbols rest) × (at ≡ place_at size rest)
 
-abbrev pub Judges : ℕ → Symbols → Result Statement ReadRefusal → Result Statement Symbols → Type 0
-Judges size symbols (Ok statement) read = read ≡ Ok statement
-Judges size symbols (Err e) read = Judged size symbols e read
+abbrev pub JudgesStatement : ℕ → Symbols → Result Statement ReadRefusal → Result Statement Symbols → Type 0
+JudgesStatement size symbols (Ok statement) read = read ≡ Ok statement
+JudgesStatement size symbols (Err e) read = JudgedStatement size symbols e read
 
 -- what reading the symbols of a text gave, and the limits of its lists
 abbrev pub FollowsRefused : List ℕ → Symbols → ReadRefusal → Type 0
 FollowsRefused text symbols refusal.Memory = Unit {0}
 FollowsRefused text symbols (refusal.At number at) =
-    Judged (length text) symbols (refusal.At number at) (to_end ((grammar text).reads symbols))
+    JudgedStatement (length text) symbols (refusal.At number at) (to_end ((grammar text).reads symbols))
     ⊎ ((statement : Statement) × (to_end ((grammar text).reads symbols) ≡ Ok statement) × (passed_limit symbols statement ≡ Some (number, at)))
 
 abbrev pub FollowsTokens : List ℕ → Symbols → Result Statement ReadRefusal → Type 0

@@ -6,7 +6,7 @@ ghost use Rattle.tsql_tokens.specs.Tokens.{IsSpan};
 ghost use Rattle.tsql_grammar.specs.Places.{to_end};
 ghost use Rattle.tsql_grammar.specs.Words.{symbols_of};
 ghost use Rattle.tsql_exprs.specs.Refusals.{AnswersOnly};
-ghost use Rattle.tsql_reader.specs.Statements.{grammar, IsStatement, IsNoStatement, RefusesStatement, Judges, FollowsTokens};
+ghost use Rattle.tsql_reader.specs.Statements.{grammar, IsStatement, IsNoStatement, RefusesStatement, JudgesStatement, FollowsTokens};
 
 use crate::limits::passed_limit;
 use crate::statement::line;
@@ -23,7 +23,7 @@ const DEPTH: u32 = 64;
 #[tactic(auto, unfolding(crate::specs::Statements::grammar))]
 fn whole(alloc: Global, text: &[u8], symbols: &[Symbol]) -> Result<Statement, ReadRefusal>
     requires { length text.now ≤ 131_072 }
-    ensures { Judges (length text.now) symbols.now result (to_end ((grammar text.now).reads symbols.now)) }
+    ensures { JudgesStatement (length text.now) symbols.now result (to_end ((grammar text.now).reads symbols.now)) }
 {
     let mut reader = Reader { rest: symbols };
     let grammar = Grammar {

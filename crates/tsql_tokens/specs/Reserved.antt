@@ -1,15 +1,15 @@
 -- The reserved words: those of the grammar, and those that T-SQL reserves and the grammar has no form for.
 use Rattle.std.specs.Prelude.{ℕ, List, [], ◌∷◌, codes, Bool, ◌||◌}
 use Rattle.std.specs.List.{list_any}
-use Rattle.std.specs.Str.{str_eq_ignore_ascii_case}
+use Rattle.cs_base.specs.Names.{same_name}
 
--- two words are the same but for ASCII case
-unfoldable pub is_same : List ℕ → List ℕ → Bool
-is_same word other = str_eq_ignore_ascii_case word other
+-- bytes are this word, whatever their case
+unfoldable pub is_word : List ℕ → List ℕ → Bool
+is_word bytes word = same_name bytes word
 
 -- a word is one of a list
 abbrev pub is_among : List ℕ → List (List ℕ) → Bool
-is_among word words = list_any (is_same word) words
+is_among word words = list_any (is_word word) words
 
 -- the reserved words, by their first letters
 abbrev pub words_a_to_b : List (List ℕ)

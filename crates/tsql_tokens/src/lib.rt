@@ -14,4 +14,5 @@ mod tests;
 mod token;
 
 pub use lexer::tokens;
+pub use reserved::is_word;
 pub use token::{Token, TokenKind, TokenRefusal};
