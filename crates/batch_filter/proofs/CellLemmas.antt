@@ -1,0 +1,33 @@
+-- Cells of lists.
+use Rattle.std.proofs.Common.{◌≡◌, ℕ, ◌<◌, List, [], ◌∷◌, ◌++◌, length, slice_get, Some, unwrap_or, refl, ap, sym, ◌∙◌, arith, false, true, Bool, true≢false, get_or, ◌+◌, ◌≤◌, take, drop}
+use Rattle.std.specs.List.{list_any}
+use Rattle.std.proofs.lemmas.List.Folds.{list_any_at}
+use Rattle.std.proofs.lemmas.List.{get_or-drop, get_or-take, length-drop, length-take-le}
+use Rattle.cs_types.specs.declared.Value.{Value}
+use Rattle.cs_types.specs.declared.Value.TheVariants.{Null}
+use Rattle.cs_types.specs.Rows.{cell_at}
+
+get-last : (cells : List Value) (cell : Value) → slice_get (cells ++ cell ∷ []) (length cells) ≡ Some cell
+get-last [] cell = refl
+get-last (x ∷ xs) cell = get-last xs cell
+
+-- the cell past some others
+pub cell_at-last : (cells : List Value) (cell : Value) (n : ℕ) → length cells ≡ n → cell_at (cells ++ cell ∷ []) n ≡ cell
+cell_at-last cells cell n same = ap (λ k. cell_at (cells ++ cell ∷ []) k) (sym same) ∙ ap (λ o. unwrap_or o Null) (get-last cells cell)
+
+-- none is chosen where a search finds none
+pub none_chosen : (mask : List Bool) → list_any (λ chosen. chosen) mask ≡ false → (i : ℕ) → i < length mask → get_or mask i false ≡ false
+none_chosen mask none i l = go (get_or mask i false) refl
+  where
+    go : (b : Bool) → get_or mask i false ≡ b → get_or mask i false ≡ false
+    go false e = e
+    go true e = absurd (true≢false (sym (list_any_at (λ chosen. chosen) mask i false l e) ∙ none))
+
+-- nor is one at these places of the list
+pub none_between : (mask : List Bool) (from count n : ℕ) → n ≡ count → from + count ≤ length mask → list_any (λ chosen. chosen) (take n (drop from mask)) ≡ false
+    → (i : ℕ) → i < count → get_or mask (from + i) false ≡ false
+none_between mask from count n same within none i l =
+    let here : i < n = omega arith in
+    let long : n ≤ length (drop from mask) = omega (arith, length-drop from mask) in
+    sym (get_or-drop from mask i false) ∙ sym (get_or-take n (drop from mask) i false here)
+    ∙ none_chosen (take n (drop from mask)) none i (omega (arith, length-take-le n (drop from mask) long))

@@ -1,0 +1,9 @@
+pub mod OrderLemmas
+pub mod BoundLemmas
+pub mod NamedLemmas
+pub mod SkipLemmas
+pub mod CutLemmas
+pub mod VerdictLemmas
+pub mod SpanLemmas
+pub mod SieveLemmas
+pub mod CellLemmas

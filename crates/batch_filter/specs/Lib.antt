@@ -1,0 +1,4 @@
+pub mod Bounds
+pub mod Named
+pub mod Sieves
+pub mod Codes

@@ -1,0 +1,209 @@
+//! Parts of a predicate that name one column, judged by its codes.
+
+ghost use Rattle.std.specs.Prelude.{◌≡◌, ◌+◌, ◌≤◌, ◌<◌, ◌==◌, ℕ, length, slice_get, slice_index_or, true, false, IfOk, IfSome, OnOk, ◌^◌, List};
+ghost use Rattle.std.specs.List.{list_all};
+ghost use Rattle.cs_types.specs.declared.Value.{Value as Cell};
+ghost use Rattle.cs_types.specs.Rows.{cell_at};
+ghost use Rattle.cs_types.specs.Text.{loose_of};
+ghost use Rattle.cs_model.specs.Cells.{loose_in};
+ghost use Rattle.column_segment.specs.Bodies.{code_in, IsKnown};
+ghost use Rattle.batch_kernels.specs.Masks.{in_span, IsNarrowed};
+ghost use Rattle.batch_filter.specs.Codes.{AreCodes, Answers, Judges, takes};
+ghost use Rattle.batch_filter.specs.Named.{named};
+ghost use Rattle.batch_filter.specs.Sieves as spec;
+ghost use Rattle.cs_model.specs.Truths as model;
+ghost use Rattle.std.specs.Bool.{OnTrue, OnFalse};
+ghost use Rattle.batch_filter.specs.Sieves.{asks};
+
+use crate::choice::Choice;
+use crate::cut::Codes;
+use crate::named::lone_column;
+use batch_kernels::{Span, chosen};
+use column_segment::Segment;
+use cs_base::{Items, Memory};
+use cs_model::{Operand, Pred, Truth};
+use cs_predicate::truth;
+use cs_types::{Row, Schema, Value};
+use row_group::Packed;
+use std::alloc::Global;
+
+/// Whether a truth is the one that is asked for: True, or False.
+pub fn is_asked(holds: bool, found: Truth) -> bool
+    ensures { result ≡ spec.is_asked holds found }
+{
+    if holds {
+        found == Truth::True
+    } else {
+        found == Truth::False
+    }
+}
+
+/// A row whose cell in a column is this one, and whose other cells are NULL.
+fn row_with(alloc: Global, column: usize, cell: Value) -> Result<Row, Memory>
+    ensures { IfOk result (λ row. cell_at row column ≡ cell) }
+{
+    let mut row = Row::new(alloc);
+    for _before in 0..column {
+        row.push(Value::Null)?;
+    }
+    row.push(cell)?;
+    Ok(row)
+}
+
+/// The codes that a comparison, BETWEEN or IS NULL takes as a range. None for the other forms.
+fn span_of(
+    pred: &Pred,
+    column: usize,
+    holds: bool,
+    codes: Codes,
+    segment: &Segment,
+    schema: &Schema,
+) -> Option<Span>
+    requires codes { AreCodes segment.now.body codes.first codes.last }
+    requires kind { (value : Cell) → loose_in (slice_get schema.now.columns column) value ≡ loose_of codes.kind value }
+    requires lone { list_all (λ i. i == column) (named pred.now) ≡ true }
+    ensures { IfSome result (λ span. Judges schema.now pred.now holds column segment.now.body codes.last (in_span span)) }
+{
+    match pred {
+        Pred::Compare { left, sign, right } => match (left, right) {
+            (Operand::Column(_), Operand::Constant(constant)) => {
+                Some(codes.compared(segment, *sign, constant, holds))
+            }
+            (Operand::Constant(constant), Operand::Column(_)) => {
+                Some(codes.compared_left(segment, constant, *sign, holds))
+            }
+            _ => None,
+        },
+        Pred::Between {
+            negated,
+            low,
+            high,
+            ..
+        } => codes.between(segment, *negated, low, high, holds),
+        Pred::IsNull { negated, .. } => Some(codes.nulls(segment, *negated, holds)),
+        _ => None,
+    }
+}
+
+/// Whether the predicate has the truth that is asked for where the cell in its column is this one.
+fn judged(
+    alloc: Global,
+    pred: &Pred,
+    column: usize,
+    holds: bool,
+    cell: Value,
+    schema: &Schema,
+) -> Result<bool, Memory>
+    requires { list_all (λ i. i == column) (named pred.now) ≡ true }
+    ensures { IfOk result (λ judged. (row : List Cell) → cell_at row column ≡ cell → judged ≡ spec.is_asked holds (model.truth pred.now row schema.now)) }
+{
+    let row = row_with(alloc, column, cell)?;
+    Ok(is_asked(holds, truth(pred, &row, schema)))
+}
+
+/// A bool for each code: whether the predicate has the truth that is asked for where the column's cell is the code's.
+fn table_of(
+    alloc: Global,
+    pred: &Pred,
+    column: usize,
+    holds: bool,
+    last: u64,
+    segment: &Segment,
+    schema: &Schema,
+) -> Result<Items<bool>, Memory>
+    requires room { last + 1 < 2 ^ 64 }
+    requires known { (code : ℕ) → code ≤ last → IsKnown segment.now.body code }
+    requires lone { list_all (λ i. i == column) (named pred.now) ≡ true }
+    ensures length { IfOk result (λ table. length table ≡ last + 1) }
+    ensures judges { IfOk result (λ table. Judges schema.now pred.now holds column segment.now.body last (λ code. slice_index_or table code false)) }
+{
+    let mut table = Items::new(alloc);
+    for code in 0..last + 1 {
+        let cell = segment.cell_of(code).to_value(alloc)?;
+        table.push(judged(alloc, pred, column, holds, cell, schema)?)?;
+    }
+    Ok(table)
+}
+
+/// The codes of a column that a predicate takes which names no other one: a range, or a table where there are at most `most`
+/// codes. None where it is neither.
+fn choice_of(
+    alloc: Global,
+    pred: &Pred,
+    column: usize,
+    holds: bool,
+    codes: Codes,
+    most: u64,
+    segment: &Segment,
+    schema: &Schema,
+) -> Result<Option<Choice>, Memory>
+    requires codes { AreCodes segment.now.body codes.first codes.last }
+    requires most { (i : ℕ) → i < segment.now.length → code_in segment.now.body i ≤ codes.last }
+    requires kind { (value : Cell) → loose_in (slice_get schema.now.columns column) value ≡ loose_of codes.kind value }
+    requires lone { list_all (λ i. i == column) (named pred.now) ≡ true }
+    ensures answers { IfOk result (λ found. IfSome found (λ choice. Answers choice segment.now.body segment.now.length)) }
+    ensures judges { IfOk result (λ found. IfSome found (λ choice. Judges schema.now pred.now holds column segment.now.body codes.last (takes choice))) }
+{
+    if let Some(span) = span_of(pred, column, holds, codes, segment, schema) {
+        return Ok(Some(Choice::Span(span)));
+    }
+    if codes.last >= most {
+        return Ok(None);
+    }
+    let table = table_of(alloc, pred, column, holds, codes.last, segment, schema)?;
+    Ok(Some(Choice::Table(table)))
+}
+
+/// Keeps of the mask's places those where a predicate has the truth that is asked for which names this column alone. Where
+/// false comes, nothing has changed: neither is it a range of codes, nor are there fewer codes than places to judge.
+fn narrow_column(
+    alloc: Global,
+    pred: &Pred,
+    column: usize,
+    holds: bool,
+    packed: &Packed,
+    schema: &Schema,
+    mask: &mut [bool],
+) -> Result<bool, Memory>
+    requires same { length mask.old ≡ length packed.now.rows }
+    requires there { column < packed.now.width }
+    requires lone { list_all (λ i. i == column) (named pred.now) ≡ true }
+    ensures done { IfOk result (λ done. OnTrue done (IsNarrowed (asks schema.now packed.now holds pred.now) mask.old mask.new)) }
+    ensures not_done { IfOk result (λ done. OnFalse done (mask.new ≡ mask.old)) }
+{
+    let segment = packed.segment(column);
+    let Some(found) = schema.columns.get(column) else {
+        return Ok(false);
+    };
+    if mask.is_empty() {
+        return Ok(false);
+    }
+    let codes = Codes::of(found.kind, segment);
+    let most = chosen(mask, mask.len());
+    match choice_of(alloc, pred, column, holds, codes, most, segment, schema)? {
+        Some(choice) => {
+            choice.narrow(segment, mask);
+            Ok(true)
+        }
+        None => Ok(false),
+    }
+}
+
+/// The same of the column beside which the predicate names none, where there is one.
+pub fn narrow_by_codes(
+    alloc: Global,
+    pred: &Pred,
+    holds: bool,
+    packed: &Packed,
+    schema: &Schema,
+    mask: &mut [bool],
+) -> Result<bool, Memory>
+    requires { length mask.old ≡ length packed.now.rows }
+    ensures done { IfOk result (λ done. OnTrue done (IsNarrowed (asks schema.now packed.now holds pred.now) mask.old mask.new)) }
+    ensures not_done { IfOk result (λ done. OnFalse done (mask.new ≡ mask.old)) }
+{
+    match lone_column(packed.width(), pred) {
+        Some(column) => narrow_column(alloc, pred, column, holds, packed, schema, mask),
+        None => Ok(false),
+    }
+}
