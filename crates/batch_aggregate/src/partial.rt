@@ -55,6 +55,13 @@ impl<'a> Partial<'a> {
         })
     }
 
+    /// The query.
+    pub fn query(&self) -> &'a Query
+        ensures { result.now ≡ self.now.query.now }
+    {
+        self.query
+    }
+
     /// Adds a row. After `Memory` what it stands for is not known.
     pub fn add(&mut self, row: &Row) -> Result<(), Memory>
         ensures schema { self.new.schema.now ≡ self.old.schema.now }

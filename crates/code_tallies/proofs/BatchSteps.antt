@@ -1,0 +1,101 @@
+-- What is kept of the batches so far, with one batch more.
+use Rattle.std.proofs.Common.{◌≡◌, ℕ, zero, suc, ◌+◌, ◌-◌, ◌*◌, ◌/◌, ◌%◌, ◌<◌, ◌≤◌, List, [], ◌∷◌, ◌++◌, Bool, false, ◌&&◌, length, min, inl, inr, refl, take, sym, ◌∙◌, ap, arith, fold}
+use Rattle.std.specs.Prelude.{◌==◌, slice_index, slice_index_or}
+use Rattle.std.specs.List.{AllZip}
+use Rattle.std.proofs.lemmas.Bool.{cases_lt}
+use Rattle.std.proofs.lemmas.List.{get_or_append_left, get_or_push}
+use Rattle.batch_kernels.specs.Places.{places_with}
+use Rattle.code_tallies.specs.declared.chosen.Chosen.{Chosen}
+use Rattle.code_tallies.specs.declared.chosen.Batch.{Batch}
+use Rattle.code_tallies.specs.declared.column.Column.{Column}
+use Rattle.code_tallies.specs.Keys.{key_at, HasKeys}
+use Rattle.code_tallies.specs.Tables.{chosen_in, positions, present_in, IsBatch}
+use Rattle.code_tallies.proofs.Batches.{fold-batch, count-batch, place-same}
+
+-- how many rows the batches so far have
+abbrev pub reached : Chosen → ℕ → ℕ
+reached chosen number = min (1024 * number) chosen.length
+
+-- a batch of masks and keys alone
+module _ (length_of number : ℕ) (count : ℕ) (here : 1024 * number < length_of) (counted : count ≡ min 1024 (length_of - 1024 * number)) where
+  pub reached-first : min (1024 * number) length_of ≡ 1024 * number
+  reached-first = omega (arith, here)
+
+  pub reached-next : min (1024 * (number + 1)) length_of ≡ 1024 * number + count
+  reached-next = omega (arith, here, counted)
+
+  pub fold-next : {A : Type 0} (P : ℕ → Bool) (key : ℕ → ℕ) (mask : List Bool) (keys : List ℕ) (k : ℕ) →
+      ((i : ℕ) → i < count → slice_index_or mask i false ≡ P (1024 * number + i)) → ((i : ℕ) → i < count → slice_index keys i ≡ key (1024 * number + i)) →
+      (step g : A → ℕ → A) (a old : A) → ((i : ℕ) (b : A) → i < count → g b i ≡ step b (1024 * number + i)) →
+      old ≡ fold step a (positions P key k (min (1024 * number) length_of)) → fold g old (places_with mask keys k count) ≡ fold step a (positions P key k (min (1024 * (number + 1)) length_of))
+  fold-next P key mask keys k masks same step g a old steps before =
+      ap (λ o. fold g o (places_with mask keys k count)) (before ∙ ap (λ m. fold step a (positions P key k m)) reached-first)
+      ∙ sym (fold-batch (λ i. P i && key i == k) (λ i. slice_index_or mask i false && slice_index keys i == k) step g a (1024 * number) count
+      (λ i below. place-same (slice_index_or mask i false) (P (1024 * number + i)) (slice_index keys i) (key (1024 * number + i)) k (masks i below) (same i below)) steps)
+      ∙ ap (λ m. fold step a (positions P key k m)) (sym reached-next)
+
+  pub count-next : (P : ℕ → Bool) (key : ℕ → ℕ) (mask : List Bool) (keys : List ℕ) (k old : ℕ) →
+      ((i : ℕ) → i < count → slice_index_or mask i false ≡ P (1024 * number + i)) → ((i : ℕ) → i < count → slice_index keys i ≡ key (1024 * number + i)) →
+      old ≡ length (positions P key k (min (1024 * number) length_of)) → old + length (places_with mask keys k count) ≡ length (positions P key k (min (1024 * (number + 1)) length_of))
+  count-next P key mask keys k old masks same before =
+      ap (λ o. o + length (places_with mask keys k count)) (before ∙ ap (λ m. length (positions P key k m)) reached-first)
+      ∙ sym (count-batch (λ i. P i && key i == k) (λ i. slice_index_or mask i false && slice_index keys i == k) (1024 * number) count
+      (λ i below. place-same (slice_index_or mask i false) (P (1024 * number + i)) (slice_index keys i) (key (1024 * number + i)) k (masks i below) (same i below)))
+      ∙ ap (λ m. length (positions P key k m)) (sym reached-next)
+
+-- after all batches
+pub reached-all : (length_of number : ℕ) → length_of ≤ 1024 * number → min (1024 * number) length_of ≡ length_of
+reached-all length_of number enough = omega (arith, enough)
+
+-- columns that have keys for some positions have them for fewer
+pub keys-fewer : (m n : ℕ) (columns : List Column) → n ≤ m → HasKeys m columns → HasKeys n columns
+keys-fewer m n [] fewer has = tt
+keys-fewer m n (c ∷ cs) fewer has = (omega (arith, fewer, has.0), has.1, (λ i below. has.2 i (omega (arith, fewer, below))), has.3, keys-fewer m n cs fewer has.4)
+
+-- masks so far, with one more
+pub chosen-push : (masks : List (List Bool)) (mask : List Bool) (number n : ℕ) (f : ℕ → Bool) → length masks ≡ number →
+    ((i : ℕ) → i < 1024 * number → i < n → chosen_in masks i ≡ f i) →
+    ((j : ℕ) → j < 1024 → 1024 * number + j < n → slice_index_or mask j false ≡ f (1024 * number + j)) →
+    (i : ℕ) → i < 1024 * (number + 1) → i < n → chosen_in (masks ++ mask ∷ []) i ≡ f i
+chosen-push masks mask number n f long before here i below within = elim (cases_lt i (1024 * number)) [
+  | inl less ↦
+      let there : i / 1024 < length masks = omega (arith, less, long) in
+      ap (λ m. slice_index_or m (i % 1024) false) (get_or_append_left masks (mask ∷ []) [] (i / 1024) there) ∙ before i less within
+  | inr more ↦
+      let there : length masks ≡ i / 1024 = omega (arith, below, more, long) in
+      let place : 1024 * number + i % 1024 ≡ i = omega (arith, below, more) in
+      ap (λ m. slice_index_or m (i % 1024) false) (get_or_push masks mask [] (i / 1024) there)
+      ∙ here (i % 1024) (omega arith) (omega (arith, place, within))
+      ∙ ap f place
+]
+
+-- a batch read from its masks
+pub chosen-here : (masks : List (List Bool)) (number j : ℕ) → j < 1024 → chosen_in masks (1024 * number + j) ≡ slice_index_or (slice_index_or masks number []) j false
+chosen-here masks number j below =
+    let first : (1024 * number + j) / 1024 ≡ number = omega (arith, below) in
+    let second : (1024 * number + j) % 1024 ≡ j = omega (arith, below) in
+    ap (λ m. slice_index_or (slice_index_or masks m []) ((1024 * number + j) % 1024) false) first ∙ ap (λ m. slice_index_or (slice_index_or masks number []) m false) second
+
+-- what a batch has of the masks and of the key numbers
+pub batch-masks : (chosen : Chosen) (column : Column) (number : ℕ) (batch : Batch) → IsBatch chosen column number batch →
+    (i : ℕ) → i < batch.count → slice_index_or batch.mask i false ≡ present_in column (chosen_in chosen.masks.items) (1024 * number + i)
+batch-masks chosen column number batch is i below =
+    is.mask i below ∙ ap (λ m. present_in column (chosen_in chosen.masks.items) (m + i)) is.from
+
+pub batch-keys : (chosen : Chosen) (column : Column) (number : ℕ) (batch : Batch) → IsBatch chosen column number batch →
+    (i : ℕ) → i < batch.count → slice_index batch.keys i ≡ key_at chosen.keys.items (1024 * number + i)
+batch-keys chosen column number batch is i below = is.keys i below ∙ ap (λ m. key_at chosen.keys.items (m + i)) is.from
+
+-- a vector whose elements are written whole
+pub written : {X : Type 0} (xs ys : List X) (n : ℕ) → length xs ≡ n → take n (xs ++ ys) ≡ xs
+written [] ys zero e = refl
+written [] ys (suc n) e = absurd (omega (arith, e))
+written (x ∷ xs) ys zero e = absurd (omega (arith, e))
+written (x ∷ xs) ys (suc n) e = ap (λ l. x ∷ l) (written xs ys n (omega (arith, e)))
+
+-- one pair more
+pub zip-push : {A B : Type 0} (R : A → B → Type 0) (xs : List A) (ys : List B) (x : A) (y : B) → AllZip R xs ys → R x y → AllZip R (xs ++ x ∷ []) (ys ++ y ∷ [])
+zip-push R [] [] x y all here = (here, tt)
+zip-push R [] (v ∷ ys) x y all here = absurd all
+zip-push R (u ∷ xs) [] x y all here = absurd all
+zip-push R (u ∷ xs) (v ∷ ys) x y all here = (all.0, zip-push R xs ys x y all.1 here)

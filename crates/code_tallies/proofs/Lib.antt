@@ -1,0 +1,12 @@
+pub mod Batches
+pub mod Present
+pub mod Picked
+pub mod KeyNumbers
+pub mod Buckets
+pub mod Adding
+pub mod BatchSteps
+pub mod First
+pub mod Tallying
+pub mod Counted
+pub mod Whole
+pub mod Choices

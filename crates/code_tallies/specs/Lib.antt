@@ -1,0 +1,5 @@
+pub mod Shown
+pub mod Columns
+pub mod Keys
+pub mod Tables
+pub mod Scans

@@ -1,0 +1,90 @@
+-- What is kept of the chosen rows of a group, an entry for each key number.
+use Rattle.std.specs.Prelude.{◌≡◌, ◌<◌, ◌≤◌, ℕ, ◌+◌, ◌-◌, ◌*◌, ◌/◌, ◌%◌, ◌==◌, min, max, ℤ, pos, ◌+ℤ◌, Bool, false, ◌&&◌, nat_le, nat_lt, List, [], length, filter, fold, slice_index, slice_index_or, vec_len}
+use Rattle.std.specs.List.{range_with_len, AllZip}
+use Rattle.cs_types.specs.Rows.{number_in}
+use Rattle.column_segment.specs.Bodies.{IsKnown}
+use Rattle.cs_model.specs.declared.plan.Item.{Item}
+use Rattle.row_group.specs.Groups.{Group}
+use Rattle.batch_aggregate.specs.Tallies.{tally_of}
+use Rattle.batch_aggregate.specs.declared.tally.Tally.{Tally}
+use Rattle.batch_aggregate.specs.declared.tally.Tally.TheVariants as tally
+use Rattle.code_tallies.specs.declared.column.Column.{Column}
+use Rattle.code_tallies.specs.declared.table.Table.{Table}
+use Rattle.code_tallies.specs.declared.table.Table.TheVariants.{Nothing, Rows, Counts, Sums, Least, Greatest}
+use Rattle.code_tallies.specs.declared.chosen.Chosen.{Chosen}
+use Rattle.code_tallies.specs.declared.chosen.Batch.{Batch}
+use Rattle.code_tallies.specs.Keys.{key_at}
+use Rattle.code_tallies.specs.Columns.{code_at, cell_there, shown_code}
+use Rattle.code_tallies.specs.Shown.{rows_at}
+
+-- whether masks, of 1,024 places each, choose a position
+abbrev pub chosen_in : List (List Bool) → ℕ → Bool
+chosen_in masks i = slice_index_or (slice_index_or masks (i / 1024) []) (i % 1024) false
+
+-- the positions below n that are chosen and have a key number
+abbrev pub positions : (ℕ → Bool) → (ℕ → ℕ) → ℕ → ℕ → List ℕ
+positions chosen key k n = filter (λ i. chosen i && key i == k) (range_with_len 0 n)
+
+-- whether a position is chosen and the column's cell there is not NULL
+abbrev pub present_in : Column → (ℕ → Bool) → ℕ → Bool
+present_in column chosen i = chosen i && nat_le column.first (code_at column i)
+
+-- the sum of the numbers at positions, the least and the greatest of the codes there
+abbrev pub sum_at : Column → List ℕ → ℤ
+sum_at column at = fold (λ sum i. sum +ℤ number_in (cell_there column i)) (pos 0) at
+
+abbrev pub least_at : Column → List ℕ → ℕ
+least_at column at = fold (λ least i. min least (code_at column i)) column.last at
+
+abbrev pub greatest_at : Column → List ℕ → ℕ
+greatest_at column at = fold (λ greatest i. max greatest (code_at column i)) 0 at
+
+-- the tally that a table keeps for a key number, which so many rows have
+abbrev pub tally_in : ℕ → Table → ℕ → Tally
+tally_in rows Nothing k = tally.Nothing
+tally_in rows Rows k = tally.Count rows
+tally_in rows (Counts counts) k = tally.Count (slice_index counts.items k)
+tally_in rows (Sums sums) k = tally.Sum (slice_index sums.counts.items k, slice_index_or sums.sums.items k (pos 0))
+tally_in rows (Least codes) k = tally.Least (shown_code codes.column (slice_index codes.counts.items k) (slice_index codes.codes.items k))
+tally_in rows (Greatest codes) k = tally.Greatest (shown_code codes.column (slice_index codes.counts.items k) (slice_index codes.codes.items k))
+
+-- a table has an entry for a key number, and its column knows all codes up to `last`
+abbrev pub HasEntry : ℕ → Table → Type 0
+HasEntry k Nothing = Unit {0}
+HasEntry k Rows = Unit {0}
+HasEntry k (Counts counts) = k < vec_len counts
+HasEntry k (Sums sums) = k < vec_len sums.counts
+HasEntry k (Least codes) = (k < vec_len codes.counts) × ((code : ℕ) → code ≤ codes.column.last → IsKnown codes.column.segment.now.body code)
+HasEntry k (Greatest codes) = (k < vec_len codes.counts) × ((code : ℕ) → code ≤ codes.column.last → IsKnown codes.column.segment.now.body code)
+
+-- a batch has the rows of its number: their key numbers, the codes of the column, and whether they are present in it
+pub record IsBatch (chosen : Chosen) (column : Column) (number : ℕ) (batch : Batch) : Type 0 where
+  pub from : batch.from ≡ 1024 * number
+  pub count : batch.count ≡ min 1024 (chosen.length - 1024 * number)
+  pub keys : (i : ℕ) → i < batch.count → slice_index batch.keys i ≡ key_at chosen.keys.items (batch.from + i)
+  pub below : (i : ℕ) → i < batch.count → slice_index batch.keys i < chosen.size
+  pub codes : (i : ℕ) → i < batch.count → slice_index batch.codes i ≡ code_at column (batch.from + i)
+  pub mask : (i : ℕ) → i < batch.count → slice_index_or batch.mask i false ≡ present_in column (chosen_in chosen.masks.items) (batch.from + i)
+
+-- the positions that are present in a column and have a key number
+abbrev pub present_positions : Chosen → Column → ℕ → ℕ → List ℕ
+present_positions chosen column k n = positions (present_in column (chosen_in chosen.masks.items)) (key_at chosen.keys.items) k n
+
+-- the positions that are chosen and have a key number
+abbrev pub key_positions : Chosen → ℕ → List ℕ
+key_positions chosen k = positions (chosen_in chosen.masks.items) (key_at chosen.keys.items) k chosen.length
+
+-- the positions that are chosen and have a key number below k
+abbrev pub positions_below : (ℕ → Bool) → (ℕ → ℕ) → ℕ → ℕ → List ℕ
+positions_below chosen key k n = filter (λ i. chosen i && nat_lt (key i) k) (range_with_len 0 n)
+
+abbrev pub keys_below : Chosen → ℕ → List ℕ
+keys_below chosen k = positions_below (chosen_in chosen.masks.items) (key_at chosen.keys.items) k chosen.length
+
+-- a table keeps an item: its tally of each key number is that of the rows with this key number
+pub record IsTableOf (group : Group) (chosen : Chosen) (item : Item) (table : Table) : Type 0 where
+  pub long : (k : ℕ) → k < chosen.size → HasEntry k table
+  pub tallies : (k : ℕ) → k < chosen.size → tally_in (length (key_positions chosen k)) table k ≡ tally_of (rows_at group (key_positions chosen k)) item
+
+abbrev pub AreTablesOf : Group → Chosen → List Item → List Table → Type 0
+AreTablesOf group chosen items tables = AllZip (IsTableOf group chosen) items tables

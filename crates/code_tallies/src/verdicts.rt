@@ -1,0 +1,39 @@
+// What a filter says of the rows of a group.
+ghost use Rattle.std.specs.Prelude.{◌≡◌, ℕ, ◌+◌, ◌<◌, ◌≤◌, ◌&&◌, nat_lt, Bool, false, true, slice_index_or};
+
+use batch_filter::Sieve;
+
+/// Which rows of a group a filter keeps.
+pub trait Verdicts {
+    /// Whether it keeps the row at a position.
+    ghost kept: { Self → ℕ → Bool };
+
+    /// Puts whether it keeps the row at `from + i` into place i of a mask, for each i below `count`, and false into the other
+    /// places.
+    fn keep(&self, from: usize, count: usize, mask: &mut [bool; 1024])
+        requires { count ≤ 1024 }
+        ensures { (i : ℕ) → i < 1024 → slice_index_or mask.new i false ≡ (nat_lt i count && kept self.now (from + i)) };
+}
+
+/// The verdicts of no filter: every row is kept.
+#[derive(Debug, Clone, Copy, PartialEq, Eq)]
+pub struct EveryRow;
+
+impl Verdicts for EveryRow {
+    ghost kept = { λ _ _. true };
+
+    fn keep(&self, _from: usize, count: usize, mask: &mut [bool; 1024]) {
+        for i in 0..1024 {
+            mask[i] = i < count;
+        }
+    }
+}
+
+/// The verdicts of a filter that was judged for a whole group: the rows on which it is True are kept.
+impl Verdicts for Sieve {
+    ghost kept = { λ sieve i. slice_index_or sieve i false };
+
+    fn keep(&self, from: usize, count: usize, mask: &mut [bool; 1024]) {
+        Sieve::keep(self, from, count, mask);
+    }
+}
