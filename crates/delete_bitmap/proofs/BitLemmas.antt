@@ -1,11 +1,11 @@
 -- Bits that are read from words, and what a write to a word does to them.
-use Rattle.std.proofs.Common.{◌≡◌, ◌≢◌, ℕ, zero, suc, ◌+◌, ◌-◌, ◌*◌, ◌/◌, ◌%◌, ◌^◌, ◌<◌, ◌≤◌, inl, inr, Bool, true, false, eqb, max, List, [], length, get_or, replicate, set, refl, sym, ap, ◌∙◌, arith}
+use Rattle.std.proofs.Common.{◌≡◌, ◌≢◌, ℕ, zero, suc, ◌+◌, ◌-◌, ◌*◌, ◌/◌, ◌%◌, ◌^◌, ◌<◌, ◌≤◌, inl, inr, Bool, true, false, not, eqb, max, map, List, [], length, get_or, replicate, set, refl, sym, ap, ◌∙◌, arith}
 use Rattle.std.specs.Int.{bit_at, bit_not, w64}
 use Rattle.std.specs.Prelude.{◌||◌, bit_and, bit_or}
 use Rattle.std.proofs.lemmas.Bool.{cases_eq, cases_lt}
-use Rattle.std.proofs.lemmas.List.{length-replicate, get_or-replicate, get_or_past, length-set, get_or-set_same, get_or-set_other, set-get_or}
+use Rattle.std.proofs.lemmas.List.{length-map, length-replicate, get_or-map, get_or-replicate, get_or_past, length-set, get_or-set_same, get_or-set_other, set-get_or}
 use Rattle.std.proofs.lemmas.List.FromFn.{fill_by_all, length-map-range_with_len, get_or-map-range_with_len}
-use Rattle.std.proofs.lemmas.Nat.Bits.{bit_at-lt, bit_at-zero, bit_at_ones, bit_at_clear_same, bit_at_clear_other, bit_at_or, bit_at_set_same, bit_at_set_other}
+use Rattle.std.proofs.lemmas.Nat.Bits.{bit_at-lt, bit_at-zero, bit_at_not, bit_at_ones, bit_at_clear_same, bit_at_clear_other, bit_at_or, bit_at_set_same, bit_at_set_other}
 use Rattle.delete_bitmap.specs.Bits.{bit_in, bits_in}
 
 -- the bit of a word
@@ -166,3 +166,21 @@ joined_none n bits others is p =
       | inl below ↦ get_or-bits_in n [] p below ∙ bit_in-past [] p (omega arith)
       | inr past ↦ get_or_past (bits_in n []) p false (omega (arith, length-bits_in n []))
     ]
+
+turned_bit : (x : ℕ) → x < 2 → eqb (1 - x) 1 ≡ not (eqb x 1)
+turned_bit zero _ = refl
+turned_bit (suc zero) _ = refl
+turned_bit (suc (suc x)) less = absurd (omega arith)
+
+-- a bit of a word that is turned round
+pub bit_in-turned : (new old : List ℕ) (k : ℕ) → get_or new (k / 64) 0 ≡ bit_not w64 (get_or old (k / 64) 0) → get_or old (k / 64) 0 < 2 ^ 64 → bit_in new k ≡ not (bit_in old k)
+bit_in-turned new old k turned small =
+    ap (λ word. is_one word (k % 64)) turned
+    ∙ ap (λ bit. eqb bit 1) (bit_at_not w64 (get_or old (k / 64) 0) (k % 64) small (omega arith))
+    ∙ turned_bit (bit_at (get_or old (k / 64) 0) (k % 64)) (bit_at-lt (get_or old (k / 64) 0) (k % 64))
+
+-- where all bits are turned round, the set is the complement
+pub bits_in-turned : (n : ℕ) (new old : List ℕ) → ((k : ℕ) → k < n → bit_in new k ≡ not (bit_in old k)) → bits_in n new ≡ map not (bits_in n old)
+bits_in-turned n new old turned =
+    sym (fill_by_all (bit_in new) (map not (bits_in n old)) n false (length-map (bits_in n old) not ∙ length-bits_in n old)
+    (λ k below. get_or-map not (bits_in n old) k false false (omega (arith, length-bits_in n old, below)) ∙ ap not (get_or-bits_in n old k below) ∙ sym (turned k below)))

@@ -1,5 +1,5 @@
 // A set of positions, kept as bits in words.
-ghost use Rattle.std.specs.Prelude.{◌≡◌, ℕ, ◌+◌, ◌-◌, ◌<◌, ◌≤◌, ◌*◌, ◌/◌, ◌^◌, ◌⊎◌, ◌==◌, ◌&&◌, ◌||◌, length, nat_lt, replicate, slice_index, slice_index_or, slice_set, All, IfOk, OnOk, OnErr, true, false};
+ghost use Rattle.std.specs.Prelude.{◌≡◌, ℕ, ◌+◌, ◌-◌, ◌<◌, ◌≤◌, ◌*◌, ◌/◌, ◌^◌, ◌⊎◌, ◌==◌, ◌&&◌, ◌||◌, length, map, nat_lt, not, replicate, slice_index, slice_index_or, slice_set, All, IfOk, OnOk, OnErr, true, false};
 ghost use Rattle.std.specs.Int.{bit_at};
 ghost use Rattle.delete_bitmap.specs.Bits.{bit_in, bits_in, with_all, IsCovered};
 
@@ -118,6 +118,17 @@ impl Positions {
         Ok(())
     }
 
+    /// Takes out all positions that are in the set, and puts in all others below the length, word by word. After `Memory`
+    /// nothing has changed.
+    pub fn complement(&mut self) -> Result<(), Memory>
+        ensures ok { OnOk result (self.new ≡ map not self.old) }
+        ensures err { OnErr result (self.new ≡ self.old) }
+    {
+        cover(&mut self.words, self.length)?;
+        invert_each(&mut self.words);
+        Ok(())
+    }
+
     /// The same positions.
     pub fn copy(&self) -> Result<Positions, Memory>
         ensures { IfOk result (λ copied. copied ≡ self.now) }
@@ -192,6 +203,17 @@ fn set_each(words: &mut Vec<u64>, others: &[u64])
 {
     for i in 0..words.len().min(others.len()) {
         words[i] |= others[i];
+    }
+}
+
+/// Turns each bit round.
+fn invert_each(words: &mut Vec<u64>)
+    ensures bits { (k : ℕ) → k / 64 < length words.old.items → bit_in words.new.items k ≡ not (bit_in words.old.items k) }
+    ensures len { length words.new.items ≡ length words.old.items }
+{
+    for i in 0..words.len() {
+        let word = words[i];
+        words[i] = !word;
     }
 }
 

@@ -153,6 +153,33 @@ fn spotted(alloc: Global, length: usize) -> Result<Positions, Memory> {
     Ok(positions)
 }
 
+/// The complement of that set has exactly the other positions.
+fn check_complement(rt: &impl Abort, alloc: Global, length: usize) -> Result<(), Memory> {
+    let before = spotted(alloc, length)?;
+    let mut after = before.copy()?;
+    after.complement()?;
+    let mut none = Positions::none(alloc, length);
+    none.complement()?;
+    for position in [0, 3, 62, 63, 64, 127, 128, 1023, 1024, 1025] {
+        let below = position < length;
+        assert_eq!(rt;
+            after.contains(position),
+            below && !before.contains(position),
+            "{position} of {length}"
+        );
+        assert_eq!(rt; none.contains(position), below, "{position} of {length}");
+    }
+    Ok(())
+}
+
+#[test]
+fn sets_have_complements(rt: HostRuntime) -> Result<(), Fail> {
+    for length in [0, 1, 64, 65, 1024, 1025] {
+        check_complement(&rt, rt.alloc(), length)?;
+    }
+    Ok(())
+}
+
 /// A mask of that set has exactly its positions.
 fn check_mask(rt: &impl Abort, positions: &Positions, length: usize, from: usize, count: usize) {
     if count > 1024 {

@@ -1,4 +1,5 @@
 pub mod ChunkLemmas
+pub mod Cuts
 pub mod LinkLemmas
 pub mod Merges
 pub mod Pairs

@@ -1,7 +1,8 @@
 -- Places by key, as a list of pairs of key and place: the first pair of a key decides.
-use Rattle.std.specs.Prelude.{◌≡◌, ℕ, ℤ, pos, ◌<◌, ◌≤◌, ◌<ℤ◌, List, [], ◌∷◌, ◌++◌, length, if◌then◌else◌, slice_index_or, Some, None, Option}
+use Rattle.std.specs.Prelude.{◌≡◌, ℕ, ℤ, pos, ◌<◌, ◌≤◌, ◌<ℤ◌, ◌≤ℤ◌, ◌&&◌, Bool, List, [], ◌∷◌, ◌++◌, length, if◌then◌else◌, slice_index_or, Some, None, Option}
+use Rattle.std.specs.Ordering.{is_le}
 use Rattle.cs_types.specs.declared.Key.{Key}
-use Rattle.cs_types.specs.Keys.{same_key}
+use Rattle.cs_types.specs.Keys.{key_cmp, same_key}
 
 -- what contracts see of an index, and of a run of it: its pairs, and how many more find room without memory
 pub record Index : Type 0 where
@@ -47,3 +48,23 @@ SetsOnly old new key place = (q : Key) → place_in new q ≡ (if same_key key q
 -- every key has the place that it had
 abbrev pub HaveSamePlaces : List (Key × ℕ) → List (Key × ℕ) → Type 0
 HaveSamePlaces old new = (q : Key) → place_in new q ≡ place_in old q
+
+-- the key lies from the least to the greatest
+abbrev pub is_between : Key → Key → Key → Bool
+is_between least greatest key = is_le (key_cmp least key) && is_le (key_cmp key greatest)
+
+-- each key from the least to the greatest has its place, and no other key has one
+abbrev pub IsCut : List (Key × ℕ) → Key → Key → List (Key × ℕ) → Type 0
+IsCut pairs least greatest cut = (q : Key) → place_in cut q ≡ (if is_between least greatest q then place_in pairs q else None)
+
+-- the keys before place i are those below the key
+pub record IsStartOf (pairs : List (Key × ℕ)) (key : Key) (i : ℕ) : Type 0 where
+  pub in_range : i ≤ length pairs
+  pub below : (j : ℕ) → j < i → key_at pairs j <ℤ key.0
+  pub from : (j : ℕ) → i ≤ j → j < length pairs → key.0 ≤ℤ key_at pairs j
+
+-- the keys before place i are those not above the key
+pub record IsEndOf (pairs : List (Key × ℕ)) (key : Key) (i : ℕ) : Type 0 where
+  pub in_range : i ≤ length pairs
+  pub up_to : (j : ℕ) → j < i → key_at pairs j ≤ℤ key.0
+  pub above : (j : ℕ) → i ≤ j → j < length pairs → key.0 <ℤ key_at pairs j

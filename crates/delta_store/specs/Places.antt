@@ -1,11 +1,11 @@
 -- What a delta store keeps true of its index and its links: the last place of each key, and for each version the place of
 -- its key's version before.
-use Rattle.std.specs.Prelude.{◌≡◌, ℕ, ◌+◌, List, [], ◌∷◌, map, take, slice_get, count_by, ◌||◌, Option, Some, None, is_none, Bool, true, false}
+use Rattle.std.specs.Prelude.{◌≡◌, ℕ, ◌+◌, List, [], ◌∷◌, map, take, slice_get, count_by, ◌||◌, Option, Some, None, is_none, Bool, true, false, if◌then◌else◌}
 use Rattle.std.specs.Option.{option_map}
 use Rattle.cs_types.specs.declared.Key.{Key}
 use Rattle.delta_store.specs.declared.version.KeyedVersion.{KeyedVersion}
 use Rattle.delta_store.specs.declared.version.LinkedVersion.{LinkedVersion}
-use Rattle.delta_store.specs.Index.{place_in}
+use Rattle.delta_store.specs.Index.{place_in, is_between, AreInOrder}
 use Rattle.delta_store.specs.Versions.{is_of, is_live, is_ended}
 
 -- one place further, or the first place where the test says so
@@ -28,6 +28,11 @@ AreEndedButLast (v ∷ vs) = ((is_none (last_place vs v.key) || is_ended v) ≡ 
 pub record IsIndexed (versions : List KeyedVersion) (pairs : List (Key × ℕ)) : Type 0 where
   pub places : (key : Key) → place_in pairs key ≡ last_place versions key
   pub ended : AreEndedButLast versions
+
+-- the keys from the least to the greatest that have a version, in their order, each with the place of its last one
+pub record AreNewest (versions : List KeyedVersion) (least greatest : Key) (newest : List (Key × ℕ)) : Type 0 where
+  pub order : AreInOrder newest
+  pub places : (key : Key) → place_in newest key ≡ (if is_between least greatest key then last_place versions key else None)
 
 -- the versions without their links
 abbrev pub keyed_in : List LinkedVersion → List KeyedVersion

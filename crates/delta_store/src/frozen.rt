@@ -1,9 +1,11 @@
-ghost use Rattle.std.specs.Prelude.{◌≡◌, ◌<◌, ◌≤◌, ◌↔◌, [], length, slice_get, count_by, IsTrue, Some};
+ghost use Rattle.std.specs.Prelude.{◌≡◌, ◌<◌, ◌≤◌, ◌↔◌, [], length, slice_get, count_by, IsTrue, IfOk, Some};
 ghost use Rattle.delta_store.specs.Places.{keyed_in, IsStored};
 
 use crate::chunks::Chunks;
 use crate::index::KeyIndex;
+use cs_base::Memory;
 use cs_types::{Key, Version};
+use std::alloc::Global;
 use std::marker::Model;
 
 /// A delta store that takes no more rows. Contracts see its versions with their keys, in the order in which they came.
@@ -30,6 +32,7 @@ impl Model for Frozen {
 
 impl Frozen {
     ghost use Rattle.std.specs.Option.{option_map};
+    ghost use Rattle.delta_store.specs.Places.{AreNewest};
     ghost use Rattle.delta_store.specs.Versions.{is_ended, IsLastPlace, IsEarlier, AreByBegin, IsFirstAfter};
 
     /// The store of these versions with their index. It takes no memory.
@@ -86,6 +89,21 @@ impl Frozen {
         ensures { IsLastPlace self.now key result }
     {
         self.index.get(key)
+    }
+
+    /// The keys from `least` to `greatest` that have a version, in their order, each with the place of its last version. Ended
+    /// versions count too. It takes time for each of these keys and O(log n) beside, in each of O(log n) runs of keys. `Memory` comes
+    /// only where the keys find no room.
+    pub fn newest_between(
+        &self,
+        alloc: Global,
+        least: Key,
+        greatest: Key,
+    ) -> Result<Vec<(Key, usize)>, Memory>
+        ensures { IfOk result (λ newest. AreNewest self.now least greatest newest.items) }
+    {
+        let cut = self.index.between(alloc, least, greatest)?;
+        Ok(cut.into_pairs())
     }
 
     /// The place of the version before that at `i`, of the same key. None exactly where the version at `i` is the first of

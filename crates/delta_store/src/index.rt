@@ -37,7 +37,7 @@ impl Model for KeyIndex {
 }
 
 impl KeyIndex {
-    ghost use Rattle.delta_store.specs.Index.{place_in, SetsOnly, HaveSamePlaces};
+    ghost use Rattle.delta_store.specs.Index.{place_in, IsCut, SetsOnly, HaveSamePlaces};
 
     /// The index without keys. It takes no memory.
     pub fn new(alloc: Global) -> KeyIndex
@@ -69,6 +69,14 @@ impl KeyIndex {
             Some(place) => Some(place),
             None => runs::place_of(&self.runs, key),
         }
+    }
+
+    /// The places of the keys from `least` to `greatest`, each key once. The index is as before, and `Memory` comes only where the
+    /// pairs find no room.
+    pub fn between(&self, alloc: Global, least: Key, greatest: Key) -> Result<Run, Memory>
+        ensures { IfOk result (λ cut. IsCut self.now.pairs least greatest cut.pairs) }
+    {
+        runs::between(&self.runs, &self.own, least, greatest, alloc)
     }
 
     /// Gives a key a place. It takes no memory.

@@ -1,5 +1,5 @@
 // A sorted run of an index.
-ghost use Rattle.std.specs.Prelude.{◌≡◌, ◌+◌, ◌<◌, ◌≤◌, ◌++◌, [], length, vec_len, OnOk, IfOk, IfErr};
+ghost use Rattle.std.specs.Prelude.{◌^◌, ◌≡◌, ◌+◌, ◌<◌, ◌≤◌, ◌++◌, [], ℕ, List, length, vec_len, OnOk, IfOk, IfErr};
 ghost use Rattle.std.specs.Bool.{OnTrue};
 
 use crate::merge::merge;
@@ -27,7 +27,7 @@ impl Model for Run {
 }
 
 impl Run {
-    ghost use Rattle.delta_store.specs.Index.{place_in, IsAt, IsGapFor, SetsOnly, HaveSamePlaces};
+    ghost use Rattle.delta_store.specs.Index.{place_in, AreInOrder, IsAt, IsCut, IsEndOf, IsGapFor, IsStartOf, SetsOnly, HaveSamePlaces};
 
     /// The run without keys. It takes no memory.
     pub fn new(alloc: Global) -> Run
@@ -86,21 +86,84 @@ impl Run {
     pub fn merged(alloc: Global, newer: &Run, older: &Run) -> Result<Run, Memory>
         ensures { IfOk result (λ run. HaveSamePlaces (newer.now.pairs ++ older.now.pairs) run.pairs) }
     {
+        Run::of_both(alloc, &newer.pairs, &older.pairs)
+    }
+
+    /// The pairs of this run, which is a part of a newer index, with those of an older run of the keys from `least` to `greatest`.
+    pub fn with_older(
+        &self,
+        alloc: Global,
+        older: &Run,
+        least: Key,
+        greatest: Key,
+    ) -> Result<Run, Memory>
+        ensures { (newer : List (Key × ℕ)) → IsCut newer least greatest self.now.pairs → IfOk result (λ run. IsCut (newer ++ older.now.pairs) least greatest run.pairs) }
+    {
+        Run::of_both(alloc, &self.pairs, older.between(least, greatest))
+    }
+
+    /// The pairs in the order of their keys.
+    pub fn into_pairs(self) -> Vec<(Key, usize)>
+        ensures pairs { result.items ≡ self.pairs }
+        ensures order { AreInOrder result.items }
+    {
+        self.pairs
+    }
+
+    /// Pairs in one run. Of two pairs of one key the newer one is kept.
+    fn of_both(alloc: Global, newer: &[(Key, usize)], older: &[(Key, usize)]) -> Result<Run, Memory>
+        requires newer { AreInOrder newer.now }
+        requires older { AreInOrder older.now }
+        ensures { IfOk result (λ run. HaveSamePlaces (newer.now ++ older.now) run.pairs) }
+    {
         let Some(room) = newer.len().checked_add(older.len()) else {
             return Err(Memory);
         };
         let mut pairs = Vec::with_capacity(alloc, room)?;
-        merge(&mut pairs, &newer.pairs, &older.pairs);
+        merge(&mut pairs, newer, older);
         Ok(Run { pairs })
+    }
+
+    /// The pairs of the keys from `least` to `greatest`.
+    fn between(&self, least: Key, greatest: Key) -> &[(Key, usize)]
+        ensures order { AreInOrder result.now }
+        ensures places { IsCut self.now.pairs least greatest result.now }
+    {
+        let from = self.start_of(least);
+        let to = self.end_of(greatest).max(from);
+        &self.pairs[from..to]
+    }
+
+    /// The number of pairs whose keys are below this one.
+    fn start_of(&self, key: Key) -> usize
+        ensures { IsStartOf self.now.pairs key result }
+    {
+        match self.search(key) {
+            Ok(at) => at,
+            Err(at) => at,
+        }
+    }
+
+    /// The number of pairs whose keys are not above this one.
+    fn end_of(&self, key: Key) -> usize
+        ensures { IsEndOf self.now.pairs key result }
+    {
+        match self.search(key) {
+            Ok(at) => at + 1,
+            Err(at) => at,
+        }
     }
 
     /// Where the pair of a key is, or where it would go.
     fn search(&self, key: Key) -> Result<usize, usize>
         ensures found { IfOk result (IsAt self.now.pairs key) }
         ensures absent { IfErr result (IsGapFor self.now.pairs key) }
+        ensures order { AreInOrder self.now.pairs }
+        ensures small { length self.now.pairs < 2 ^ 64 }
     {
+        let len = self.pairs.len();
         if self.is_past(key) {
-            return Err(self.pairs.len());
+            return Err(len);
         }
         self.pairs.binary_search_by_key(&key, |&(k, _)| k)
     }

@@ -1,7 +1,7 @@
 // The runs of an index, the oldest first.
 ghost use Rattle.std.specs.Prelude.{◌≡◌, ◌+◌, ◌≤◌, ◌++◌, [], length, vec_len, IfOk, OnOk};
 ghost use Rattle.std.specs.Bool.{OnTrue};
-ghost use Rattle.delta_store.specs.Index.{place_in, HaveSamePlaces};
+ghost use Rattle.delta_store.specs.Index.{place_in, HaveSamePlaces, IsCut};
 ghost use Rattle.delta_store.specs.Runs.{pairs_of};
 
 use crate::run::Run;
@@ -23,6 +23,26 @@ pub fn place_of(runs: &[Arc<Run>], key: Key) -> Option<usize>
         }
     }
     None
+}
+
+/// The pairs of the keys from `least` to `greatest` in one run: those of an own run and of others, of which the newest one that has a
+/// key decides. Beside the pairs that it passes, once for each run that has the key, it looks at O(log n) in each run.
+pub fn between(
+    runs: &[Arc<Run>],
+    own: &Run,
+    least: Key,
+    greatest: Key,
+    alloc: Global,
+) -> Result<Run, Memory>
+    ensures { IfOk result (λ cut. IsCut (own.now.pairs ++ pairs_of runs.now) least greatest cut.pairs) }
+{
+    let mut cut = Run::new(alloc).with_older(alloc, own, least, greatest)?;
+    let mut older = runs.len();
+    while older > 0 {
+        older -= 1;
+        cut = cut.with_older(alloc, &runs[older], least, greatest)?;
+    }
+    Ok(cut)
 }
 
 /// Makes an own run the newest of the others, where it has a pair, and empty. No pair is copied. After `Memory` all is as

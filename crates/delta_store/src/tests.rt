@@ -237,3 +237,41 @@ fn keys_in_no_order(rt: HostRuntime) -> Result<(), Fail> {
     }
     Ok(())
 }
+
+/// That the keys from `least` to `greatest` have their last versions at these places.
+fn expect_newest(
+    rt: &impl Abort,
+    alloc: Global,
+    frozen: &Frozen,
+    (least, greatest): (i64, i64),
+    expected: &[(i64, usize)],
+) -> Result<(), Memory> {
+    let newest = frozen.newest_between(alloc, Key(least), Key(greatest))?;
+    assert!(rt; newest.len() == expected.len());
+    for (found, (key, place)) in newest.iter().zip(expected) {
+        assert!(rt; *found == (Key(*key), *place));
+    }
+    Ok(())
+}
+
+#[test]
+fn keys_between(rt: HostRuntime) -> Result<(), Fail> {
+    let alloc = rt.alloc();
+    let mut delta = Delta::new(alloc);
+    for (key, commit) in [(7, 1), (-3, 2), (7, 4), (9, 5), (-3, 6), (7, 7)] {
+        put(&mut delta, alloc, key, 0, commit)?;
+        let shared = delta.share()?;
+        expect_newest(&rt, alloc, &shared, (8, 6), &[])?;
+    }
+    delta.prepare_key(Key(9))?;
+    assert!(rt; delta.end_live(Key(9), 8));
+    put(&mut delta, alloc, 20, 0, 9)?;
+    let frozen = delta.freeze();
+    let all = [(-3, 4), (7, 5), (9, 3), (20, 6)];
+    expect_newest(&rt, alloc, &frozen, (i64::MIN, i64::MAX), &all)?;
+    expect_newest(&rt, alloc, &frozen, (-3, 20), &all)?;
+    expect_newest(&rt, alloc, &frozen, (-2, 9), &[(7, 5), (9, 3)])?;
+    expect_newest(&rt, alloc, &frozen, (7, 7), &[(7, 5)])?;
+    expect_newest(&rt, alloc, &frozen, (10, 19), &[])?;
+    expect_newest(&rt, alloc, &frozen, (9, 8), &[]).map_err(Fail::from)
+}

@@ -153,10 +153,18 @@ impl Packed {
     pub fn find(&self, key: Key) -> Places
         ensures { ArePlacesOf self.now key result.from result.to }
     {
+        self.find_near(self.places.len(), key)
+    }
+
+    /// The places of a key, as `find` gives them. Where the keys at all places before `near` come before this one it takes
+    /// steps that double from there, so a walk over keys in order begins each search where the one before ended.
+    pub fn find_near(&self, near: usize, key: Key) -> Places
+        ensures { ArePlacesOf self.now key result.from result.to }
+    {
         let end = self.places.len();
         match self.side_of(key) {
             Ordering::Less => Places { from: 0, to: 0 },
-            Ordering::Equal => self.searched(key),
+            Ordering::Equal => self.searched(near, key),
             Ordering::Greater => Places { from: end, to: end },
         }
     }
@@ -171,13 +179,36 @@ impl Packed {
         }
     }
 
-    /// The places of a key.
-    fn searched(&self, key: Key) -> Places
+    /// The places of a key, which may stand not far after `near`.
+    fn searched(&self, near: usize, key: Key) -> Places
         ensures { ArePlacesOf self.now key result.from result.to }
     {
-        let from = self.first_place(0, self.places.len(), key, false);
-        let to = self.place_past(from, key);
+        // Each position stands at one of them.
+        let _places = self.places();
+        let from = self.first_near(near, key);
+        let to = self.place_from(from, key, true);
         Places { from, to }
+    }
+
+    /// The first place of a key that does not come before this one, which may stand not far after `near`.
+    fn first_near(&self, near: usize, key: Key) -> usize
+        ensures { IsFirstPlace self.now key false result }
+    {
+        if self.is_start(near, key) {
+            return self.place_from(near, key, false);
+        }
+        self.first_place(0, self.places.len(), key, false)
+    }
+
+    /// Whether a place is not past the last, and the keys at all places before it come before this one.
+    fn is_start(&self, place: usize, key: Key) -> bool
+        ensures { OnTrue result (IsFirstBetween self.now key false place (length self.now.places)) }
+    {
+        let places = self.places().len();
+        if place == 0 || place >= places {
+            return place < places;
+        }
+        self.is_before(place - 1, key, false)
     }
 
     /// The first place, from one up to another, of a key that does not come before this one; where it may tie, of one
@@ -199,26 +230,27 @@ impl Packed {
         low
     }
 
-    /// The first place of a key that comes after this one, whose first place is `from`.
-    fn place_past(&self, from: usize, key: Key) -> usize
-        requires { IsFirstPlace self.now key false from }
-        ensures { IsFirstPlace self.now key true result }
+    /// The first place, at `from` or after it, of a key that does not come before this one; where it may tie, of one that
+    /// comes after it.
+    fn place_from(&self, from: usize, key: Key, tied: bool) -> usize
+        requires { IsFirstBetween self.now key tied from (length self.now.places) }
+        ensures { IsFirstPlace self.now key tied result }
     {
         let end = self.places().len();
         let mut low = from;
-        while !self.is_past(low + (low - from), key) {
+        while !self.is_past(low + (low - from), key, tied) {
             low += low - from + 1;
         }
         let high = end.min(low + (low - from));
-        self.first_place(low, high, key, true)
+        self.first_place(low, high, key, tied)
     }
 
-    /// Whether a place is past the last, or its key comes after this one.
-    fn is_past(&self, place: usize, key: Key) -> bool
-        ensures after { OnTrue result ((i : ℕ) → place ≤ i → i < length self.now.places → precedes true (key_cmp (key_at_place self.now i) key) ≡ false) }
-        ensures before { OnFalse result ((i : ℕ) → i ≤ place → (i < length self.now.places) × (precedes true (key_cmp (key_at_place self.now i) key) ≡ true)) }
+    /// Whether a place is past the last, or its key does not come before this one; where it may tie, comes after it.
+    fn is_past(&self, place: usize, key: Key, tied: bool) -> bool
+        ensures after { OnTrue result ((i : ℕ) → place ≤ i → i < length self.now.places → precedes tied (key_cmp (key_at_place self.now i) key) ≡ false) }
+        ensures before { OnFalse result ((i : ℕ) → i ≤ place → (i < length self.now.places) × (precedes tied (key_cmp (key_at_place self.now i) key) ≡ true)) }
     {
-        place >= self.places.len() || !self.is_before(place, key, true)
+        place >= self.places.len() || !self.is_before(place, key, tied)
     }
 
     /// Whether the key at a place comes before this one, or ties with it. Then so do those at all places up to it, and

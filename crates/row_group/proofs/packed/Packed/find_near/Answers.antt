@@ -3,7 +3,7 @@ use Rattle.row_group.specs.Orders.{IsOrderOf}
 use Rattle.cs_types.specs.Keys.{key_cmp}
 use Rattle.row_group.specs.Groups.{Group, keys_of, ArePlacesOf}
 use Rattle.row_group.proofs.GroupLemmas.{each_position, places_below, places_above}
-use Rattle.row_group.proofs.packed.Packed.find.Goals as goal
+use Rattle.row_group.proofs.packed.Packed.find_near.Goals as goal
 
 pub returns-in-Less : goal.returns-in-Less
 returns-in-Less c =

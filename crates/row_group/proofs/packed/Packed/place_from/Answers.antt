@@ -1,5 +1,5 @@
 use Rattle.std.proofs.Common.{◌+◌, ◌-◌, length, ap, arith}
-use Rattle.row_group.proofs.packed.Packed.place_past.Goals as goal
+use Rattle.row_group.proofs.packed.Packed.place_from.Goals as goal
 
 pub overflow_add-low : goal.overflow_add-low
 overflow_add-low c = omega (arith, c.loop-low.invariant.within, ap length c.places-end.ensures.value, c.places-end.type_inv.1)
