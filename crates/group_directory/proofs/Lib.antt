@@ -27,6 +27,7 @@ pub mod IdLemmas
 pub mod CommitLemmas
 pub mod CommitLaws
 pub mod CountLemmas
+pub mod SumLemmas
 pub mod ChangeLemmas
 pub mod WholeLemmas
 pub mod Mapped

@@ -1,5 +1,5 @@
--- The segment lines of a view's packed groups are those that its book shows.
-use Rattle.std.proofs.Common.{◌≡◌, ℕ, ◌<◌, List, [], ◌∷◌, map, filter, length, get_or, Option, None, Some, refl, sym, ap, subst, ◌∙◌, arith}
+-- The segment lines of a view's packed groups, and the counts of a scan of them, are those that its book shows.
+use Rattle.std.proofs.Common.{◌≡◌, ℕ, suc, ◌<◌, List, [], ◌∷◌, map, filter, length, get_or, cond, slice_get, Bool, true, false, not, Option, None, Some, refl, sym, ap, subst, ◌∙◌, arith}
 use Rattle.std.specs.Prelude.{unwrap_or}
 use Rattle.std.specs.List.{All, AllByRecursion, AllZip, flat_map, range_with_len}
 use Rattle.std.specs.List.Sorted.{IsPermutation}
@@ -10,12 +10,20 @@ use Rattle.std.proofs.lemmas.List.{get_or-map, length-map}
 use Rattle.std.proofs.lemmas.List.Elements.{recursion_from_All}
 use Rattle.std.proofs.lemmas.List.FromFn.{get_or-range_with_len, length-range_with_len, get_or-map-range_with_len}
 use Rattle.std.proofs.lemmas.List.Sorted.{IsPermutation-refl, All-permutation}
-use Rattle.std.proofs.lemmas.Option.{none-some, same_Some}
+use Rattle.std.proofs.lemmas.Option.{none-some, same_Some, slice_get_within}
+use Rattle.cs_types.specs.declared.Column.{Column}
+use Rattle.cs_types.specs.declared.Loose.{Loose}
+use Rattle.cs_types.specs.declared.Schema.{Schema}
 use Rattle.cs_types.specs.declared.Value.{Value}
 use Rattle.cs_types.specs.declared.Value.TheVariants.{Null}
 use Rattle.cs_types.specs.Rows.{cell_at}
 use Rattle.cs_types.specs.Values.{value_cmp}
+use Rattle.cs_model.specs.declared.pred.Pred.{Pred}
+use Rattle.cs_model.specs.declared.pred.Pred.TheFolds.{fold-Pred}
+use Rattle.cs_model.specs.Cells.{loose_in}
 use Rattle.cs_model.specs.Changes.{Change, last_change, made}
+use Rattle.cs_model.specs.Scans.{is_skipped, scan_counts}
+use Rattle.cs_model.specs.Skips.{loose_cells, skips_step}
 use Rattle.cs_model.specs.declared.report.SegmentLine.{SegmentLine}
 use Rattle.delete_bitmap.specs.declared.MarkedEnd.{MarkedEnd}
 use Rattle.row_group.specs.Orders.{by_rank}
@@ -24,6 +32,7 @@ use Rattle.row_group.proofs.ShownLemmas.{cell_at-get_or}
 use Rattle.group_book.specs.Book as book
 use Rattle.group_book.specs.Book.{is_compressed}
 use Rattle.group_book.proofs.Lists.{all-left, all-right}
+use Rattle.group_log.specs.Counted.{AreCounts}
 use Rattle.group_log.specs.Segments.{IsSegmentLine, AreGroupLines, AreSegmentLines, packed_row, AreRowsOf, ShowsSegments}
 use Rattle.group_view.specs.declared.groups.Group.{Group}
 use Rattle.group_view.specs.declared.groups.GroupContent.{GroupContent}
@@ -34,6 +43,7 @@ use Rattle.group_view.specs.Parts as part
 use Rattle.group_view.specs.Books.{versions_of, rowed_in_content, group_of, book_of}
 use Rattle.group_view.specs.Lists.{IsFittingContent, packed_in}
 use Rattle.group_view.specs.Laws.{IsRowOf}
+use Rattle.group_view.specs.Scanned.{counts_in}
 use Rattle.group_directory.specs.declared.directory.Directory.{Directory}
 use Rattle.group_directory.specs.Laws.{IsLookAt}
 use Rattle.group_directory.specs.Stands.{width_in, Stands}
@@ -160,7 +170,71 @@ module _ (width : ℕ) where
         step Invisible fit here rest = rest
         step (Tombstone total deleted) fit here rest = rest
 
--- ---- the law
+-- ---- counts
+
+module _ (schema : Schema) (condition : Option Pred) where
+  abbrev width_of : ℕ
+  width_of = length schema.columns
+
+  loose_kept : (row : PackedRow) (i : ℕ) (o : Option Column) → slice_get schema.columns i ≡ o → loose_in o (cell_at (filled width_of row).cells i) ≡ loose_in o (cell_at row.cells i)
+  loose_kept row i None is = refl
+  loose_kept row i (Some column) is = ap (loose_in (Some column)) (cell_kept width_of row i (slice_get_within schema.columns i column is))
+
+  column_loose : (i : ℕ) (rows : List PackedRow) → loose_cells schema (column_of (map (filled width_of) rows)) i ≡ loose_cells schema (column_of rows) i
+  column_loose i [] = refl
+  column_loose i (row ∷ rows) =
+      ap (λ (cell : Loose). cell ∷ loose_cells schema (column_of (map (filled width_of) rows)) i) (loose_kept row i (slice_get schema.columns i) refl)
+      ∙ ap (λ (cells : List Loose). loose_in (slice_get schema.columns i) (cell_at row.cells i) ∷ cells) (column_loose i rows)
+
+  skipped_kept : (o : Option Pred) (rows : List PackedRow) → is_skipped schema o (column_of (map (filled width_of) rows)) ≡ is_skipped schema o (column_of rows)
+  skipped_kept None rows = refl
+  skipped_kept (Some pred) rows =
+      let same : loose_cells schema (column_of (map (filled width_of) rows)) ≡ loose_cells schema (column_of rows) = λ k i. column_loose i rows k in
+      ap (λ (cells : ℕ → List Loose). fold-Pred Bool (skips_step cells) pred) same
+
+  abbrev columns : List (ℕ × List PackedRow) → List (ℕ → List Value)
+  columns groups = map (λ (group : ℕ × List PackedRow). column_of group.1) groups
+
+  abbrev counted : (Bool → Bool) → List (ℕ × List PackedRow) → ℕ
+  counted q groups = length (filter (λ cells. q (is_skipped schema condition cells)) (columns groups))
+
+  count_kept : (q : Bool → Bool) (groups : List (ℕ × List PackedRow)) → counted q (map (filled_rows width_of) groups) ≡ counted q groups
+  count_kept q [] = refl
+  count_kept q (group ∷ groups) =
+      let full = columns (map (filled_rows width_of) groups) in
+      ap (λ (t : Bool). length (cond (q t) (column_of (map (filled width_of) group.1) ∷ filter (λ cells. q (is_skipped schema condition cells)) full) (filter (λ cells. q (is_skipped schema condition cells)) full)))
+      (skipped_kept condition group.1)
+      ∙ at (q (is_skipped schema condition (column_of group.1))) (count_kept q groups)
+    where
+      at : (t : Bool) → counted q (map (filled_rows width_of) groups) ≡ counted q groups
+          → length (cond t (column_of (map (filled width_of) group.1) ∷ filter (λ cells. q (is_skipped schema condition cells)) (columns (map (filled_rows width_of) groups))) (filter (λ cells. q (is_skipped schema condition cells)) (columns (map (filled_rows width_of) groups))))
+          ≡ length (cond t (column_of group.1 ∷ filter (λ cells. q (is_skipped schema condition cells)) (columns groups)) (filter (λ cells. q (is_skipped schema condition cells)) (columns groups)))
+      at true rest = ap suc rest
+      at false rest = rest
+
+  counts_kept : (groups : List (ℕ × List PackedRow)) → scan_counts schema condition (columns (map (filled_rows width_of) groups)) ≡ scan_counts schema condition (columns groups)
+  counts_kept groups = λ k. (count_kept not groups k, count_kept (λ t. t) groups k)
+
+-- ---- the laws
+
+-- the rows of the book's COMPRESSED groups
+book_rows : (directory : Directory) (changes : List Change) → Stands directory changes
+    → AllZip (AreRowsOf (width_in directory) changes) (compressed (width_in directory) changes directory.list.groups.items) (map (filled_rows (width_in directory)) (rows_by_id (packed_in directory.list.groups.items)))
+book_rows directory changes j =
+    let groups = directory.list.groups.items in
+    of_book (width_in directory) changes groups (recursion_from_All (λ (group : Group). IsFittingContent group.content) groups j.held.fitting)
+    (subst (AllByRecursion (IsRowOf (width_in directory) changes)) (listed_whole groups) (recursion_from_All (IsRowOf (width_in directory) changes) _ j.rows))
+
+pub counts_shown : (directory : Directory) (view : GroupView) (changes : List Change) (condition : Option Pred) → Stands directory changes → IsLookAt directory view
+    → AreCounts directory.schema.value changes (book_of directory.list) condition (counts_in directory.schema.value view condition)
+counts_shown directory view changes condition j look =
+    let schema = directory.schema.value in
+    let groups = directory.list.groups.items in
+    record {
+      groups = map (filled_rows (width_in directory)) (rows_by_id (packed_in groups));
+      of_book = book_rows directory changes j;
+      counted = ap (λ entries. scan_counts schema condition (columns schema condition (rows_by_id entries))) look.packed ∙ sym (counts_kept schema condition (rows_by_id (packed_in groups)));
+    }
 
 pub segments_shown : (directory : Directory) (view : GroupView) (changes : List Change) (lines : List SegmentLine) → Stands directory changes → IsLookAt directory view
     → AreSegmentLines directory.schema.value (rows_by_id (packed_parts view.groups)) lines → ShowsSegments directory.schema.value changes (book_of directory.list) lines
@@ -170,7 +244,6 @@ segments_shown directory view changes lines j look are =
     let here = subst (λ entries. AreSegmentLines directory.schema.value (rows_by_id entries) lines) look.packed are in
     record {
       groups = map (filled_rows width) (rows_by_id (packed_in groups));
-      of_book = of_book width changes groups (recursion_from_All (λ (group : Group). IsFittingContent group.content) groups j.held.fitting)
-          (subst (AllByRecursion (IsRowOf width changes)) (listed_whole groups) (recursion_from_All (IsRowOf width changes) _ j.rows));
+      of_book = book_rows directory changes j;
       of_groups = record { parts = here.parts; of_groups = groups_kept width (rows_by_id (packed_in groups)) here.parts here.of_groups; joined = here.joined };
     }

@@ -25,6 +25,7 @@ mod looks;
 mod movers;
 mod obstacles;
 mod reports;
+mod rows;
 mod settles;
 mod share;
 mod standing;
@@ -40,7 +41,7 @@ pub use laws::{
 pub use ledger::Ledger;
 pub use lent::{claimed_groups_stay, lent_groups_stand};
 pub use movers::Claimed;
-pub use reports::looks_show_segments;
+pub use reports::{looks_count_segments, looks_show_segments};
 pub use standing::{
     books_follow, commit_keeps_standing, groups_keep_standing, new_stands,
     transactions_keep_standing,

@@ -1,7 +1,7 @@
 // What is read of a directory: views, the ledger, and what a statement reads; and a close, which no reader sees.
 ghost use Rattle.std.specs.Prelude.{◌≡◌, ◌≤◌, ℕ, List, length, map, IfOk, IsSome, OnOk, OnErr, Some};
 ghost use Rattle.std.specs.List.{flat_map};
-ghost use Rattle.cs_model.specs.Changes.{Change};
+ghost use Rattle.cs_model.specs.Changes.{Change, table};
 ghost use Rattle.txn_table.specs.Txns.{txn_of, with, fixed, own_of, snapshots_in, IsSession};
 ghost use Rattle.group_book.specs.Book.{is_opened};
 ghost use Rattle.group_book.specs.Turns.{after_close};
@@ -18,6 +18,7 @@ use crate::counts::ledger;
 use crate::directory::Directory;
 use crate::events::close;
 use crate::ledger::Ledger;
+use crate::rows::rows;
 use crate::share::view_of;
 use cs_base::Memory;
 use group_view::{GroupView, Pinned};
@@ -82,6 +83,14 @@ impl Directory {
         ensures holders { IfOk result (λ ledger. ledger.holders ≡ flat_map holders_of self.now.list.claims.items) }
     {
         ledger(self.alloc, &self.list)
+    }
+
+    /// How many rows the table has at the clock, from the counts of the groups: no row is read.
+    pub fn rows(&self) -> u128
+        requires { IsHeld self.now.list }
+        ensures { (changes : List Change) → Stands self.now changes → result ≡ length (table changes self.now.clock) }
+    {
+        rows(&self.list)
     }
 
     /// Closes the OPEN group, and gives its id. None, with nothing changed, exactly where there is none. It takes no memory: what a

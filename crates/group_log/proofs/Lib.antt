@@ -1,4 +1,5 @@
 pub mod Follow
+pub mod Counting
 pub mod Claims
 pub mod Keeping
 pub mod Since

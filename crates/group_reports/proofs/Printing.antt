@@ -11,8 +11,9 @@ use Rattle.cs_types.specs.declared.Value.TheVariants.{Null, Number, Text}
 use Rattle.cs_types.specs.Kinds.{keeps_number}
 use Rattle.cs_types.specs.Rows.{cell_at}
 use Rattle.cs_types.specs.Text.{loose_number, IsPrintable}
+use Rattle.cs_types.specs.Schemas.{may_hold}
 use Rattle.cs_model.specs.declared.report.SegmentLine.{SegmentLine}
-use Rattle.cs_model.specs.Held.{holds, IsHeld}
+use Rattle.cs_model.specs.Held.{IsHeld}
 use Rattle.cs_model.specs.Text.{kind_or, column_kind, IsPrintableCell, IsPrintableSegment}
 use Rattle.row_group.specs.Rows.{PackedRow, column_of}
 use Rattle.group_log.specs.Segments.{AreGroupLines, AreSegmentLines, IsSegmentLine}
@@ -29,7 +30,7 @@ number_prints (kinds.Decimal p s) z held = tt
 number_prints kinds.Date z held = held
 number_prints (kinds.VarChar n) z held = tt
 
-cell_prints : (column : Column) (cell : Value) → IsTrue (holds column cell) → IsPrintableCell column.kind cell
+cell_prints : (column : Column) (cell : Value) → IsTrue (may_hold column cell) → IsPrintableCell column.kind cell
 cell_prints column Null held = tt
 cell_prints column (Number z) held = number_prints column.kind z held
 cell_prints column (Text t) held = tt

@@ -1,4 +1,5 @@
 pub mod Parts
+pub mod Scanned
 pub mod Views
 pub mod Books
 pub mod Lists

@@ -45,12 +45,21 @@ fn is_end_of(
     }
 }
 
-/// Whether the entry of this key and end ends a version of a packed group, by its positions of the key.
-fn ends_version(packed: &Packed, marks: &Marks, buffer: &Buffer, key: Key, end: u64) -> bool
+/// Whether the entry of this key and end ends a version of a packed group, by its positions of the key. They are looked for
+/// from the place `near` on, which is theirs afterwards.
+fn ends_version(
+    packed: &Packed,
+    marks: &Marks,
+    buffer: &Buffer,
+    near: &mut usize,
+    key: Key,
+    end: u64,
+) -> bool
     requires { length marks.now ≡ length packed.now.rows }
     ensures { result ≡ list_any (ends (endings_of buffer.now.entries) (record { key = key; end = end })) (versions_of (packed_versions packed.now.key packed.now.rows marks.now)) }
 {
-    let places = packed.find(key);
+    let places = packed.find_near(*near, key);
+    *near = places.from;
     for place in places.from..places.to {
         let position = packed.place(place);
         if is_end_of(packed, marks, buffer, position, key, end) {
@@ -60,13 +69,17 @@ fn ends_version(packed: &Packed, marks: &Marks, buffer: &Buffer, key: Key, end: 
     false
 }
 
-/// Whether the group is COMPRESSED, and the entry of this key and end ends a version of it.
-pub fn ends_one(group: &Group, buffer: &Buffer, key: Key, end: u64) -> bool
+/// Whether the group is COMPRESSED, and the entry of this key and end ends a version of it. The versions of the key are looked
+/// for from the place `near` on among those by key, which is theirs afterwards: so entries in order are soon found one after
+/// the other.
+pub fn ends_one(group: &Group, buffer: &Buffer, near: &mut usize, key: Key, end: u64) -> bool
     requires { IsFittingContent group.now.content }
     ensures { result ≡ (is_compressed (group_of group.now).content && ends_in (endings_of buffer.now.entries) (group_of group.now) (record { key = key; end = end })) }
 {
     match &group.content {
-        GroupContent::Compressed(packed, marks) => ends_version(packed, marks, buffer, key, end),
+        GroupContent::Compressed(packed, marks) => {
+            ends_version(packed, marks, buffer, near, key, end)
+        }
         GroupContent::Opened(_)
         | GroupContent::Closed(_)
         | GroupContent::Invisible
@@ -79,8 +92,9 @@ pub fn has_entry(group: &Group, buffer: &Buffer) -> bool
     requires { IsFittingContent group.now.content }
     ensures { result ≡ (is_compressed (group_of group.now).content && list_any (ends_in (endings_of buffer.now.entries) (group_of group.now)) (endings_of buffer.now.entries)) }
 {
+    let mut near = 0;
     for entry in buffer.as_slice() {
-        if ends_one(group, buffer, entry.0, entry.1) {
+        if ends_one(group, buffer, &mut near, entry.0, entry.1) {
             return true;
         }
     }

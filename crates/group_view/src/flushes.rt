@@ -16,14 +16,33 @@ use cs_base::{Items, Memory};
 use cs_types::Key;
 use std::alloc::Global;
 
+/// The place from which a group's versions by key are searched. The first, where none is kept for the group.
+fn near_at(nears: &[usize], place: usize) -> usize {
+    match nears.get(place) {
+        Some(near) => *near,
+        None => 0,
+    }
+}
+
+/// Keeps the place from which a group's versions by key are searched next, if there is room for it.
+fn keep_near(nears: &mut [usize], place: usize, near: usize) {
+    if let Some(kept) = nears.get_mut(place) {
+        *kept = near;
+    }
+}
+
 /// Whether the entry of this key and end ends a version of a COMPRESSED group that no claim has. Claims are asked only of a
-/// group in which it does.
-fn is_flushable(list: &GroupList, key: Key, end: u64) -> bool
+/// group in which it does. In each group the search begins near the place of the key that was looked for before.
+fn is_flushable(list: &GroupList, nears: &mut [usize], key: Key, end: u64) -> bool
     requires { All (λ group. IsFittingContent group.content) list.now.groups.items }
     ensures { result ≡ list_any (ends (book_of list.now).buffer (record { key = key; end = end })) (frozen (free_packed (book_of list.now))) }
 {
-    for group in &list.groups {
-        if ends_one(group, &list.buffer, key, end) && !is_claimed(&list.claims, group.id) {
+    for place in 0..list.groups.len() {
+        let group = &list.groups[place];
+        let mut near = near_at(nears, place);
+        let ended = ends_one(group, &list.buffer, &mut near, key, end);
+        keep_near(nears, place, near);
+        if ended && !is_claimed(&list.claims, group.id) {
             return true;
         }
     }
@@ -36,7 +55,7 @@ pub fn has_flushable(list: &GroupList) -> bool
     ensures { result ≡ nat_le 1 (length (flushable (book_of list.now))) }
 {
     for entry in list.buffer.as_slice() {
-        if is_flushable(list, entry.0, entry.1) {
+        if is_flushable(list, &mut [], entry.0, entry.1) {
             return true;
         }
     }
@@ -64,9 +83,10 @@ pub fn flush_entries(alloc: Global, list: &GroupList) -> Result<Items<(Key, u64)
     ensures entries { IfOk result (λ entries. endings_of entries ≡ flushable (book_of list.now)) }
     ensures order { IfOk result AreInOrder }
 {
+    let mut nears = vec![in alloc; 0; list.groups.len()]?;
     let mut entries = Items::new(alloc);
     for entry in list.buffer.as_slice() {
-        if is_flushable(list, entry.0, entry.1) {
+        if is_flushable(list, &mut nears, entry.0, entry.1) {
             entries.push(*entry)?;
         }
     }

@@ -28,6 +28,7 @@ pub use flushes::{flush_entries, flush_sources};
 pub use groups::{ClosedStore, Group, GroupContent, GroupList};
 pub use laws::{lookups_find_rows, shown_rows, shows_tables, stays_shown, taken_views};
 pub use lived::{Lived, has_ended, is_buffered, stamp_of};
+pub use lookups::seen_from;
 pub use parts::{GroupPart, GroupRef};
 pub use removable::settles;
 pub use turn::next_work;

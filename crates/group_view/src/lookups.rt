@@ -1,5 +1,6 @@
 // Look-ups by key in the groups of a view.
 ghost use Rattle.std.specs.Prelude.{◌≡◌, length, IfSome, IfNone};
+ghost use Rattle.delta_store.specs.Versions.{IsLastPlace};
 ghost use Rattle.group_view.specs.Parts.{packed_versions, rowed_in, stored_versions, IsFitting};
 ghost use Rattle.group_view.specs.Views.{endings_of, HidesAll, ShowsAt};
 
@@ -40,12 +41,28 @@ fn find_packed(packed: &Packed, marks: &Marks, buffer: &Ends, key: Key, s: u64) 
     None
 }
 
-/// The same in a store, from the key's last version back.
+/// The same in a store, by the place of the key's last version.
 fn find_stored(store: &Frozen, buffer: &Ends, key: Key, s: u64) -> Option<usize>
     ensures found { IfSome result (ShowsAt (endings_of buffer.now) key s (stored_versions store.now)) }
     ensures none { IfNone result (HidesAll (endings_of buffer.now) key s (stored_versions store.now)) }
 {
-    let mut at = store.of_key(key);
+    seen_from(store, buffer, key, store.of_key(key), s)
+}
+
+/// The position of a version of the key that the snapshot `s` sees in a store, from the place of the key's last version back. None
+/// exactly where it sees none there.
+pub fn seen_from(
+    store: &Frozen,
+    buffer: &Ends,
+    key: Key,
+    last: Option<usize>,
+    s: u64,
+) -> Option<usize>
+    requires { IsLastPlace store.now key last }
+    ensures found { IfSome result (ShowsAt (endings_of buffer.now) key s (stored_versions store.now)) }
+    ensures none { IfNone result (HidesAll (endings_of buffer.now) key s (stored_versions store.now)) }
+{
+    let mut at = last;
     while let Some(position) = at {
         if stored_version(store, position).is_visible(buffer, s) {
             return Some(position);

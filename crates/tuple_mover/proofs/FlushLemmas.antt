@@ -4,18 +4,16 @@ use Rattle.std.specs.Prelude.{slice_get, slice_index}
 use Rattle.std.specs.Prelude.{is_some}
 use Rattle.std.proofs.lemmas.Option.{slice_get-get_or, unwrap_or-slice_get}
 use Rattle.std.specs.List.{Contains}
-use Rattle.std.specs.List.Sorted.{IsPermutation}
-use Rattle.std.proofs.lemmas.List.Sorted.{Contains-permutation, IsPermutation-sym}
 use Rattle.std.proofs.lemmas.Bool.{cases_eq, eqb-true, or_right}
 use Rattle.std.proofs.lemmas.List.Elements.{Contains-append_left, Contains-push, Contains-push_cases}
 use Rattle.std.proofs.lemmas.Bool.Decides.{nat_tests}
-use Rattle.std.proofs.lemmas.List.{map-append, take_more, length-set, get_or_default, get_or-set_same, get_or-set_other, same_lists}
+use Rattle.std.proofs.lemmas.List.{append-nil, append_assoc, map-append, take_more, length-set, get_or_default, get_or-set_same, get_or-set_other, same_lists}
 use Rattle.cs_types.specs.declared.Key.{Key}
 use Rattle.cs_types.specs.Keys.{same_key}
 use Rattle.cs_types.specs.Rows.{key_in}
 use Rattle.delete_bitmap.specs.declared.MarkedEnd.{MarkedEnd}
 use Rattle.delete_bitmap.specs.declared.MarkedEnd.TheVariants.{Plain, Stamped}
-use Rattle.delete_bitmap.specs.Marks.{end_at}
+use Rattle.delete_bitmap.specs.Marks.{end_at, with_each}
 use Rattle.delete_buffer.specs.Entries.{Entry, IsLeastEnd}
 use Rattle.row_group.specs.Rows.{PackedRow}
 use Rattle.row_group.specs.Groups.{Group, row_at, ArePlacesOf}
@@ -27,6 +25,7 @@ use Rattle.group_view.specs.Parts.{end_of_mark, packed_versions}
 use Rattle.group_view.specs.Views.{endings_of}
 use Rattle.group_view.specs.Books.{versions_of}
 use Rattle.tuple_mover.specs.Flushed.{mark_in, next_mark, next_marks, IsEndedBy, HasMore}
+use Rattle.tuple_mover.proofs.PlaceLemmas.{Place}
 use Rattle.tuple_mover.proofs.SpentLemmas.{ending_of, least-is}
 
 -- ---- one version
@@ -78,9 +77,6 @@ held-more (y ∷ xs) x key e = ap (λ (t : Bool). (same_key key y.key && eqb y.e
     step false b t = refl
 
 -- ---- more places
-
-abbrev Place : Type 0
-Place = ℕ × ℕ
 
 pub more-none : (kind : Place → Type 0) (places : List Place) → ((place : Place) → kind place → ⊥) → HasMore kind places places
 more-none kind places none place = (
@@ -135,9 +131,9 @@ more-same kind other a b kinds more place = (
   ]),
 )
 
--- each of them, in whatever order, is of the kind, where there were none before
-pub of-kind-moved : (kind : Place → Type 0) (places moved : List Place) → IsPermutation places moved → HasMore kind [] places → (place : Place) → Contains moved place → kind place
-of-kind-moved kind places moved permuted more place there = elim ((more place).0 (Contains-permutation moved places place (IsPermutation-sym places moved permuted) there)) [
+-- each of them is of the kind, where there were none before
+pub of-kind : (kind : Place → Type 0) (places : List Place) → HasMore kind [] places → (place : Place) → Contains places place → kind place
+of-kind kind places more place there = elim ((more place).0 there) [
   | inl none ↦ absurd (omega (arith, none.1))
   | inr of ↦ of
 ]
@@ -320,21 +316,6 @@ module _ (buffer lent : List Ending) (group : Group) (old : List (Option MarkedE
     | inr same ↦ subst (λ (p : Place). get_or marks p.0 None ≡ next_at buffer lent group p.0 (get_or old p.0 None)) same last
   ]
 
-  -- a place of which the end is recorded already
-  pub marked-kept : (done : List Place) (place : Place) (marks : List (Option MarkedEnd)) → IsEndedBy buffer lent group old place → is_some (end_at marks place.0) ≡ true → AreMarked buffer lent group old done marks → AreMarked buffer lent group old (done ++ place ∷ []) marks
-  marked-kept done place marks ended some are = record {
-    counted = are.counted;
-    own = are.own;
-    all = one-more done place marks are.all (elim (are.own place.0) [
-      | inl same ↦
-          absurd (differ (sym some ∙ ap (λ (m : Option MarkedEnd). is_some m) (unwrap_or-slice_get marks place.0 None ∙ same ∙ open-before place ended)))
-      | inr next ↦ next
-    ]);
-  }
-    where
-      differ : true ≡ false → ⊥
-      differ h = cc
-
   pub marked-more : (done : List Place) (place : Place) (marks : List (Option MarkedEnd)) → IsEndedBy buffer lent group old place → AreMarked buffer lent group old done marks → AreMarked buffer lent group old (done ++ place ∷ []) (set marks place.0 (Some (Stamped place.1)))
   marked-more done place marks ended are =
       let (within, unended, least, held) = ended in
@@ -390,6 +371,32 @@ module _ (buffer lent : List Ending) (group : Group) (old : List (Option MarkedE
                   held false there =
                       same ∙ is ∙ sym (ap (next_at buffer lent group p) is ∙ ap (λ (o : Option ℕ). mark_in o lent key None) of ∙ ap (λ (t : Bool). cond t (Some (Stamped e)) None) there)
 
-pub open-there : (marks : List (Option MarkedEnd)) (p : ℕ) → p < length marks → is_some (end_at marks p) ≡ false → slice_get marks p ≡ Some None
-open-there marks p there none =
-    slice_get-get_or marks p None there ∙ ap (λ (m : Option MarkedEnd). Some m) (sym (unwrap_or-slice_get marks p None)) ∙ ap (λ (m : Option MarkedEnd). Some m) (no-mark (end_at marks p) none)
+  marked-each : (done places : List Place) (marks : List (Option MarkedEnd)) → ((place : Place) → Contains places place → IsEndedBy buffer lent group old place) → AreMarked buffer lent group old done marks
+      → AreMarked buffer lent group old (done ++ places) (with_each places marks)
+  marked-each done [] marks ended are = subst (λ (all : List Place). AreMarked buffer lent group old all marks) (sym (append-nil done)) are
+  marked-each done (place ∷ places) marks ended are =
+      subst (λ (all : List Place). AreMarked buffer lent group old all (with_each (place ∷ places) marks)) (append_assoc done (place ∷ []) places)
+      (marked-each (done ++ place ∷ []) places (set marks place.0 (Some (Stamped place.1))) (λ other inside. ended other (suc inside.0, omega (arith, inside.1), inside.2))
+      (marked-more done place marks (ended place (0, omega arith, refl)) are))
+
+  -- a bitmap in which all of them are marked at once
+  pub marked-by : (places : List Place) → ((place : Place) → Contains places place → IsEndedBy buffer lent group old place) → ((place : Place) → IsEndedBy buffer lent group old place → Contains places place)
+      → with_each places old ≡ next_marks buffer lent group.key group.rows old
+  marked-by places ended every = marked-all places (with_each places old) every (marked-each [] places old ended marked-none)
+
+  -- the end of a position has one number
+  pub ended-once : (x y : Place) → IsEndedBy buffer lent group old x → IsEndedBy buffer lent group old y → x.0 ≡ y.0 → x.1 ≡ y.1
+  ended-once x y first second same =
+      let (within, unended, least, held) = first in
+      let (inside, unmarked, other, lent_too) = second in
+      same-number x.1 y.1 (sym least ∙ ap (λ (p : ℕ). let row : PackedRow = row_at group p in least_entry buffer (key_in group.key row.cells) row.begin) same ∙ other)
+    where
+      same-number : (a b : ℕ) → Some a ≡ Some b → a ≡ b
+      same-number a b is = cc
+
+  -- a position that they end has no end yet
+  pub unmarked-there : (place : Place) → IsEndedBy buffer lent group old place → slice_get old place.0 ≡ Some None
+  unmarked-there place ended =
+      let (within, unended, least, held) = ended in
+      let there : place.0 < length old = omega (arith, fitting, within) in
+      slice_get-get_or old place.0 None there ∙ ap (λ (m : Option MarkedEnd). Some m) (sym (unwrap_or-slice_get old place.0 None) ∙ unended)

@@ -5,4 +5,5 @@ pub mod GroupLemmas
 pub mod EntryLemmas
 pub mod MadeLemmas
 pub mod SpentLemmas
+pub mod PlaceLemmas
 pub mod FlushLemmas

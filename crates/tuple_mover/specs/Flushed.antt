@@ -1,5 +1,7 @@
 -- The bitmap of a source of a flush.
 use Rattle.std.specs.Prelude.{◌≡◌, ◌<◌, ◌↔◌, ◌⊎◌, ℕ, true, List, [], ◌∷◌, length, Contains, Option, None, Some, if◌then◌else◌}
+use Rattle.std.specs.declared.cmp.Ordering.{Ordering}
+use Rattle.std.specs.Ordering.{nat_cmp, ordering_then}
 use Rattle.cs_types.specs.declared.Key.{Key}
 use Rattle.cs_types.specs.Rows.{key_in}
 use Rattle.delete_bitmap.specs.declared.MarkedEnd.{MarkedEnd}
@@ -36,3 +38,7 @@ IsEndedBy buffer lent group marks place =
 -- the positions with their numbers are the old ones and those of this kind
 abbrev pub HasMore : (ℕ × ℕ → Type 0) → List (ℕ × ℕ) → List (ℕ × ℕ) → Type 0
 HasMore kind old new = (place : ℕ × ℕ) → Contains new place ↔ (Contains old place ⊎ kind place)
+
+-- positions with their numbers are ordered by position, those of one position by their numbers
+abbrev pub place_cmp : ℕ × ℕ → ℕ × ℕ → Ordering
+place_cmp x y = ordering_then (nat_cmp x.0 y.0) (nat_cmp x.1 y.1)

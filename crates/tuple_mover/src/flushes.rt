@@ -1,20 +1,21 @@
 // The work of a flush.
-ghost use Rattle.std.specs.Prelude.{◌≡◌, ◌<◌, ◌∷◌, [], All, length, IfOk, OnOk};
+ghost use Rattle.std.specs.Prelude.{◌≡◌, ◌<◌, ◌↔◌, ◌∷◌, [], ℕ, length, Contains, IfOk, OnOk};
+ghost use Rattle.std.specs.List.Sorted.{IsStrictlySortedBy};
 ghost use Rattle.cs_types.specs.Rows.{key_in};
-ghost use Rattle.row_group.specs.Groups.{row_at};
+ghost use Rattle.row_group.specs.Groups.{row_at, ArePlacesOf};
 ghost use Rattle.group_book.specs.Book.Choice.{Flush};
 ghost use Rattle.group_view.specs.Books.{choice_of};
 ghost use Rattle.group_view.specs.Parts.{IsFitting};
 ghost use Rattle.group_view.specs.Views.{endings_of};
 ghost use Rattle.group_view.specs.Claims.{IsMarkedOf, IsMendable, IsPackedPart, IsProductOf, lent_entries};
-ghost use Rattle.tuple_mover.specs.Flushed.{next_marks, IsEndedBy, HasMore};
+ghost use Rattle.tuple_mover.specs.Flushed.{next_marks, place_cmp, IsEndedBy, HasMore};
 
 use cs_base::{Items, Memory};
 use cs_types::Key;
 use delete_bitmap::Marks;
 use delete_buffer::Ends;
 use group_view::{Claim, GroupPart, Product};
-use row_group::Packed;
+use row_group::{Packed, Places};
 use std::alloc::Global;
 use std::sync::Arc;
 
@@ -44,24 +45,27 @@ fn add_place(
     Ok(())
 }
 
-/// Adds to the places the position of each version of a packed group that an entry ends, with its number.
+/// Adds to the places the position of each version of a packed group that an entry ends, with its number. What was found are
+/// the places of its key.
 fn add_places(
     places: &mut Vec<(usize, u64)>,
     marks: &Marks,
     packed: &Packed,
     buffer: &Ends,
+    found: Places,
     entry: (Key, u64),
 ) -> Result<(), Memory>
+    requires { ArePlacesOf packed.now entry.0 found.from found.to }
     ensures { OnOk result (HasMore (IsEndedBy (endings_of buffer.now) (record { key = entry.0; end = entry.1 } ∷ []) packed.now marks.now) places.old.items places.new.items) }
 {
-    let found = packed.find(entry.0);
     for place in found.from..found.to {
         add_place(places, marks, packed, buffer, packed.place(place), entry)?;
     }
     Ok(())
 }
 
-/// The position of each version of a packed group that an entry ends, with the entry's number, in the order of entries.
+/// The position of each version of a packed group that an entry ends, with the entry's number, in the order of entries. Keys
+/// that stand near each other are found from one to the next.
 fn places_of(
     alloc: Global,
     marks: &Marks,
@@ -72,14 +76,26 @@ fn places_of(
     ensures { IfOk result (λ places. HasMore (IsEndedBy (endings_of buffer.now) (endings_of entries.now) packed.now marks.now) [] places.items) }
 {
     let mut places = Vec::new(alloc);
+    let mut near = 0;
     for entry in entries {
-        add_places(&mut places, marks, packed, buffer, *entry)?;
+        let found = packed.find_near(near, entry.0);
+        near = found.from;
+        add_places(&mut places, marks, packed, buffer, found, *entry)?;
     }
     Ok(places)
 }
 
-/// The bitmap of a packed group with the entries' numbers as the ends of the versions that they end. They are marked in
-/// the order of positions, in which each goes to the end of the stamps, but for those behind it that the bitmap had before.
+/// Puts places in the order of positions, each once.
+fn sort_once(places: &mut Vec<(usize, u64)>)
+    ensures order { IsStrictlySortedBy place_cmp places.new.items }
+    ensures same { (place : ℕ × ℕ) → Contains places.new.items place ↔ Contains places.old.items place }
+{
+    places.sort_unstable();
+    places.dedup();
+}
+
+/// The bitmap of a packed group with the entries' numbers as the ends of the versions that they end. They are sorted by
+/// position, and marked in one pass.
 fn marked_by(
     alloc: Global,
     packed: &Packed,
@@ -91,13 +107,9 @@ fn marked_by(
     ensures { IfOk result (λ marked. marked ≡ next_marks (endings_of buffer.now) (endings_of entries.now) packed.now.key packed.now.rows marks.now) }
 {
     let mut places = places_of(alloc, marks, packed, buffer, entries)?;
-    places.sort_unstable();
+    sort_once(&mut places);
     let mut marked = marks.copy()?;
-    for place in places.as_slice() {
-        if marked.end(place.0).is_none() {
-            marked.mark(place.0, place.1)?;
-        }
-    }
+    marked.mark_each(&places)?;
     Ok(marked)
 }
 

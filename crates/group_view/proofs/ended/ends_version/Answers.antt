@@ -15,15 +15,15 @@ returns-then-is_end_of c =
     let marks = c.args.marks.now in
     let packed = packed_versions group.key group.rows marks in
     let inside : c.place-position.result < length (versions_of packed) = omega (arith, length-map packed (λ (rowed : Rowed). rowed.version), length-packed_versions group.key group.rows marks c.requires, c.place-position.ensures.within) in
-    sym (one_ended group marks c.args.buffer.now.entries c.args.key c.args.end c.find-places.result.from c.find-places.result.to c.find-places.ensures c.loop-place.place c.place-position.result
+    sym (one_ended group marks c.args.buffer.now.entries c.args.key c.args.end c.find_near-places.result.from c.find_near-places.result.to c.find_near-places.ensures c.loop-place.place c.place-position.result
     c.place-position.ensures.value c.loop-place.auto.place c.loop-place-test.true inside (λ version is own. sym c.if-is_end_of.true ∙ c.is_end_of.ensures version is own))
 
 pub loop-place-preserved : goal.loop-place-preserved
 loop-place-preserved c =
-    one_more c.args.packed.now c.args.marks.now c.args.buffer.now.entries c.args.key c.args.end c.find-places.result.from c.find-places.result.to c.find-places.ensures c.loop-place.place c.place-position.result
+    one_more c.args.packed.now c.args.marks.now c.args.buffer.now.entries c.args.key c.args.end c.find_near-places.result.from c.find_near-places.result.to c.find_near-places.ensures c.loop-place.place c.place-position.result
     c.place-position.ensures.value (λ version is own. sym c.if-is_end_of.false ∙ c.is_end_of.ensures version is own) c.loop-place.invariant c.loop-place.auto.place c.loop-place-test.true
 
 pub returns : goal.returns
 returns c =
-    sym (none_ended c.args.packed.now c.args.marks.now c.args.buffer.now.entries c.args.key c.args.end c.find-places.result.from c.find-places.result.to c.find-places.ensures
+    sym (none_ended c.args.packed.now c.args.marks.now c.args.buffer.now.entries c.args.key c.args.end c.find_near-places.result.from c.find_near-places.result.to c.find_near-places.ensures
     (λ i low high ended. c.loop-place.invariant i low (let end = c.loop-place-test.false in omega (arith, end, high)) ended))

@@ -1,4 +1,4 @@
-use Rattle.std.proofs.Common.{◌≡◌, ◌≤◌, ◌<◌, false, length, map, get_or, refl, sym, ap, ◌∙◌}
+use Rattle.std.proofs.Common.{◌≡◌, ◌≤◌, ◌<◌, false, length, map, get_or, refl, sym, ap, ◌∙◌, arith}
 use Rattle.group_view.specs.Walks.{ends_in}
 use Rattle.group_view.proofs.Chosen.{any_packed, none_found, one_found}
 use Rattle.group_book.specs.Turns.{ends, is_claimed}
@@ -8,14 +8,14 @@ use Rattle.group_view.proofs.flushes.is_flushable.Goals as goal
 pub returns-then-not-is_claimed : goal.returns-then-not-is_claimed
 returns-then-not-is_claimed c =
     let list = c.args.list.now in
-    let group = c.group-item.result in
-    let inside : c.loop-group.group-index < length list.groups.items = rw c.deref-group-items.ensures.value at c.loop-group-test.true in
-    let at : get_or list.groups.items c.loop-group.group-index group ≡ group = rw c.deref-group-items.ensures.value at (sym c.group-item.is) in
+    let group = c.index-group.result.now in
+    let inside : c.loop-place.place < length list.groups.items = omega arith in
+    let at : get_or list.groups.items c.loop-place.place group ≡ group = sym c.index-group.ensures in
     let unclaimed : is_claimed (map claim_of list.claims.items) (group_of group) ≡ false = sym (c.is_claimed.ensures (group_of group) refl ∙ ap (λ claims. is_claimed (map claim_of claims) (group_of group)) c.deref.ensures.value) ∙ c.if-not-is_claimed.true in
-    sym (any_packed (book_of list) (ends (book_of list).buffer (record { key = c.args.key; end = c.args.end })) ∙ one_found (book_of list) (λ other. ends_in (book_of list).buffer other (record { key = c.args.key; end = c.args.end })) list.groups.items c.loop-group.group-index group inside at (sym c.ends_one.ensures ∙ c.if-ends_one.true) unclaimed)
+    sym (any_packed (book_of list) (ends (book_of list).buffer (record { key = c.args.key; end = c.args.end })) ∙ one_found (book_of list) (λ other. ends_in (book_of list).buffer other (record { key = c.args.key; end = c.args.end })) list.groups.items c.loop-place.place group inside at (sym c.ends_one-ended.ensures ∙ c.if-ended.true) unclaimed)
 
 pub returns : goal.returns
 returns c =
     let list = c.args.list.now in
-    let past : length list.groups.items ≤ c.loop-group.group-index = rw c.deref-group-items.ensures.value at c.loop-group-test.false in
-    sym (any_packed (book_of list) (ends (book_of list).buffer (record { key = c.args.key; end = c.args.end })) ∙ none_found (book_of list) (λ other. ends_in (book_of list).buffer other (record { key = c.args.key; end = c.args.end })) list.groups.items c.loop-group.group-index c.loop-group.invariant past)
+    let past : length list.groups.items ≤ c.loop-place.place = omega arith in
+    sym (any_packed (book_of list) (ends (book_of list).buffer (record { key = c.args.key; end = c.args.end })) ∙ none_found (book_of list) (λ other. ends_in (book_of list).buffer other (record { key = c.args.key; end = c.args.end })) list.groups.items c.loop-place.place c.loop-place.invariant past)

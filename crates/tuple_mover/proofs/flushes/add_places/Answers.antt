@@ -8,13 +8,13 @@ use Rattle.tuple_mover.proofs.flushes.add_places.Goals as goal
 pub loop-place-init : goal.loop-place-init
 loop-place-init c =
     let x : Ending = record { key = c.args.entry.0; end = c.args.entry.1 } in
-    up_to-none (endings_of c.args.buffer.now) x c.args.packed.now c.args.marks.now c.find-found.result.from c.args.places.now.items
+    up_to-none (endings_of c.args.buffer.now) x c.args.packed.now c.args.marks.now c.args.found.from c.args.places.now.items
 
 pub loop-place-preserved : goal.loop-place-preserved
 loop-place-preserved c =
     let x : Ending = record { key = c.args.entry.0; end = c.args.entry.1 } in
     let buffer = endings_of c.args.buffer.now in
-    let from = c.find-found.result.from in
+    let from = c.args.found.from in
     let i = c.loop-place.place in
     let low : from ≤ i = omega arith in
     up_to-more buffer x c.args.packed.now c.args.marks.now from i c.args.places.now.items c.loop-place.places.items c.add_place.new.places.items low c.loop-place.invariant
@@ -23,4 +23,4 @@ loop-place-preserved c =
 pub returns : goal.returns
 returns c =
     let x : Ending = record { key = c.args.entry.0; end = c.args.entry.1 } in
-    up_to-all (endings_of c.args.buffer.now) x c.args.packed.now c.args.marks.now c.find-found.result.from c.find-found.result.to c.loop-place.place c.args.places.now.items c.loop-place.places.items c.find-found.ensures (omega arith) c.loop-place.invariant
+    up_to-all (endings_of c.args.buffer.now) x c.args.packed.now c.args.marks.now c.args.found.from c.args.found.to c.loop-place.place c.args.places.now.items c.loop-place.places.items c.requires (omega arith) c.loop-place.invariant

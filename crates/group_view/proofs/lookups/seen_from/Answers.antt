@@ -2,10 +2,10 @@ use Rattle.std.proofs.Common.{◌<◌, sym, subst}
 use Rattle.group_view.specs.Parts.{lived_version, stored_versions}
 use Rattle.group_view.specs.Views.{endings_of}
 use Rattle.group_view.proofs.Finds.{IsWalk, shows_here, steps_left, walk_begins, walk_falls, walk_goes_on, walk_key}
-use Rattle.group_view.proofs.lookups.find_stored.Goals as goal
+use Rattle.group_view.proofs.lookups.seen_from.Goals as goal
 
 pub loop-at-init : goal.loop-at-init
-loop-at-init c = walk_begins c.args.store.now (endings_of c.args.buffer.now) c.args.key c.args.s c.of_key-at.result c.of_key-at.ensures
+loop-at-init c = walk_begins c.args.store.now (endings_of c.args.buffer.now) c.args.key c.args.s c.args.last c.requires
 
 pub returns-then-is_visible-clause-found : goal.returns-then-is_visible-clause-found
 returns-then-is_visible-clause-found c =
