@@ -1,0 +1,12 @@
+pub mod Added
+pub mod Between
+pub mod Counting
+pub mod Flags
+pub mod Kept
+pub mod Left
+pub mod Lent
+pub mod Padded
+pub mod Passed
+pub mod Seen
+pub mod Stored
+pub mod Walks

@@ -1,0 +1,13 @@
+use Rattle.std.proofs.Common.{◌≡◌, ◌+◌, ◌≤◌, ℕ, take}
+use Rattle.std.specs.Option.{option_copied}
+use Rattle.batch_scan.specs.Scans.{counts_of}
+use Rattle.batch_scan.proofs.counts.segment_counts.Given as goal
+
+-- the groups so far are counted, each once at most
+pub record CountedTo (read skipped to : ℕ) (counts : ℕ × ℕ) : Type 0 where
+  pub read_so_far : read ≡ counts.0
+  pub skipped_so_far : skipped ≡ counts.1
+  pub few : read + skipped ≤ to
+
+abbrev pub invariant-loop-group : goal.invariant-loop-group
+invariant-loop-group l = CountedTo l.read l.skipped l.group-index (counts_of l.schema (option_copied l.pred) (take l.group-index l.groups))

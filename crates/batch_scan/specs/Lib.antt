@@ -1,0 +1,3 @@
+pub mod Reads
+pub mod Hidden
+pub mod Scans

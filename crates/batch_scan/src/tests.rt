@@ -1,0 +1,216 @@
+ghost use Rattle.std.specs.Prelude.{◌≡◌, ◌∷◌, [], length, slice_get, IfOk, None, Some, false};
+ghost use Rattle.std.specs.Bool.{OnTrue};
+ghost use Rattle.cs_types.specs.declared.ColumnType.TheVariants.{BigInt};
+ghost use Rattle.cs_types.specs.Schemas.{IsRowOf, IsSchema};
+
+use crate::Shown;
+use cs_base::{Items, Memory};
+use cs_types::{Column, ColumnType, Key, Row, Schema, Value, Version};
+use delete_bitmap::Marks;
+use delete_buffer::{Buffer, Ends};
+use group_view::{GroupView, Pinned};
+use row_group::{Packed, pack_rows};
+use std::alloc::Global;
+use std::process::Abort;
+use std::sync::Arc;
+use std::test::Fail;
+use write_set::{Own, Write};
+
+/// The table `t (k bigint NOT NULL PRIMARY KEY)`.
+fn table(alloc: Global) -> Result<Schema, Memory>
+    ensures { IfOk result (λ schema. IsSchema schema × (schema.columns ≡ record { name = 107 ∷ []; kind = BigInt; nullable = false } ∷ [])) }
+{
+    let mut name = Items::new(alloc);
+    name.push(b'k')?;
+    let mut columns = Items::new(alloc);
+    columns.push(Column {
+        name,
+        kind: ColumnType::BigInt,
+        nullable: false,
+    })?;
+    let mut name = Items::new(alloc);
+    name.push(b't')?;
+    Ok(Schema {
+        name,
+        columns,
+        key: 0,
+    })
+}
+
+/// A row of one number.
+fn row_of(alloc: Global, number: u8) -> Result<Row, Memory>
+    ensures { IfOk result (λ row. (schema : Schema) → schema.columns ≡ record { name = 107 ∷ []; kind = BigInt; nullable = false } ∷ [] → IsRowOf schema row) }
+{
+    let mut row = Row::new(alloc);
+    row.push(Value::Number(i64::from(number)))?;
+    Ok(row)
+}
+
+/// A packed group of these keys with their begins, of which those at most the floor become the floor.
+fn packed(alloc: Global, given: &[(u8, u64)], floor: u64) -> Result<Option<Packed>, Memory> {
+    let schema = table(alloc)?;
+    let mut versions = Items::new(alloc);
+    for (key, begin) in given {
+        versions.push(Version {
+            row: row_of(alloc, *key)?,
+            begin: *begin,
+            end: None,
+        })?;
+    }
+    pack_rows(alloc, &schema, versions, floor)
+}
+
+/// Whether a position is there and has no end.
+#[tactic(auto, using(std::proofs::lemmas::Option::gets))]
+fn is_free(marks: &Marks, position: usize) -> bool
+    ensures { OnTrue result (slice_get marks.now position ≡ Some None) }
+{
+    position < marks.len() && marks.end(position).is_none()
+}
+
+/// A bitmap of so many positions with ends at these, of which those at most the floor are settled.
+fn marked(
+    rt: &impl Abort,
+    alloc: Global,
+    count: usize,
+    ends: &[(usize, u64)],
+    floor: u64,
+) -> Result<Marks, Memory>
+    ensures { IfOk result (λ marks. length marks ≡ count) }
+{
+    let mut marks = Marks::new(alloc, count)?;
+    for (position, end) in ends {
+        assert!(rt; is_free(&marks, *position));
+        marks.mark(*position, *end)?;
+    }
+    marks.settle(floor);
+    Ok(marks)
+}
+
+/// A buffer of these entries, as it stands.
+fn buffered(alloc: Global, given: &[(i64, u64)]) -> Result<Arc<Ends>, Memory> {
+    let mut buffer = Buffer::new(alloc);
+    for (key, end) in given {
+        buffer.reserve(1)?;
+        if !buffer.remove(Key(*key), *end) {
+            buffer.add(Key(*key), *end);
+        }
+    }
+    buffer.copy()
+}
+
+/// Own writes to nothing of these keys.
+fn own_of(alloc: Global, keys: &[i64]) -> Result<Own, Memory> {
+    let mut writes = Vec::new(alloc);
+    for key in keys {
+        writes.push(Write {
+            key: Key(*key),
+            row: None,
+            replaces: true,
+        })?;
+    }
+    let mut own = Own::empty();
+    own.stage(writes)?;
+    Ok(own)
+}
+
+/// What is pinned, and what of a group is read: the versions by key and begin; the floor; ends by position; entries of the buffer;
+/// the keys of own writes; the snapshot; and `1` at each position that is read, `0` at the others.
+type Case = (
+    &'static [(u8, u64)],
+    u64,
+    &'static [(usize, u64)],
+    &'static [(i64, u64)],
+    &'static [i64],
+    u64,
+    &'static [u8],
+);
+
+/// What is read of the group of a case.
+fn shown_of(rt: &impl Abort, alloc: Global, case: &Case) -> Result<Shown, Memory> {
+    let (versions, floor, ends, entries, own, snapshot, _) = case;
+    let packed = packed(alloc, versions, *floor)?;
+    assert!(rt; packed.is_some());
+    let packed = packed.unwrap();
+    let marks = marked(rt, alloc, packed.len(), ends, *floor)?;
+    let view = GroupView {
+        groups: Items::new(alloc),
+        buffer: buffered(alloc, entries)?,
+        floor: *floor,
+        clock: 100,
+    };
+    let pinned = Pinned {
+        view,
+        own: own_of(alloc, own)?,
+        snapshot: *snapshot,
+    };
+    Shown::of(alloc, &pinned, &packed, &marks)
+}
+
+/// How it is said: for every position, for none, or position by position.
+fn kind_of(shown: &Shown) -> u8 {
+    match shown {
+        Shown::Every => b'e',
+        Shown::Nowhere => b'n',
+        Shown::Some(_) => b's',
+    }
+}
+
+/// That a case has this kind, and exactly its positions.
+fn expect(
+    rt: &impl Abort,
+    alloc: Global,
+    place: usize,
+    kind: u8,
+    case: &Case,
+) -> Result<(), Memory> {
+    let shown = shown_of(rt, alloc, case)?;
+    assert_eq!(rt; kind_of(&shown), kind, "case {place}");
+    for (position, flag) in case.6.iter().enumerate() {
+        assert_eq!(rt;
+            shown.has(position),
+            *flag == b'1',
+            "case {place}, position {position}"
+        );
+    }
+    Ok(())
+}
+
+/// Four versions of three keys, all begun at the floor but one of key 2, which begins at 7.
+const FOUR: &[(u8, u64)] = &[(1, 1), (2, 1), (2, 7), (3, 1)];
+
+#[test]
+fn versions_are_shown_by_what_ends_them(rt: HostRuntime) -> Result<(), Fail> {
+    let cases: [(u8, Case); 23] = [
+        (b'e', (FOUR, 5, &[], &[], &[], 7, b"1111")),
+        (b's', (FOUR, 5, &[], &[], &[], 6, b"1101")),
+        (b's', (FOUR, 5, &[], &[], &[], 5, b"1101")),
+        (b's', (FOUR, 5, &[], &[], &[], 4, b"0000")),
+        (b'n', (&[(1, 1), (2, 1)], 5, &[], &[], &[], 4, b"00")),
+        (b'e', (&[(1, 1), (2, 1)], 5, &[], &[], &[], 5, b"11")),
+        (b's', (FOUR, 5, &[(1, 7)], &[], &[], 7, b"1011")),
+        (b's', (FOUR, 5, &[(1, 7)], &[], &[], 6, b"1101")),
+        (b'e', (FOUR, 5, &[(1, 8)], &[], &[], 7, b"1111")),
+        (b's', (FOUR, 6, &[(0, 6), (3, 9)], &[], &[], 8, b"0111")),
+        (b's', (FOUR, 6, &[(0, 6), (3, 9)], &[], &[], 9, b"0110")),
+        (b's', (FOUR, 5, &[], &[(1, 8)], &[], 8, b"0111")),
+        (b's', (FOUR, 5, &[], &[(1, 8)], &[], 9, b"0111")),
+        (b'e', (FOUR, 5, &[], &[(1, 8)], &[], 7, b"1111")),
+        (b's', (FOUR, 5, &[], &[(2, 7)], &[], 7, b"1011")),
+        (b's', (FOUR, 5, &[], &[(2, 7), (2, 9)], &[], 9, b"1001")),
+        (
+            b'e',
+            (FOUR, 5, &[], &[(1, 5), (0, 6), (4, 6)], &[], 7, b"1111"),
+        ),
+        (b's', (FOUR, 5, &[], &[], &[2], 7, b"1001")),
+        (b'e', (FOUR, 5, &[], &[], &[0, 4], 7, b"1111")),
+        (b's', (FOUR, 5, &[], &[], &[-1, 1, 3, 9], 7, b"0110")),
+        (b's', (FOUR, 5, &[(3, 6)], &[(1, 6)], &[2], 7, b"0000")),
+        (b's', (FOUR, 5, &[(3, 6)], &[(1, 6)], &[2], 5, b"1001")),
+        (b'n', (&[(9, 2)], 3, &[(0, 4)], &[(9, 5)], &[9], 2, b"0")),
+    ];
+    for (place, (kind, case)) in cases.iter().enumerate() {
+        expect(&rt, rt.alloc(), place, *kind, case)?;
+    }
+    Ok(())
+}
