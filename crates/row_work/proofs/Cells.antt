@@ -15,6 +15,7 @@ use Rattle.cs_types.specs.declared.Value.TheVariants.{Null, Number, Text}
 use Rattle.cs_types.specs.Kinds.{keeps_number}
 use Rattle.cs_types.specs.Rows.{cell_at}
 use Rattle.cs_types.specs.Text.{loose_of, IsPrintable}
+use Rattle.cs_types.specs.Schemas.{may_hold}
 use Rattle.cs_model.specs.declared.plan.Item.{Item}
 use Rattle.cs_model.specs.declared.plan.Item.TheVariants as item
 use Rattle.cs_model.specs.declared.plan.Query.{Query}
@@ -25,7 +26,7 @@ use Rattle.cs_model.specs.Queries.{keeps, kept, row_order, group_order, before, 
 use Rattle.cs_model.specs.Groups.{cells_of, same_cells, each_once, Group, groups_of, place_of}
 use Rattle.cs_model.specs.Items.{is_null, present, lesser, greater, least_of, greatest_of, shown_if, of_sum, of_sum_in, sum_of, group_item, row_item}
 use Rattle.cs_model.specs.Order.{comes_before, put, in_order}
-use Rattle.cs_model.specs.Held.{holds, IsHeld}
+use Rattle.cs_model.specs.Held.{IsHeld}
 
 -- ---- cells
 
@@ -38,12 +39,12 @@ number_printable (Decimal p s) z h = tt
 number_printable Date z h = h
 number_printable (VarChar n) z h = tt
 
-value_printable : (column : Column) (v : Value) → IsTrue (holds column v) → IsPrintable (loose_of column.kind v)
+value_printable : (column : Column) (v : Value) → IsTrue (may_hold column v) → IsPrintable (loose_of column.kind v)
 value_printable column Null h = tt
 value_printable column (Number z) h = number_printable column.kind z h
 value_printable column (Text t) h = tt
 
-in_printable : (o : Option Column) (v : Value) → ((column : Column) → o ≡ Some column → IsTrue (holds column v)) → IsPrintable (loose_in o v)
+in_printable : (o : Option Column) (v : Value) → ((column : Column) → o ≡ Some column → IsTrue (may_hold column v)) → IsPrintable (loose_in o v)
 in_printable None v h = tt
 in_printable (Some column) v h = value_printable column v (h column refl)
 

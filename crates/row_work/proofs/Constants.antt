@@ -24,20 +24,22 @@ use Rattle.cs_types.specs.declared.refusal.ValueRefusal.TheVariants.{Overflow}
 use Rattle.cs_types.specs.Fit.{fit, kept_or, nearest, rounded}
 use Rattle.cs_types.specs.Kinds.{is_short, keeps_number}
 use Rattle.cs_types.specs.Rows.{cell_at, number_in}
-use Rattle.cs_types.specs.Schemas.{is_key_kind, IsSchema}
+use Rattle.cs_types.specs.Schemas.{is_key_kind, IsSchema, may_hold}
 use Rattle.cs_types.specs.Text.{loose_number, loose_of}
 use Rattle.cs_types.proofs.FitLemmas.{keeps_number-fits, ten_positive}
 use Rattle.cs_types.proofs.Rounding.{nearest-unique}
+use Rattle.cs_model.specs.declared.pred.Relation.{Relation}
 use Rattle.cs_model.specs.declared.pred.Relation.TheVariants as relation
 use Rattle.cs_model.specs.declared.truth.Truth.TheVariants.{True}
 use Rattle.cs_model.specs.Cells.{loose_at, loose_in}
-use Rattle.cs_model.specs.Held.{holds, IsRowAt}
+use Rattle.cs_model.specs.Held.{IsRowAt}
 use Rattle.cs_model.specs.Truths.{compare, number_cmp, truth_if}
 use Rattle.edit_laws.proofs.Lists.{take_next}
+use Rattle.row_work.proofs.Fitting.{column_at}
 
 -- ---- whole numbers
 
-one_mul : (m : ℤ) → m *ℤ pos (10 ^ 0) ≡ m
+pub one_mul : (m : ℤ) → m *ℤ pos (10 ^ 0) ≡ m
 one_mul (pos n) = let same : n * 10 ^ 0 ≡ n = omega arith in ap pos same
 one_mul (negsuc n) = let same : suc n * 10 ^ 0 ≡ suc n = omega arith in ap (λ k. neg_ℤ (pos k)) same
 
@@ -82,15 +84,15 @@ never_refused B z m s e small equal is = let both : Err e ≡ Ok (Number z) = is
 
 -- ---- comparisons that are True
 
-true_if : (t : Bool) → truth_if t ≡ True → t ≡ true
+pub true_if : (t : Bool) → truth_if t ≡ True → t ≡ true
 true_if true is = refl
 true_if false is = cc
 
-null_never : (x : Loose) → compare relation.Equal loose.Null x ≡ True → ⊥
-null_never loose.Null is = cc
-null_never (loose.Number m s) is = cc
-null_never (loose.Text t) is = cc
-null_never (loose.Day d) is = cc
+null_never : (sign : Relation) (x : Loose) → compare sign loose.Null x ≡ True → ⊥
+null_never sign loose.Null is = cc
+null_never sign (loose.Number m s) is = cc
+null_never sign (loose.Text t) is = cc
+null_never sign (loose.Day d) is = cc
 
 never_null : (x : Loose) → compare relation.Equal x loose.Null ≡ True → ⊥
 never_null loose.Null is = cc
@@ -134,47 +136,68 @@ day_key (Decimal p s) z d key is = cc
 day_key Date z d key is = exact_signed z d ((Equal-is (int_cmp z d)).0 (true_if (is_eq (int_cmp z d)) is))
 day_key (VarChar n) z d key is = cc
 
--- ---- the key of a row that equals a constant
+-- ---- the key of a row that stands so to a constant
 
--- a number that is kept in a key column equals the constant
-pub record EqualsKey (constant : Loose) (key : Key) : Type 0 where
+-- a number that is kept in a key column stands so to the constant
+pub record StandsToKey (sign : Relation) (constant : Loose) (key : Key) : Type 0 where
   pub kind : ColumnType
   pub is_key : is_key_kind kind ≡ true
   pub small : FitsSigned w64 key.0
-  pub equal : compare relation.Equal (loose_number kind key.0) constant ≡ True
+  pub stands : compare sign (loose_number kind key.0) constant ≡ True
 
-module _ (schema : Schema) (key : Key) (row : List Value) (table : IsSchema schema) (stands : IsRowAt schema key row) (constant : Loose) where
-  in_column : (column : Column) (v : Value) → slice_get schema.columns schema.key ≡ Some column → cell_at row schema.key ≡ v → IsTrue (holds column v) → compare relation.Equal (loose_of column.kind v) constant ≡ True → EqualsKey constant key
-  in_column column Null there is held equal = absurd (null_never constant equal)
-  in_column column (Number z) there is held equal =
-      let own : z ≡ key.0 = sym (ap number_in is) ∙ ap (λ (k : Key). k.0) stands.under in
-      record {
-        kind = column.kind;
-        is_key = table.key_kind column there;
-        small = subst (λ n. FitsSigned w64 n) own (keeps_number-fits column.kind z (table.kinds schema.key column there) held);
-        equal = subst (λ n. compare relation.Equal (loose_number column.kind n) constant ≡ True) own equal;
-      }
-  in_column column (Text t) there is held equal = absurd (no_text column.kind t (table.key_kind column there) held)
+abbrev pub EqualsKey : Loose → Key → Type 0
+EqualsKey constant key = StandsToKey relation.Equal constant key
 
-  pub equals_key : compare relation.Equal (loose_at schema row schema.key) constant ≡ True → EqualsKey constant key
-  equals_key equal = step (slice_get schema.columns schema.key) refl equal
-    where
-      step : (o : Option Column) → slice_get schema.columns schema.key ≡ o → compare relation.Equal (loose_in o (cell_at row schema.key)) constant ≡ True → EqualsKey constant key
-      step None there is = absurd (null_never constant is)
-      step (Some column) there is = in_column column (cell_at row schema.key) there refl (stands.held schema.key column there) is
+module _ (schema : Schema) (key : Key) (row : List Value) (table : IsSchema schema) (stands : IsRowAt schema key row) where
+  -- the number of the key
+  own_number : (z : ℤ) → cell_at row schema.key ≡ Number z → z ≡ key.0
+  own_number z is = sym (ap number_in is) ∙ ap (λ (k : Key). k.0) stands.under
+
+  small_number : (column : Column) (z : ℤ) → slice_get schema.columns schema.key ≡ Some column → cell_at row schema.key ≡ Number z → IsTrue (may_hold column (Number z)) → FitsSigned w64 key.0
+  small_number column z there is held = subst (λ n. FitsSigned w64 n) (own_number z is) (keeps_number-fits column.kind z (table.kinds schema.key column there) held)
+
+  small_in : (column : Column) (v : Value) → slice_get schema.columns schema.key ≡ Some column → cell_at row schema.key ≡ v → IsTrue (may_hold column v) → FitsSigned w64 key.0
+  small_in column Null there is held = let never = table.key_never_null column there in absurd (cc)
+  small_in column (Number z) there is held = small_number column z there is held
+  small_in column (Text t) there is held = absurd (no_text column.kind t (table.key_kind column there) held)
+
+  -- a key is a number of 64 bits
+  pub key_small : FitsSigned w64 key.0
+  key_small = let column = column_at schema.columns schema.key table.key_there in small_in column.0 (cell_at row schema.key) column.1 refl (stands.held schema.key column.0 column.1)
+
+  module _ (sign : Relation) (constant : Loose) where
+    in_column : (column : Column) (v : Value) → slice_get schema.columns schema.key ≡ Some column → cell_at row schema.key ≡ v → IsTrue (may_hold column v) → compare sign (loose_of column.kind v) constant ≡ True → StandsToKey sign constant key
+    in_column column Null there is held true' = absurd (null_never sign constant true')
+    in_column column (Number z) there is held true' = record {
+      kind = column.kind;
+      is_key = table.key_kind column there;
+      small = small_number column z there is held;
+      stands = subst (λ n. compare sign (loose_number column.kind n) constant ≡ True) (own_number z is) true';
+    }
+    in_column column (Text t) there is held true' = absurd (no_text column.kind t (table.key_kind column there) held)
+
+    pub stands_to_key : compare sign (loose_at schema row schema.key) constant ≡ True → StandsToKey sign constant key
+    stands_to_key true' = step (slice_get schema.columns schema.key) refl true'
+      where
+        step : (o : Option Column) → slice_get schema.columns schema.key ≡ o → compare sign (loose_in o (cell_at row schema.key)) constant ≡ True → StandsToKey sign constant key
+        step None there is = absurd (null_never sign constant is)
+        step (Some column) there is = in_column column (cell_at row schema.key) there refl (stands.held schema.key column there) is
+
+  pub equals_key : (constant : Loose) → compare relation.Equal (loose_at schema row schema.key) constant ≡ True → EqualsKey constant key
+  equals_key constant equal = stands_to_key relation.Equal constant equal
 
 pub no_key_of_null : (B : Type 0) (key : Key) → EqualsKey loose.Null key → B
-no_key_of_null B key e = absurd (never_null (loose_number e.kind key.0) e.equal)
+no_key_of_null B key e = absurd (never_null (loose_number e.kind key.0) e.stands)
 
 pub no_key_of_text : (B : Type 0) (key : Key) (t : List ℕ) → EqualsKey (loose.Text t) key → B
-no_key_of_text B key t e = absurd (never_text e.kind key.0 t e.equal)
+no_key_of_text B key t e = absurd (never_text e.kind key.0 t e.stands)
 
 pub key_of_day : (key : Key) (d : ℤ) → EqualsKey (loose.Day d) key → record { 0 = d } ≡ key
-key_of_day key d e = ap (λ n. record { 0 = n }) (sym (day_key e.kind key.0 d e.is_key e.equal))
+key_of_day key d e = ap (λ n. record { 0 = n }) (sym (day_key e.kind key.0 d e.is_key e.stands))
 
 -- a number that equals a key, by what is found of every whole number that it equals
 pub key_of_number : (key : Key) (m : ℤ) (s : ℕ) (o : Option ℤ) → ((z : ℤ) → FitsSigned w64 z → is_eq (number_cmp z 0 m s) ≡ true → o ≡ Some z) → EqualsKey (loose.Number m s) key → o ≡ Some key.0
-key_of_number key m s o found e = found key.0 e.small (number_key e.kind key.0 m s e.is_key e.equal)
+key_of_number key m s o found e = found key.0 e.small (number_key e.kind key.0 m s e.is_key e.stands)
 
 -- ---- one constant more
 

@@ -11,9 +11,9 @@ use Rattle.cs_types.specs.declared.Value.{Value}
 use Rattle.cs_types.specs.declared.Value.TheVariants.{Null, Number, Text}
 use Rattle.cs_types.specs.Kinds.{keeps, is_short}
 use Rattle.cs_types.specs.Rows.{cell_at, number_in, key_in, IsNumber}
-use Rattle.cs_types.specs.Schemas.{IsSchema, is_key_kind}
+use Rattle.cs_types.specs.Schemas.{IsSchema, is_key_kind, may_hold}
 use Rattle.cs_model.specs.Changes.{Table}
-use Rattle.cs_model.specs.Held.{holds, IsHeld, IsRowAt, IsFitTable}
+use Rattle.cs_model.specs.Held.{IsHeld, IsRowAt, IsFitTable}
 use Rattle.cs_model.specs.Text.{kind_or, IsPrintableKey}
 
 -- ---- keys
@@ -28,14 +28,14 @@ no_text_key Date t k h = absurd (cc)
 no_text_key (VarChar n) t k h = absurd (cc)
 
 -- a value that the key's column holds is a number in its type's range
-key_value : (column : Column) (v : Value) → IsTrue (is_key_kind column.kind) → column.nullable ≡ false → IsTrue (holds column v)
+key_value : (column : Column) (v : Value) → IsTrue (is_key_kind column.kind) → column.nullable ≡ false → IsTrue (may_hold column v)
     → IsNumber v × IsTrue (keeps column.kind (Number (number_in v)))
 key_value column Null k never h = absurd (cc)
 key_value column (Number z) k never h = (tt, h)
 key_value column (Text t) k never h = absurd (no_text_key column.kind t k h)
 
 -- the column at a place that is there
-column_at : (columns : List Column) (i : ℕ) → i < length columns → (column : Column) × (slice_get columns i ≡ Some column)
+pub column_at : (columns : List Column) (i : ℕ) → i < length columns → (column : Column) × (slice_get columns i ≡ Some column)
 column_at [] i within = absurd (omega arith)
 column_at (column ∷ columns) zero within = (column, refl)
 column_at (column ∷ columns) (suc i) within = column_at columns i (omega arith)

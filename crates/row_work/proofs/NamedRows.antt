@@ -48,14 +48,14 @@ true_is True is = refl
 true_is Unknown is = cc
 true_is False is = cc
 
-and_first : (a b : Truth) → and a b ≡ True → a ≡ True
+pub and_first : (a b : Truth) → and a b ≡ True → a ≡ True
 and_first True b is = refl
 and_first Unknown True is = cc
 and_first Unknown Unknown is = cc
 and_first Unknown False is = cc
 and_first False b is = is
 
-and_second : (a b : Truth) → and a b ≡ True → b ≡ True
+pub and_second : (a b : Truth) → and a b ≡ True → b ≡ True
 and_second True b is = is
 and_second Unknown True is = refl
 and_second Unknown Unknown is = cc
@@ -219,7 +219,7 @@ module _ (schema : Schema) (condition : Option Pred) (t : Table) (keys : List Ke
 
 -- ---- the answer
 
-kept_values : (schema : Schema) (query : Query) (rows : Table) → kept schema query (values_of rows) ≡ values_of (chosen schema query.filter rows)
+pub kept_values : (schema : Schema) (query : Query) (rows : Table) → kept schema query (values_of rows) ≡ values_of (chosen schema query.filter rows)
 kept_values schema query [] = refl
 kept_values schema query (e ∷ rows) = step (keeps schema query.filter e.1) (kept_values schema query rows)
   where

@@ -17,7 +17,7 @@ use Rattle.cs_types.specs.declared.refusal.ValueRefusal.TheVariants.{NullHere, T
 use Rattle.cs_types.specs.Fit.{rounded, range_refusal}
 use Rattle.cs_types.specs.Kinds.{scale_of, is_short, keeps}
 use Rattle.cs_types.specs.Rows.{cell_at, number_in, key_in}
-use Rattle.cs_types.specs.Schemas.{IsSchema}
+use Rattle.cs_types.specs.Schemas.{IsSchema, may_hold}
 use Rattle.cs_model.specs.declared.expr.Expr.{Expr}
 use Rattle.cs_model.specs.declared.entry.Refusal.{Refusal}
 use Rattle.cs_model.specs.declared.entry.Refusal.TheVariants.{Valued}
@@ -25,7 +25,7 @@ use Rattle.cs_model.specs.Expressions.{Computed, compute}
 use Rattle.cs_model.specs.Answers.{numbered, kept, computed_of, given, cell_onto, cells_from, row_onto, rows_from, inserted_cell, series_len, series, updated_by, updated_cell, updated_row}
 use Rattle.row_work.specs.declared.refusal.WriteRefusal.{WriteRefusal}
 use Rattle.row_work.specs.declared.refusal.WriteRefusal.TheVariants as refusal
-use Rattle.cs_model.specs.Held.{holds, IsHeld, IsRowAt}
+use Rattle.cs_model.specs.Held.{IsHeld, IsRowAt}
 use Rattle.row_work.specs.Gives.{RefusesCell, RefusesRow, RefusesRows, GivesRows}
 
 -- what stands behind a front, or its refusal
@@ -106,11 +106,11 @@ module _ {X Y : Type 0} (row_of : X → Result Y (ℕ × ℕ)) (plan : List X) w
 
 -- ---- columns hold what they keep
 
-kept_when : (column : Column) (b : Bool) (w v : Value) (e : ValueRefusal) → (IsTrue b → IsTrue (holds column w)) → numbered (cond b (Ok w) (Err e)) ≡ Ok v → IsTrue (holds column v)
-kept_when column true w v e h is = let same : w ≡ v = cc in subst (λ x. IsTrue (holds column x)) same (h refl)
+kept_when : (column : Column) (b : Bool) (w v : Value) (e : ValueRefusal) → (IsTrue b → IsTrue (may_hold column w)) → numbered (cond b (Ok w) (Err e)) ≡ Ok v → IsTrue (may_hold column v)
+kept_when column true w v e h is = let same : w ≡ v = cc in subst (λ x. IsTrue (may_hold column x)) same (h refl)
 kept_when column false w v e h is = absurd (cc)
 
-kept_holds : (column : Column) (x : Computed) (v : Value) → kept column x ≡ Ok v → IsTrue (holds column v)
+kept_holds : (column : Column) (x : Computed) (v : Value) → kept column x ≡ Ok v → IsTrue (may_hold column v)
 kept_holds column (Err e) v is = absurd (cc)
 kept_holds column (Ok loose.Null) v is = kept_when column column.nullable Null v NullHere (λ h. h) is
 kept_holds column (Ok (loose.Number m s)) v is = kept_when column (keeps column.kind (Number (rounded m s (scale_of column.kind)))) (Number (rounded m s (scale_of column.kind))) v (range_refusal column.kind) (λ h. h) is
@@ -118,21 +118,21 @@ kept_holds column (Ok (loose.Text t)) v is = kept_when column (is_short column.k
 kept_holds column (Ok (loose.Day d)) v is = kept_when column (keeps column.kind (Number d)) (Number d) v Overflow (λ h. h) is
 
 abbrev Holds : List Column → List Value → Type 0
-Holds list cells = (k : ℕ) (column : Column) → slice_get list k ≡ Some column → IsTrue (holds column (cell_at cells k))
+Holds list cells = (k : ℕ) (column : Column) → slice_get list k ≡ Some column → IsTrue (may_hold column (cell_at cells k))
 
-onto_held : (i : ℕ) (c : Column) (list : List Column) (k : Result Value ℕ) (rest : Result (List Value) (ℕ × ℕ)) (cells : List Value) → ((v : Value) → k ≡ Ok v → IsTrue (holds c v))
+onto_held : (i : ℕ) (c : Column) (list : List Column) (k : Result Value ℕ) (rest : Result (List Value) (ℕ × ℕ)) (cells : List Value) → ((v : Value) → k ≡ Ok v → IsTrue (may_hold c v))
     → ((more : List Value) → rest ≡ Ok more → Holds list more) → cell_onto i k rest ≡ Ok cells → Holds (c ∷ list) cells
 onto_held i c list (Err number) rest cells one all is = absurd (cc)
 onto_held i c list (Ok v) (Err e) cells one all is = absurd (cc)
 onto_held i c list (Ok v) (Ok more) cells one all is = let same : v ∷ more ≡ cells = cc in subst (Holds (c ∷ list)) same both
   where
     both : Holds (c ∷ list) (v ∷ more)
-    both zero column e = let here : c ≡ column = cc in subst (λ x. IsTrue (holds x v)) here (one v refl)
+    both zero column e = let here : c ≡ column = cc in subst (λ x. IsTrue (may_hold x v)) here (one v refl)
     both (suc k) column e = all more refl k column e
 
 -- each column of the list holds what is written to it
 abbrev CellsHeld : (ℕ → Column → Result Value ℕ) → ℕ → List Column → Type 0
-CellsHeld cell i list = (k : ℕ) (column : Column) → slice_get list k ≡ Some column → (j : ℕ) → j ≡ i + k → (v : Value) → cell j column ≡ Ok v → IsTrue (holds column v)
+CellsHeld cell i list = (k : ℕ) (column : Column) → slice_get list k ≡ Some column → (j : ℕ) → j ≡ i + k → (v : Value) → cell j column ≡ Ok v → IsTrue (may_hold column v)
 
 cells_held : (cell : ℕ → Column → Result Value ℕ) (i : ℕ) (list : List Column) (cells : List Value) → CellsHeld cell i list → cells_from cell i list ≡ Ok cells → Holds list cells
 cells_held cell i [] cells all is = λ k column e. absurd (cc)
@@ -158,8 +158,8 @@ inserted_held : (schema source : Schema) (columns : List ℕ) (read : List Value
 inserted_held schema source columns read exprs cells is =
     cells_held (inserted_cell source read columns exprs) 0 schema.columns cells (λ k column e j at v. kept_holds column (computed_of source read (given columns exprs j)) v) is
 
-set_held : (schema : Schema) (row : List Value) (k : ℕ) (column : Column) (set : Option (ℕ × Expr)) (v : Value) → IsTrue (holds column (cell_at row k)) → updated_by schema row k column set ≡ Ok v → IsTrue (holds column v)
-set_held schema row k column None v was is = let same : cell_at row k ≡ v = cc in subst (λ x. IsTrue (holds column x)) same was
+set_held : (schema : Schema) (row : List Value) (k : ℕ) (column : Column) (set : Option (ℕ × Expr)) (v : Value) → IsTrue (may_hold column (cell_at row k)) → updated_by schema row k column set ≡ Ok v → IsTrue (may_hold column v)
+set_held schema row k column None v was is = let same : cell_at row k ≡ v = cc in subst (λ x. IsTrue (may_hold column x)) same was
 set_held schema row k column (Some set) v was is = kept_holds column (compute set.1 row schema) v is
 
 pub inserted_is_row : (schema source : Schema) (columns : List ℕ) (read : List Value) (exprs : List Expr) (cells : List Value)
@@ -174,7 +174,7 @@ updated_held : (schema : Schema) (sets : List (ℕ × Expr)) (row cells : List V
 updated_held schema sets row cells held is =
     cells_held (updated_cell schema sets row) 0 schema.columns cells
     (λ k column e j at v. set_held schema row j column (find (λ (set : ℕ × Expr). set.0 == j) sets) v
-    (let same : k ≡ j = omega (arith, at) in subst (λ n. IsTrue (holds column (cell_at row n))) same (held k column e))) is
+    (let same : k ≡ j = omega (arith, at) in subst (λ n. IsTrue (may_hold column (cell_at row n))) same (held k column e))) is
 
 -- the cell that is written at a place
 abbrev IsWritten : (ℕ → Column → Result Value ℕ) → ℕ → ℕ → List Value → Type 0

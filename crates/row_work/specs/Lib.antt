@@ -4,3 +4,6 @@ pub mod Sources
 pub mod Keyed
 pub mod Inserts
 pub mod Named
+pub mod Sieved
+pub mod Bounds
+pub mod Stores

@@ -3,8 +3,10 @@ use Rattle.std.specs.Prelude.{ℕ, List, map, Option, Some, slice_get}
 use Rattle.std.specs.Option.{option_map, option_and_then}
 use Rattle.cs_types.specs.declared.Key.{Key}
 use Rattle.cs_types.specs.declared.Value.{Value}
+use Rattle.cs_types.specs.Rows.{key_in}
 use Rattle.cs_model.specs.Changes.{Edit, Table}
 use Rattle.write_set.specs.declared.write.Write.{Write}
+use Rattle.row_group.specs.Groups.{Group, row_at}
 use Rattle.group_view.specs.declared.view.Pinned.{Pinned}
 use Rattle.group_view.specs.Parts.{Rowed, padded}
 use Rattle.group_view.specs.Views.{version_at, Shows}
@@ -16,6 +18,13 @@ use Rattle.row_work.specs.declared.choose.Source.TheVariants.{Shown, Own}
 abbrev pub row_of : ℕ → Pinned → Source → Option (List Value)
 row_of width pinned (Shown place) = option_map (λ (rowed : Rowed). padded width rowed.row) (version_at pinned.view place)
 row_of width pinned (Own i) = option_and_then (λ (write : Write). write.row) (slice_get pinned.own i)
+
+-- the row at a position of a packed group, which stands at a place of the view
+abbrev pub chosen_at : ℕ → Group → ℕ → Chosen
+chosen_at place group position = record {
+  key = key_in group.key (row_at group position).cells;
+  source = Shown (record { group = place; position = position });
+}
 
 -- a chosen key with the row that stands there
 abbrev pub chosen_edit : ℕ → Pinned → Chosen → Edit

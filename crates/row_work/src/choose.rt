@@ -8,20 +8,23 @@ ghost use Rattle.cs_model.specs.Answers as spec;
 ghost use Rattle.cs_model.specs.Queries.{keeps};
 ghost use Rattle.cs_model.specs.Obstacles.{has_row};
 ghost use Rattle.write_set.specs.Writes.{Ascend};
-ghost use Rattle.group_view.specs.Parts.{IsFitting};
+ghost use Rattle.group_view.specs.Parts.{packed_versions, IsFitting};
 ghost use Rattle.group_view.specs.Views.{rowed_of};
 ghost use Rattle.row_work.specs.Named.{rows_at};
 ghost use Rattle.row_work.specs.Reads.{own_row, read_by, read_row, row_in, rowed_at, shown_by, HasSnapshot, MayRead};
-ghost use Rattle.row_work.specs.Sources.{chosen_edit, rows_as_edits, row_of, IsShown};
+ghost use Rattle.row_work.specs.Sources.{chosen_at, chosen_edit, rows_as_edits, row_of, IsShown};
 
 use crate::lookup::read_at_key;
 use crate::named::named_keys;
 use crate::reading::{ReadRow, has_row_shown, read_at, row_at};
 use batch_aggregate::keeps;
+use batch_scan::{is_skipped, kept_positions};
 use cs_base::Memory;
 use cs_model::Pred;
 use cs_types::{Key, Row, Schema};
-use group_view::{Pinned, Place};
+use delete_bitmap::Marks;
+use group_view::{GroupRef, Pinned, Place};
+use row_group::Packed;
 use std::alloc::Global;
 use write_set::Own;
 
@@ -55,8 +58,8 @@ fn choose_read(
     Ok(())
 }
 
-/// Chooses the rows of a group that are read and that the condition keeps.
-fn choose_in_group(
+/// Chooses the rows of a delta store that are read and that the condition keeps.
+fn choose_in_store(
     alloc: Global,
     chosen: &mut Vec<Chosen>,
     schema: &Schema,
@@ -74,12 +77,82 @@ fn choose_in_group(
     let len = pinned.view.groups.at(group).1.len();
     for position in 0..len {
         let place = Place { group, position };
-        if let Some((key, read)) = read_at(alloc, pinned, place, width)? {
+        if let Some((key, read)) = read_at(alloc, pinned, place, width, &None)? {
             let source = Source::Shown(place);
             choose_read(chosen, schema, condition, Chosen { key, source }, read)?;
         }
     }
     Ok(())
+}
+
+/// Chooses the rows of a packed group at positions.
+fn choose_positions(
+    chosen: &mut Vec<Chosen>,
+    packed: &Packed,
+    group: usize,
+    positions: &[usize],
+) -> Result<(), Memory>
+    requires { All (λ position. position < length packed.now.rows) positions.now }
+    ensures { OnOk result (chosen.new.items ≡ chosen.old.items ++ map (chosen_at group packed.now) positions.now) }
+{
+    for position in positions {
+        let key = packed.key_at(*position);
+        let source = Source::Shown(Place {
+            group,
+            position: *position,
+        });
+        chosen.push(Chosen { key, source })?;
+    }
+    Ok(())
+}
+
+/// Chooses the rows of a packed group that are read and that the condition keeps. One that the condition skips is passed over, and no
+/// row is made to be judged but where the condition has to be judged row by row.
+fn choose_in_packed(
+    alloc: Global,
+    chosen: &mut Vec<Chosen>,
+    schema: &Schema,
+    condition: &Option<Pred>,
+    pinned: &Pinned,
+    group: usize,
+    packed: &Packed,
+    marks: &Marks,
+) -> Result<(), Memory>
+    requires fits { length marks.now ≡ length packed.now.rows }
+    requires versions { rowed_at pinned.now.view group ≡ packed_versions packed.now.key packed.now.rows marks.now }
+    requires shown { All (IsShown pinned.now) chosen.old.items }
+    ensures rows { OnOk result (map (chosen_edit (length schema.now.columns) pinned.now) chosen.new.items ≡ map (chosen_edit (length schema.now.columns) pinned.now) chosen.old.items ++ rows_as_edits (spec.chosen schema.now condition.now (filter_map (read_row (length schema.now.columns) pinned.now) (rowed_at pinned.now.view group)))) }
+    ensures shown { OnOk result (All (IsShown pinned.now) chosen.new.items) }
+{
+    let pred = condition.as_ref();
+    if is_skipped(schema, pred, packed) {
+        return Ok(());
+    }
+    let positions = kept_positions(alloc, pinned, pred, schema, packed, marks)?;
+    choose_positions(chosen, packed, group, &positions)
+}
+
+/// Chooses the rows of a group that are read and that the condition keeps.
+fn choose_in_group(
+    alloc: Global,
+    chosen: &mut Vec<Chosen>,
+    schema: &Schema,
+    condition: &Option<Pred>,
+    pinned: &Pinned,
+    group: usize,
+) -> Result<(), Memory>
+    requires there { group < length pinned.now.view.groups }
+    requires fitting { All (λ group. IsFitting group.1) pinned.now.view.groups }
+    requires shown { All (IsShown pinned.now) chosen.old.items }
+    ensures rows { OnOk result (map (chosen_edit (length schema.now.columns) pinned.now) chosen.new.items ≡ map (chosen_edit (length schema.now.columns) pinned.now) chosen.old.items ++ rows_as_edits (spec.chosen schema.now condition.now (filter_map (read_row (length schema.now.columns) pinned.now) (rowed_at pinned.now.view group)))) }
+    ensures shown { OnOk result (All (IsShown pinned.now) chosen.new.items) }
+{
+    match pinned.view.group(group) {
+        GroupRef::Packed(packed, marks) => choose_in_packed(
+            alloc, chosen, schema, condition, pinned, group, packed, marks,
+        ),
+        GroupRef::Store(_) => choose_in_store(alloc, chosen, schema, condition, pinned, group),
+    }
 }
 
 /// Chooses the rows of the view that are read and that the condition keeps.

@@ -6,8 +6,9 @@ ghost use Rattle.cs_model.specs.Obstacles.{has_row};
 ghost use Rattle.group_view.specs.Parts.{padded};
 ghost use Rattle.group_view.specs.Views.{version_at};
 ghost use Rattle.row_work.specs.declared.reading.ReadRow.{ReadRow};
-ghost use Rattle.row_work.specs.Reads.{read_by, read_key, read_row, row_in, shown_by, HasSnapshot};
+ghost use Rattle.row_work.specs.Reads.{read_by, read_key, read_row, row_in, shown_by, HasSnapshot, IsKnown};
 
+use batch_scan::{Shown, key_seen};
 use cs_base::Memory;
 use cs_types::{Key, Row};
 use group_view::{GroupRef, GroupView, Pinned, Place};
@@ -52,31 +53,45 @@ pub fn row_at<'a>(
     Ok(ReadRow::Made(view.row(alloc, place, width)?))
 }
 
-/// The key of the version at a place, where the statement reads it: the snapshot sees it, and no own write is of its key.
-fn key_read(pinned: &Pinned, place: Place) -> Option<Key>
-    requires { IsSome (version_at pinned.now.view place) }
+/// The key of the version at a place of a packed group, where the statement reads it, by the positions that are read.
+fn key_shown(pinned: &Pinned, place: Place, shown: &Shown) -> Option<Key>
+    requires there { IsSome (version_at pinned.now.view place) }
+    requires known { IsKnown pinned.now place.group (Some shown.now) }
     ensures { result ≡ option_and_then (read_key pinned.now) (version_at pinned.now.view place) }
 {
-    let version = pinned.view.version(place);
-    let seen = version.is_visible(pinned.view.buffer(), pinned.snapshot);
-    if seen && pinned.own.find(version.key).is_none() {
-        Some(version.key)
+    if shown.has(place.position) {
+        Some(pinned.view.version(place).key)
     } else {
         None
     }
 }
 
-/// The version at a place as it is read: its row in so many cells, with its key. None where it is not read.
+/// The key of the version at a place, where the statement reads it, by what is known of the group.
+fn key_read(pinned: &Pinned, place: Place, known: &Option<Shown>) -> Option<Key>
+    requires there { IsSome (version_at pinned.now.view place) }
+    requires known { IsKnown pinned.now place.group known.now }
+    ensures { result ≡ option_and_then (read_key pinned.now) (version_at pinned.now.view place) }
+{
+    match known {
+        Some(shown) => key_shown(pinned, place, shown),
+        None => key_seen(pinned, place),
+    }
+}
+
+/// The version at a place as it is read, by what is known of its group: its row in so many cells, with its key. None where it is
+/// not read.
 pub fn read_at<'a>(
     alloc: Global,
     pinned: &'a Pinned,
     place: Place,
     width: usize,
+    known: &Option<Shown>,
 ) -> Result<Option<(Key, ReadRow<'a>)>, Memory>
-    requires { IsSome (version_at pinned.now.view place) }
+    requires there { IsSome (version_at pinned.now.view place) }
+    requires known { IsKnown pinned.now place.group known.now }
     ensures { IfOk result (λ read. option_map (λ (entry : Key × ReadRow). (entry.0, row_in entry.1)) read ≡ option_and_then (read_row width pinned.now) (version_at pinned.now.view place)) }
 {
-    match key_read(pinned, place) {
+    match key_read(pinned, place, known) {
         Some(key) => Ok(Some((key, row_at(alloc, &pinned.view, place, width)?))),
         None => Ok(None),
     }

@@ -1,6 +1,6 @@
 //! The answer of a SELECT.
 
-ghost use Rattle.std.specs.Prelude.{◌≡◌, ◌++◌, ◌∷◌, [], ◌<◌, List, length, All, IfOk, OnOk};
+ghost use Rattle.std.specs.Prelude.{◌≡◌, ◌++◌, ◌<◌, List, length, All, IfOk, OnOk};
 ghost use Rattle.std.specs.List.{filter_map};
 ghost use Rattle.std.specs.Map.{values_of};
 ghost use Rattle.cs_types.specs.declared.Value.{Value};
@@ -8,68 +8,117 @@ ghost use Rattle.cs_model.specs.Queries.{Gives, answer};
 ghost use Rattle.cs_model.specs.Text.{IsPrintableRow};
 ghost use Rattle.batch_aggregate.specs.Standing.{StandsFor};
 ghost use Rattle.write_set.specs.Writes.{Ascend};
-ghost use Rattle.group_view.specs.Parts.{IsFitting};
+ghost use Rattle.batch_scan.specs.Reads.{is_read};
 ghost use Rattle.group_view.specs.Views.{rowed_of};
 ghost use Rattle.row_work.specs.Named.{rows_at};
-ghost use Rattle.row_work.specs.Reads.{own_row, read_by, read_row, row_in, rowed_at, HasSnapshot, MayRead};
+ghost use Rattle.row_work.specs.Reads.{own_row, read_by, read_row, rowed_at, HasSnapshot, MayRead};
+ghost use Rattle.row_work.specs.Sieved.{read_in};
+ghost use Rattle.row_work.specs.Stores.{read_at_position, PassesAt};
 
+use crate::adding::{add_read, add_versions};
 use crate::lookup::read_at_key;
 use crate::named::named_keys;
-use crate::reading::{ReadRow, read_at};
+use crate::packed::add_packed;
+use crate::stores::{positions_read, read_at_position};
 use batch_aggregate::Partial;
 use cs_base::{Items, Memory};
 use cs_model::{AnswerRefusal, AnswerRow, Query};
 use cs_types::{Key, Schema};
-use group_view::{Pinned, Place};
+use group_view::{GroupRef, Pinned, Place};
 use std::alloc::Global;
 use write_set::Own;
 
-/// Adds a row that was read.
-fn add_read(partial: &mut Partial<'_>, read: ReadRow<'_>) -> Result<(), Memory>
-    ensures schema { partial.new.schema.now ≡ partial.old.schema.now }
-    ensures query { partial.new.query.now ≡ partial.old.query.now }
-    ensures added { (rows : List (List Value)) → StandsFor partial.old rows → OnOk result (StandsFor partial.new (rows ++ row_in read.entry ∷ [])) }
-{
-    partial.add(read.row())
-}
-
-/// Adds the rows of a group that are read, in so many cells.
-fn add_group(
+/// Adds the rows of versions of a group that are read, by their positions, in so many cells.
+fn add_at_positions(
     alloc: Global,
     partial: &mut Partial<'_>,
     pinned: &Pinned,
     group: usize,
     width: usize,
+    positions: &[usize],
 ) -> Result<(), Memory>
-    requires there { group < length pinned.now.view.groups }
-    requires fitting { All (λ group. IsFitting group.1) pinned.now.view.groups }
+    requires { All (PassesAt (is_read pinned.now) (rowed_at pinned.now.view group)) positions.now }
     ensures schema { partial.new.schema.now ≡ partial.old.schema.now }
     ensures query { partial.new.query.now ≡ partial.old.query.now }
-    ensures added { (rows : List (List Value)) → StandsFor partial.old rows → OnOk result (StandsFor partial.new (rows ++ values_of (filter_map (read_row width pinned.now) (rowed_at pinned.now.view group)))) }
+    ensures added { (rows : List (List Value)) → StandsFor partial.old rows → OnOk result (StandsFor partial.new (rows ++ values_of (filter_map (read_at_position width pinned.now (rowed_at pinned.now.view group)) positions.now))) }
 {
-    let len = pinned.view.groups.at(group).1.len();
-    for position in 0..len {
-        if let Some((_key, read)) = read_at(alloc, pinned, Place { group, position }, width)? {
-            add_read(partial, read)?;
-        }
+    for position in positions {
+        let place = Place {
+            group,
+            position: *position,
+        };
+        let (_key, read) = read_at_position(alloc, pinned, place, width)?;
+        add_read(partial, read)?;
     }
     Ok(())
 }
 
-/// Adds the rows of the view that are read, in so many cells.
+/// Adds the rows of a delta store that are read. Rows of which its keys tell that the filter does not keep them may be left out.
+fn add_store(
+    alloc: Global,
+    partial: &mut Partial<'_>,
+    schema: &Schema,
+    query: &Query,
+    pinned: &Pinned,
+    group: usize,
+) -> Result<(), Memory>
+    requires there { group < length pinned.now.view.groups }
+    requires may { MayRead schema.now pinned.now }
+    requires of_schema { partial.old.schema.now ≡ schema.now }
+    requires of_query { partial.old.query.now ≡ query.now }
+    ensures schema { partial.new.schema.now ≡ partial.old.schema.now }
+    ensures query { partial.new.query.now ≡ partial.old.query.now }
+    ensures added { (rows : List (List Value)) → StandsFor partial.old rows → OnOk result (StandsFor partial.new (rows ++ read_in (length schema.now.columns) pinned.now (rowed_at pinned.now.view group))) }
+{
+    let width = schema.columns.len();
+    match positions_read(alloc, schema, &query.filter, pinned, group)? {
+        Some(positions) => add_at_positions(alloc, partial, pinned, group, width, &positions),
+        None => add_versions(alloc, partial, pinned, group, width, &None, &None),
+    }
+}
+
+/// Adds the rows of a group that are read.
+fn add_group(
+    alloc: Global,
+    partial: &mut Partial<'_>,
+    schema: &Schema,
+    query: &Query,
+    pinned: &Pinned,
+    group: usize,
+) -> Result<(), Memory>
+    requires there { group < length pinned.now.view.groups }
+    requires may { MayRead schema.now pinned.now }
+    requires of_schema { partial.old.schema.now ≡ schema.now }
+    requires of_query { partial.old.query.now ≡ query.now }
+    ensures schema { partial.new.schema.now ≡ partial.old.schema.now }
+    ensures query { partial.new.query.now ≡ partial.old.query.now }
+    ensures added { (rows : List (List Value)) → StandsFor partial.old rows → OnOk result (StandsFor partial.new (rows ++ read_in (length schema.now.columns) pinned.now (rowed_at pinned.now.view group))) }
+{
+    match pinned.view.group(group) {
+        GroupRef::Packed(packed, marks) => {
+            add_packed(alloc, partial, schema, query, pinned, group, packed, marks)
+        }
+        GroupRef::Store(_) => add_store(alloc, partial, schema, query, pinned, group),
+    }
+}
+
+/// Adds the rows of the view that are read, group after group.
 fn add_shown(
     alloc: Global,
     partial: &mut Partial<'_>,
+    schema: &Schema,
+    query: &Query,
     pinned: &Pinned,
-    width: usize,
 ) -> Result<(), Memory>
-    requires { All (λ group. IsFitting group.1) pinned.now.view.groups }
+    requires may { MayRead schema.now pinned.now }
+    requires of_schema { partial.old.schema.now ≡ schema.now }
+    requires of_query { partial.old.query.now ≡ query.now }
     ensures schema { partial.new.schema.now ≡ partial.old.schema.now }
     ensures query { partial.new.query.now ≡ partial.old.query.now }
-    ensures added { (rows : List (List Value)) → StandsFor partial.old rows → OnOk result (StandsFor partial.new (rows ++ values_of (filter_map (read_row width pinned.now) (rowed_of pinned.now.view)))) }
+    ensures added { (rows : List (List Value)) → StandsFor partial.old rows → OnOk result (StandsFor partial.new (rows ++ values_of (filter_map (read_row (length schema.now.columns) pinned.now) (rowed_of pinned.now.view)))) }
 {
     for group in 0..pinned.view.len() {
-        add_group(alloc, partial, pinned, group, width)?;
+        add_group(alloc, partial, schema, query, pinned, group)?;
     }
     Ok(())
 }
@@ -121,9 +170,8 @@ fn answer_of_all(
     requires { MayRead schema.now pinned.now }
     ensures { Gives result (answer schema.now query.now (values_of (read_by (length schema.now.columns) pinned.now))) }
 {
-    let width = schema.columns.len();
     let mut partial = Partial::new(alloc, schema, query)?;
-    add_shown(alloc, &mut partial, pinned, width)?;
+    add_shown(alloc, &mut partial, schema, query, pinned)?;
     add_own(&mut partial, &pinned.own)?;
     partial.result()
 }

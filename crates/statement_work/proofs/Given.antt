@@ -33,6 +33,7 @@ decided_write schema bound.Begin table r write valued = absurd (cc write)
 decided_write schema bound.Commit table r write valued = absurd (cc write)
 decided_write schema bound.Rollback table r write valued = absurd (cc write)
 decided_write schema bound.Nothing table r write valued = absurd (cc write)
+decided_write schema (bound.Statistics on) table r write valued = absurd (cc write)
 decided_write schema (bound.Insert plan) table r write valued = valued
 decided_write schema (bound.Update plan) table r write valued = valued
 decided_write schema (bound.Delete condition) table r write valued = valued

@@ -1,28 +1,19 @@
 -- Edits that fit a table, as a parcel takes them.
-use Rattle.std.proofs.Common.{◌≡◌, IsTrue}
+use Rattle.std.proofs.Common.{◌≡◌}
 use Rattle.std.specs.Prelude.{Option, None, Some, IfSome}
 use Rattle.std.specs.List.{All}
-use Rattle.cs_types.specs.declared.Column.{Column}
 use Rattle.cs_types.specs.declared.Schema.{Schema}
 use Rattle.cs_types.specs.declared.Key.{Key}
 use Rattle.cs_types.specs.declared.Value.{Value}
-use Rattle.cs_types.specs.declared.Value.TheVariants.{Null, Number, Text}
-use Rattle.cs_types.specs.Rows.{cell_at}
-use Rattle.cs_types.specs.Schemas.{may_hold}
 use Rattle.cs_model.specs.Changes.{Edit}
-use Rattle.cs_model.specs.Held.{holds, IsFit, MayStand}
+use Rattle.cs_model.specs.Held.{IsFit, MayStand}
 use Rattle.std.specs.Prelude.{List}
 use Rattle.tuple_mover.specs.Inserts.{FitsIn, IsEntryOf}
-
-may_held : (column : Column) (v : Value) → IsTrue (holds column v) → IsTrue (may_hold column v)
-may_held column Null h = h
-may_held column (Number z) h = h
-may_held column (Text t) h = h
 
 given : (schema : Schema) (key : Key) (o : Option (List Value)) → MayStand schema key o → IfSome o (λ (row : List Value). IsEntryOf schema (key, row))
 given schema key None stands = tt
 given schema key (Some row) stands = record {
-  row = record { short = stands.width; held = λ i column at. may_held column (cell_at row i) (stands.held i column at) };
+  row = record { short = stands.width; held = stands.held };
   key = stands.under;
 }
 

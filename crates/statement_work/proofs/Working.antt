@@ -1,6 +1,6 @@
 -- What the work on a started statement gives.
 use Rattle.std.proofs.Common.{◌≡◌, ◌∙◌, ℕ, List, [], length, true, false, refl, sym, ap, subst}
-use Rattle.std.specs.Prelude.{Option, None, Some, Result, Ok, Err}
+use Rattle.std.specs.Prelude.{Option, None, Some, Result, Ok, Err, IfSome}
 use Rattle.std.specs.List.{All}
 use Rattle.std.specs.Map.{values_of}
 use Rattle.cs_types.specs.declared.Loose.{Loose}
@@ -36,9 +36,11 @@ use Rattle.row_work.specs.Inserts.{AreInserted}
 use Rattle.row_work.specs.Keyed.{Replaces}
 use Rattle.row_work.specs.Reads.{read_by}
 use Rattle.row_work.proofs.Fits.{delete_fits, insert_fits, update_fits, Fits}
+use Rattle.statement_core.specs.declared.started.Outcome.{Outcome}
 use Rattle.statement_core.specs.declared.started.Outcome.TheVariants as outcome
 use Rattle.statement_core.specs.declared.started.Started.{Started}
 use Rattle.statement_core.specs.Begun.{Pins}
+use Rattle.statement_core.specs.Counted.{outcome_counts, condition_of, ArePinnedCounts, AreCountsOf}
 use Rattle.statement_core.specs.Outcomes.{GivesOn, IsDecided}
 use Rattle.tuple_mover.specs.Inserts.{FitsIn}
 use Rattle.statement_work.specs.Clerks.{IsBegun, NeedsParcel}
@@ -54,6 +56,10 @@ schema_in started = started.terms.value.schema.value
 
 abbrev width_in : Started → ℕ
 width_in started = let schema = schema_in started in length schema.columns
+
+-- an outcome without counts of segments tells none
+pub untold : (started : Started) (result : Outcome) → outcome_counts result ≡ None → AreCountsOf started result
+untold started result none = subst (λ o. IfSome o (ArePinnedCounts (schema_in started) (condition_of started.bound.value) started.pinned)) (sym none) tt
 
 module _ (begun : Begun) (started : Started) where
   pub is_schema : (statement : Bound) → IsBegun begun started statement → IsSchema (schema_in started)
@@ -151,15 +157,15 @@ module _ (begun : Begun) (started : Started) where
         ap (λ s. answer s query (values_of (read_by (width_in started) pinned))) is.hands.schema
         ∙ ap (λ (t : Table). answer begun.schema query (values_of t)) (read_as (Select query) is pinned (pins_of begun started (Select query) is refl pinned there))
 
-    decided : (r : Reply) → IsAnswer false (answer (schema_in started) query (values_of (read_by (width_in started) pinned))) r → IsPrintableReply begun.schema r → GivesOn sizes begun (outcome.Answer r)
+    decided : (r : Reply) → IsAnswer true (answer (schema_in started) query (values_of (read_by (width_in started) pinned))) r → IsPrintableReply begun.schema r → GivesOn sizes begun (outcome.Answer r)
     decided r answered printable =
-        (is.long, subst (λ b. IsDecided begun.schema b (seen_by begun) r) (sym is.bound) (subst (λ a. IsAnswer false a r) answer_is answered), printable)
+        (is.long, subst (λ b. IsDecided begun.schema b (seen_by begun) r) (sym is.bound) (subst (λ a. IsAnswer true a r) answer_is answered), printable)
 
-    pub rows_decided : (found : List (List Loose)) → answer (schema_in started) query (values_of (read_by (width_in started) pinned)) ≡ Ok found → All IsPrintableRow found → GivesOn sizes begun (outcome.Answer (Rows found None))
-    rows_decided found given printable = decided (Rows found None) (subst (λ a. IsAnswer false a (Rows found None)) (sym given) (refl, refl)) printable
+    pub rows_decided : (found : List (List Loose)) (counts : ℕ × ℕ) → answer (schema_in started) query (values_of (read_by (width_in started) pinned)) ≡ Ok found → All IsPrintableRow found → GivesOn sizes begun (outcome.Answer (Rows found (Some counts)))
+    rows_decided found counts given printable = decided (Rows found (Some counts)) (subst (λ a. IsAnswer true a (Rows found (Some counts))) (sym given) (refl, refl)) printable
 
     pub overflow_decided : (row column : ℕ) → answer (schema_in started) query (values_of (read_by (width_in started) pinned)) ≡ Err (row, column) → GivesOn sizes begun (outcome.Answer (Refused (Valued 8115 row column)))
-    overflow_decided row column given = decided (Refused (Valued 8115 row column)) (subst (λ a. IsAnswer false a (Refused (Valued 8115 row column))) (sym given) refl) tt
+    overflow_decided row column given = decided (Refused (Valued 8115 row column)) (subst (λ a. IsAnswer true a (Refused (Valued 8115 row column))) (sym given) refl) tt
 
   -- ---- a COMMIT
 

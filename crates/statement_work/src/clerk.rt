@@ -2,6 +2,7 @@
 ghost use Rattle.std.specs.Prelude.{◌≡◌, IsSome, Some};
 ghost use Rattle.cs_model.specs.declared.entry.Bound.TheVariants as bound;
 ghost use Rattle.log_laws.specs.Started.{Begun};
+ghost use Rattle.statement_core.specs.Counted.{AreCountsOf};
 ghost use Rattle.statement_core.specs.Outcomes.{GivesOn};
 ghost use Rattle.statement_core.specs.Terms.{sizes_of, AreTerms};
 ghost use Rattle.statement_work.specs.Clerks.{IsBegun};
@@ -10,14 +11,22 @@ use crate::writes::{changed, refused, valued, written};
 use cs_base::Memory;
 use cs_model::{AnswerRefusal, Bound, InsertPlan, Pred, Query, Reply, UpdatePlan};
 use group_view::{Claim, Pinned, Product};
-use row_work::{answer, deleted, inserted, updated};
+use row_work::{answer, deleted, inserted, segment_counts, updated};
 use statement_core::{Desk, Outcome, Started};
 use std::alloc::Global;
+use std::sync::Wait;
 use tuple_mover::{parcel_of, work};
 
 /// Who does the work of statements, one row after the other, over what was pinned, and the work of movers. It keeps nothing.
 #[derive(Clone, Copy, Debug)]
 pub struct Clerk;
+
+impl Clerk {
+    /// The desk of the program.
+    pub fn new() -> Clerk {
+        Clerk
+    }
+}
 
 /// What is pinned for a statement of the table.
 fn pinned_of(started: &Started) -> &Pinned
@@ -34,7 +43,8 @@ fn pinned_of(started: &Started) -> &Pinned
 fn insert(alloc: Global, started: &Started, plan: &InsertPlan) -> Outcome
     requires terms { AreTerms started.now.terms.value }
     requires begun { (begun : Begun) × IsBegun begun started.now (bound.Insert plan.now) }
-    ensures { (begun : Begun) → IsBegun begun started.now (bound.Insert plan.now) → GivesOn (sizes_of started.now.terms.value) begun result }
+    ensures counted { AreCountsOf started.now result }
+    ensures gives { (begun : Begun) → IsBegun begun started.now (bound.Insert plan.now) → GivesOn (sizes_of started.now.terms.value) begun result }
 {
     let terms = &*started.terms;
     match inserted(alloc, &terms.schema, plan, pinned_of(started)) {
@@ -47,7 +57,8 @@ fn insert(alloc: Global, started: &Started, plan: &InsertPlan) -> Outcome
 fn update(alloc: Global, started: &Started, plan: &UpdatePlan) -> Outcome
     requires terms { AreTerms started.now.terms.value }
     requires begun { (begun : Begun) × IsBegun begun started.now (bound.Update plan.now) }
-    ensures { (begun : Begun) → IsBegun begun started.now (bound.Update plan.now) → GivesOn (sizes_of started.now.terms.value) begun result }
+    ensures counted { AreCountsOf started.now result }
+    ensures gives { (begun : Begun) → IsBegun begun started.now (bound.Update plan.now) → GivesOn (sizes_of started.now.terms.value) begun result }
 {
     let terms = &*started.terms;
     match updated(alloc, &terms.schema, plan, pinned_of(started)) {
@@ -60,7 +71,8 @@ fn update(alloc: Global, started: &Started, plan: &UpdatePlan) -> Outcome
 fn delete(alloc: Global, started: &Started, condition: &Option<Pred>) -> Outcome
     requires terms { AreTerms started.now.terms.value }
     requires begun { (begun : Begun) × IsBegun begun started.now (bound.Delete condition.now) }
-    ensures { (begun : Begun) → IsBegun begun started.now (bound.Delete condition.now) → GivesOn (sizes_of started.now.terms.value) begun result }
+    ensures counted { AreCountsOf started.now result }
+    ensures gives { (begun : Begun) → IsBegun begun started.now (bound.Delete condition.now) → GivesOn (sizes_of started.now.terms.value) begun result }
 {
     let terms = &*started.terms;
     match deleted(alloc, &terms.schema, condition, pinned_of(started)) {
@@ -69,16 +81,20 @@ fn delete(alloc: Global, started: &Started, condition: &Option<Pred>) -> Outcome
     }
 }
 
-/// The outcome of a SELECT: its answer, or the first row and item whose whole count or sum is out of its range.
+/// The outcome of a SELECT: its answer with the counts of segments, or the first row and item whose whole count or sum is out of
+/// its range.
 fn select(alloc: Global, started: &Started, query: &Query) -> Outcome
     requires terms { AreTerms started.now.terms.value }
     requires begun { (begun : Begun) × IsBegun begun started.now (bound.Select query.now) }
-    ensures { (begun : Begun) → IsBegun begun started.now (bound.Select query.now) → GivesOn (sizes_of started.now.terms.value) begun result }
+    ensures gives { (begun : Begun) → IsBegun begun started.now (bound.Select query.now) → GivesOn (sizes_of started.now.terms.value) begun result }
+    ensures counted { AreCountsOf started.now result }
 {
-    match answer(alloc, &started.terms.schema, query, pinned_of(started)) {
+    let schema = &*started.terms.schema;
+    let pinned = pinned_of(started);
+    match answer(alloc, schema, query, pinned) {
         Ok(found) => Outcome::Answer(Reply::Rows {
             rows: found,
-            segments: None,
+            segments: Some(segment_counts(schema, &query.filter, pinned)),
         }),
         Err(AnswerRefusal::Overflow { row, column }) => valued(8_115, row, column),
         Err(AnswerRefusal::Memory) => Outcome::Short,
@@ -89,7 +105,8 @@ fn select(alloc: Global, started: &Started, query: &Query) -> Outcome
 fn commit(alloc: Global, started: &Started) -> Outcome
     requires terms { AreTerms started.now.terms.value }
     requires begun { (begun : Begun) × IsBegun begun started.now (bound.Commit) }
-    ensures { (begun : Begun) → IsBegun begun started.now (bound.Commit) → GivesOn (sizes_of started.now.terms.value) begun result }
+    ensures counted { AreCountsOf started.now result }
+    ensures gives { (begun : Begun) → IsBegun begun started.now (bound.Commit) → GivesOn (sizes_of started.now.terms.value) begun result }
 {
     let terms = &*started.terms;
     let Ok(own) = started.own.copies(alloc) else {
@@ -108,7 +125,7 @@ fn commit(alloc: Global, started: &Started) -> Outcome
 }
 
 impl Desk for Clerk {
-    fn work(&self, alloc: Global, started: &Started) -> Outcome {
+    fn work<R: Wait>(&self, _rt: &R, alloc: Global, started: &Started) -> Outcome {
         if started.short {
             return Outcome::Short;
         }
@@ -121,6 +138,7 @@ impl Desk for Clerk {
             Bound::Begin
             | Bound::Rollback
             | Bound::Nothing
+            | Bound::Statistics(_)
             | Bound::GroupReport
             | Bound::SegmentReport
             | Bound::Refused(_) => Outcome::Nothing,

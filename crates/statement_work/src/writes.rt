@@ -1,5 +1,5 @@
 // The outcomes of writes.
-ghost use Rattle.std.specs.Prelude.{◌≡◌, [], false, length, true, All};
+ghost use Rattle.std.specs.Prelude.{◌≡◌, [], false, length, true, All, None};
 ghost use Rattle.cs_types.specs.Schemas.{IsSchema};
 ghost use Rattle.cs_model.specs.Answers.{writes};
 ghost use Rattle.cs_model.specs.Kinds.{is_write};
@@ -7,6 +7,7 @@ ghost use Rattle.group_book.specs.Commits.{Sizes};
 ghost use Rattle.edit_laws.specs.Edits.{edits_of};
 ghost use Rattle.log_laws.specs.Started.{Begun, seen_by};
 ghost use Rattle.row_work.specs.Gives.{RefusesRows};
+ghost use Rattle.statement_core.specs.Counted.{outcome_counts};
 ghost use Rattle.statement_core.specs.Outcomes.{GivesOn};
 ghost use Rattle.statement_core.specs.Terms.{sizes_of, AreTerms};
 ghost use Rattle.statement_work.specs.Clerks.{NeedsParcel};
@@ -33,7 +34,8 @@ pub fn valued(number: u32, row: u64, column: u32) -> Outcome
 
 /// The outcome of a write that was refused.
 pub fn refused(refusal: WriteRefusal) -> Outcome
-    ensures { (begun : Begun) → begun.short ≡ false → is_write begun.bound ≡ true → RefusesRows (writes begun.schema (seen_by begun) begun.bound) refusal → (sizes : Sizes) → GivesOn sizes begun result }
+    ensures untold { outcome_counts result ≡ None }
+    ensures gives { (begun : Begun) → begun.short ≡ false → is_write begun.bound ≡ true → RefusesRows (writes begun.schema (seen_by begun) begun.bound) refusal → (sizes : Sizes) → GivesOn sizes begun result }
 {
     match refusal {
         WriteRefusal::Value {
@@ -51,7 +53,8 @@ pub fn written(alloc: Global, terms: &Terms, implicit: bool, rows: InsertedRows)
     requires terms { AreTerms terms.now }
     requires schema { IsSchema terms.now.schema.value }
     requires fit { All (FitsIn terms.now.schema.value) (edits_of rows.writes.items) }
-    ensures { (begun : Begun) → begun.implicit ≡ implicit → begun.schema ≡ terms.now.schema.value → NeedsParcel (sizes_of terms.now) begun rows.writes.items rows.present.items rows.affected → GivesOn (sizes_of terms.now) begun result }
+    ensures untold { outcome_counts result ≡ None }
+    ensures gives { (begun : Begun) → begun.implicit ≡ implicit → begun.schema ≡ terms.now.schema.value → NeedsParcel (sizes_of terms.now) begun rows.writes.items rows.present.items rows.affected → GivesOn (sizes_of terms.now) begun result }
 {
     let InsertedRows {
         writes,
@@ -85,7 +88,8 @@ pub fn changed(alloc: Global, terms: &Terms, implicit: bool, writes: Vec<Write>)
     requires terms { AreTerms terms.now }
     requires schema { IsSchema terms.now.schema.value }
     requires fit { All (FitsIn terms.now.schema.value) (edits_of writes.items) }
-    ensures { (begun : Begun) → begun.implicit ≡ implicit → begun.schema ≡ terms.now.schema.value → NeedsParcel (sizes_of terms.now) begun writes.items [] (length writes.items) → GivesOn (sizes_of terms.now) begun result }
+    ensures untold { outcome_counts result ≡ None }
+    ensures gives { (begun : Begun) → begun.implicit ≡ implicit → begun.schema ≡ terms.now.schema.value → NeedsParcel (sizes_of terms.now) begun writes.items [] (length writes.items) → GivesOn (sizes_of terms.now) begun result }
 {
     let affected = writes.len() as u64;
     let present = Vec::new(alloc);

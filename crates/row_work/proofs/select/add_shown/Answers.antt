@@ -1,4 +1,4 @@
-use Rattle.std.proofs.Common.{◌∙◌, ◌++◌, ℕ, take, sym, subst, append_assoc}
+use Rattle.std.proofs.Common.{◌∙◌, ◌++◌, ℕ, length, take, sym, subst, append_assoc}
 use Rattle.std.specs.List.{filter_map, flat_map}
 use Rattle.std.specs.Map.{values_of}
 use Rattle.std.proofs.lemmas.List.Elements.{filter_map-append}
@@ -12,7 +12,7 @@ use Rattle.row_work.proofs.select.add_shown.Goals as goal
 pub loop-group-preserved : goal.loop-group-preserved
 loop-group-preserved c =
     let view = c.args.pinned.now.view in
-    let f = read_row c.args.width c.args.pinned.now in
+    let f = read_row (length c.args.schema.now.columns) c.args.pinned.now in
     let n = c.loop-group.group in
     let front = flat_map (λ (group : ℕ × GroupPart). rowed_in group.1) (take n view.groups) in
     let next = rowed_at view n in

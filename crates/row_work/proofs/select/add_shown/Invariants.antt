@@ -1,4 +1,4 @@
-use Rattle.std.proofs.Common.{◌≡◌, ◌++◌, ℕ, List, take}
+use Rattle.std.proofs.Common.{◌≡◌, ◌++◌, ℕ, List, length, take}
 use Rattle.std.specs.List.{filter_map, flat_map}
 use Rattle.std.specs.Map.{values_of}
 use Rattle.cs_types.specs.declared.Value.{Value}
@@ -13,5 +13,5 @@ invariant-loop-group l = record {
   schema : l.partial.schema.now ≡ l.initial.partial.schema.now;
   query : l.partial.query.now ≡ l.initial.partial.query.now;
   added : (rows : List (List Value)) → StandsFor l.initial.partial rows
-      → StandsFor l.partial (rows ++ values_of (filter_map (read_row l.width l.pinned) (flat_map (λ (group : ℕ × GroupPart). rowed_in group.1) (take l.group l.pinned.view.groups))));
+      → StandsFor l.partial (rows ++ values_of (filter_map (read_row (length l.schema.columns) l.pinned) (flat_map (λ (group : ℕ × GroupPart). rowed_in group.1) (take l.group l.pinned.view.groups))));
 }

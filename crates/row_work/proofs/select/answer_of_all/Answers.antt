@@ -1,4 +1,4 @@
-use Rattle.std.proofs.Common.{◌∙◌, ◌++◌, ℕ, [], length, ap, sym}
+use Rattle.std.proofs.Common.{◌∙◌, ◌++◌, ℕ, [], length, sym}
 use Rattle.std.specs.List.{filter_map}
 use Rattle.std.specs.Map.{values_of}
 use Rattle.cs_model.specs.Changes.{Table}
@@ -16,11 +16,12 @@ returns c =
     let pinned = c.args.pinned.now in
     let own = filter_map own_row pinned.own in
     let shown : ℕ → Table = λ width. filter_map (read_row width pinned) (rowed_of pinned.view) in
-    let added = values_of (shown c.len-width.result) ++ values_of own in
+    let width = length schema.columns in
+    let added = values_of (shown width) ++ values_of own in
     let rows = values_of (rows_in (length schema.columns) pinned) in
     let first = rw c.in_ok-add_shown.was at (c.add_shown.ensures.added [] c.in_ok-partial.ensures.empty) in
-    let both = rw c.in_ok-add_own.was at (c.add_own.ensures.added (values_of (shown c.len-width.result)) first) in
-    let is = ap (λ width. values_of (shown width) ++ values_of own) c.len-width.ensures ∙ sym (values_append (shown (length schema.columns)) own) in
+    let both = rw c.in_ok-add_own.was at (c.add_own.ensures.added (values_of (shown width)) first) in
+    let is = sym (values_append (shown width) own) in
     answer_read schema query pinned c.requires c.result.result c.add_own.ensures.order
     (answered schema c.add_own.new.partial.schema.now query c.add_own.new.partial.query.now rows added c.result.result
     (c.in_ok-add_own.ensures.schema ∙ c.in_ok-add_shown.ensures.schema ∙ c.in_ok-partial.ensures.schema)

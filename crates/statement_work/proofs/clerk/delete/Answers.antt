@@ -11,7 +11,7 @@ use Rattle.statement_core.specs.Outcomes.{GivesOn}
 use Rattle.statement_core.specs.Terms.{sizes_of}
 use Rattle.tuple_mover.specs.Inserts.{FitsIn}
 use Rattle.statement_work.proofs.Taken.{may_read_it}
-use Rattle.statement_work.proofs.Working.{delete_needs, delete_parcel}
+use Rattle.statement_work.proofs.Working.{delete_needs, delete_parcel, untold}
 use Rattle.statement_work.proofs.clerk.delete.Goals as goal
 
 pub deleted-requires : goal.deleted-requires
@@ -30,8 +30,8 @@ changed-requires-clause-fit c =
     let given = subst (λ (s : Schema). edits_of list ≡ deleted s condition (read_by (length s.columns) pinned)) same c.in-Ok.ensures.gives in
     subst (λ (t : Terms). All (FitsIn t.schema.value) (edits_of list)) (sym c.deref-terms.ensures) (delete_parcel b.0 c.args.started.now condition b.1 pinned c.pinned_of.ensures list given)
 
-pub returns-in-Ok : goal.returns-in-Ok
-returns-in-Ok c = λ begun is.
+pub returns-in-Ok-clause-gives : goal.returns-in-Ok-clause-gives
+returns-in-Ok-clause-gives c = λ begun is.
     let condition = c.args.condition.now in
     let pinned = c.pinned_of.result.now in
     let list = c.in-Ok.writes.items in
@@ -39,5 +39,8 @@ returns-in-Ok c = λ begun is.
     let given = subst (λ (s : Schema). edits_of list ≡ deleted s condition (read_by (length s.columns) pinned)) same c.in-Ok.ensures.gives in
     let replaces = subst (λ (s : Schema). All (Replaces (length s.columns) pinned) list) same c.in-Ok.ensures.replaces in
     subst (λ (t : Terms). GivesOn (sizes_of t) begun c.changed.result) c.deref-terms.ensures
-    (c.changed.ensures begun (sym is.hands.implicit) (sym is.hands.schema ∙ ap (λ (t : Terms). t.schema.value) (sym c.deref-terms.ensures))
+    (c.changed.ensures.gives begun (sym is.hands.implicit) (sym is.hands.schema ∙ ap (λ (t : Terms). t.schema.value) (sym c.deref-terms.ensures))
     (delete_needs begun c.args.started.now condition is pinned c.pinned_of.ensures list given c.in-Ok.ensures.order replaces (sizes_of c.deref-terms.result.now)))
+
+pub returns-in-Ok-clause-counted : goal.returns-in-Ok-clause-counted
+returns-in-Ok-clause-counted c = untold c.args.started.now c.changed.result c.changed.ensures.untold

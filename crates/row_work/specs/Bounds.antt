@@ -1,0 +1,33 @@
+-- The keys between which a condition keeps rows.
+use Rattle.std.specs.Prelude.{◌≡◌, List, true, Option}
+use Rattle.cs_types.specs.declared.Key.{Key}
+use Rattle.cs_types.specs.declared.Loose.{Loose}
+use Rattle.cs_types.specs.declared.Schema.{Schema}
+use Rattle.cs_types.specs.declared.Value.{Value}
+use Rattle.cs_types.specs.Schemas.{IsSchema}
+use Rattle.cs_model.specs.declared.pred.Pred.{Pred}
+use Rattle.cs_model.specs.declared.pred.Relation.{Relation}
+use Rattle.cs_model.specs.declared.truth.Truth.TheVariants.{True}
+use Rattle.cs_model.specs.Cells.{loose_at}
+use Rattle.cs_model.specs.Held.{IsRowAt}
+use Rattle.cs_model.specs.Queries.{keeps}
+use Rattle.cs_model.specs.Truths.{compare, truth}
+use Rattle.delta_store.specs.Index.{is_between}
+use Rattle.row_work.specs.declared.bounds.Bounds.{Bounds}
+
+-- the key is one of these
+abbrev pub IsWithin : Bounds → Key → Type 0
+IsWithin bounds key = is_between bounds.least bounds.greatest key ≡ true
+
+-- where a key stands so to the constant, it is one of these
+abbrev pub BoundsBeside : Relation → Loose → Bounds → Type 0
+BoundsBeside sign constant bounds =
+    (schema : Schema) (key : Key) (row : List Value) → IsSchema schema → IsRowAt schema key row → compare sign (loose_at schema row schema.key) constant ≡ True → IsWithin bounds key
+
+-- where the condition is True of a row of the table, the row's key is one of these
+abbrev pub BoundsTrue : Schema → Pred → Bounds → Type 0
+BoundsTrue schema pred bounds = (key : Key) (row : List Value) → IsRowAt schema key row → truth pred row schema ≡ True → IsWithin bounds key
+
+-- each row of the table that the condition keeps has one of these keys
+abbrev pub KeepsWithin : Schema → Option Pred → Bounds → Type 0
+KeepsWithin schema condition bounds = (key : Key) (row : List Value) → IsRowAt schema key row → keeps schema condition row ≡ true → IsWithin bounds key
