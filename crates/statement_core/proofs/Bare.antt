@@ -69,6 +69,7 @@ bare_accepted schema m s bound.Begin h = bare_began m s (m.txns s)
 bare_accepted schema m s bound.Commit h = bare_unwound m s (m.txns s) refl
 bare_accepted schema m s bound.Rollback h = bare_gone m s
 bare_accepted schema m s bound.Nothing h = h
+bare_accepted schema m s (bound.Statistics on) h = h
 bare_accepted schema m s (bound.Insert plan) h = bare_wrote m s (m.txns s) (writes_in schema m.changes (m.txns s) (bound.Insert plan)) refl h
 bare_accepted schema m s (bound.Update plan) h = bare_wrote m s (m.txns s) (writes_in schema m.changes (m.txns s) (bound.Update plan)) refl h
 bare_accepted schema m s (bound.Delete condition) h = bare_wrote m s (m.txns s) (writes_in schema m.changes (m.txns s) (bound.Delete condition)) refl h

@@ -31,7 +31,7 @@ use Rattle.group_directory.specs.Stands.{SayReplaced, Stands}
 use Rattle.group_directory.proofs.KeyLaws.{replaced_are}
 use Rattle.group_directory.proofs.WholeLemmas.{parcel_reordered}
 use Rattle.statement_core.specs.declared.core_state.CoreState.{CoreState}
-use Rattle.statement_core.specs.CoreState.{state_of, groups_of, claims_of, IsStill}
+use Rattle.statement_core.specs.CoreState.{settings_of, state_of, groups_of, claims_of, IsStill}
 use Rattle.statement_core.specs.Leaves.{commits_txn, committed_in, Leaves}
 use Rattle.statement_core.proofs.States.{same_state, txns_with}
 use Rattle.statement_core.proofs.Stills.{commits_none}
@@ -78,7 +78,7 @@ commits_some sizes m (w ∷ _) book made some moved past = (moved, past)
 
 module _ (changes : List Change) (old new : CoreState) (session : ℕ) (number : Option ℕ) (j : Stands old.directory changes) (parcel : Parcel) (there : IsSome (txn_of old.directory.txns session))
     (of : IsParcelFor old.directory (own_of (txn_of old.directory.txns session)) parcel)
-    (halves : new.halves ≡ old.halves)
+    (halves : new.halves ≡ old.halves) (settings : new.settings ≡ old.settings)
     (rest : new.directory ≡ record old.directory { list = new.directory.list; txns = new.directory.txns; recent = new.directory.recent; pruned = new.directory.pruned; kept = new.directory.kept; clock = new.directory.clock })
     (clock : new.directory.clock ≡ unwrap_or number old.directory.clock)
     (num : number ≡ commit_number old.directory.clock (own_of (txn_of old.directory.txns session)))
@@ -118,7 +118,7 @@ module _ (changes : List Change) (old new : CoreState) (session : ℕ) (number :
         later = changes;
         stands = subst (Stands new.directory) later (stands txn has);
         state = same_state (state_of changes new) (gone (state_of changes old) session) refl (ap (λ (d : Directory). d.clock) only) (txns_with (txn_of old.directory.txns) (txn_of new.directory.txns) session None txns)
-            (ap (λ h. (state_of changes (record old { halves = h })).half) halves) refl next;
+            (ap (λ h. (state_of changes (record old { halves = h })).half) halves) (ap settings_of settings) next;
         commits = commits_none (sizes_of old.directory) (state_of changes old) changes (groups_of old) (groups_of new) refl (ap (λ (d : Directory). book_of d.list) only);
         claims = same_claims;
         sizes = same_sizes;
@@ -138,7 +138,7 @@ module _ (changes : List Change) (old new : CoreState) (session : ℕ) (number :
         later = changes ++ numbered (old.directory.clock + 1) txn.number (edits_of txn.own);
         stands = stands txn has;
         state = same_state (state_of (changes ++ numbered (old.directory.clock + 1) txn.number (edits_of txn.own)) new) after refl (clock ∙ ap (λ n. unwrap_or n old.directory.clock) numbered_at)
-            (txns_with (txn_of old.directory.txns) (txn_of new.directory.txns) session None txns) (ap (λ h. (state_of changes (record old { halves = h })).half) halves) refl next;
+            (txns_with (txn_of old.directory.txns) (txn_of new.directory.txns) session None txns) (ap (λ h. (state_of changes (record old { halves = h })).half) halves) (ap settings_of settings) next;
         commits = subst (λ edits. Commits (sizes_of old.directory) (state_of changes old) edits (groups_of old) (groups_of new)) edits_are
             (subst (λ b. Commits (sizes_of old.directory) (state_of changes old) (edits_of (own_of (txn_of old.directory.txns session))) (groups_of old) b) (sym made)
             (commits_some (sizes_of old.directory) (state_of changes old) (own_of (txn_of old.directory.txns session)) (book_of old.directory.list) _ some
@@ -172,6 +172,6 @@ still_refused old new claims stands same rest = record {
   };
 }
 
-pub state_refused : (changes : List Change) (old new : CoreState) → new.halves ≡ old.halves → IsAsBefore old.directory new.directory → state_of changes new ≡ state_of changes old
-state_refused changes old new halves same =
-    same_state (state_of changes new) (state_of changes old) refl same.clock (ap (λ (t : Table). txns_of t) same.txns) (ap (λ h. (state_of changes (record old { halves = h })).half) halves) refl (ap (λ (t : Table). t.next) same.txns)
+pub state_refused : (changes : List Change) (old new : CoreState) → new.halves ≡ old.halves → new.settings ≡ old.settings → IsAsBefore old.directory new.directory → state_of changes new ≡ state_of changes old
+state_refused changes old new halves settings same =
+    same_state (state_of changes new) (state_of changes old) refl same.clock (ap (λ (t : Table). txns_of t) same.txns) (ap (λ h. (state_of changes (record old { halves = h })).half) halves) (ap settings_of settings) (ap (λ (t : Table). t.next) same.txns)

@@ -1,6 +1,7 @@
 -- What was begun, and the reply that a statement's work gives.
-use Rattle.std.proofs.Common.{◌≡◌, ℕ, List, [], map, refl, sym, ap, subst, ◌∙◌, true, false, Option, None, Some, Result, Ok, Err}
+use Rattle.std.proofs.Common.{◌≡◌, ℕ, List, [], map, refl, sym, ap, subst, ◌∙◌, Bool, true, false, Option, None, Some, Result, Ok, Err}
 use Rattle.std.specs.Map.{values_of}
+use Rattle.cs_types.specs.declared.Loose.{Loose}
 use Rattle.cs_types.specs.declared.Schema.{Schema}
 use Rattle.cs_model.specs.declared.entry.Bound.{Bound}
 use Rattle.cs_model.specs.declared.entry.Bound.TheVariants as bound
@@ -19,7 +20,7 @@ use Rattle.cs_model.specs.State.{State, Txn, seen, seen_at}
 use Rattle.cs_model.specs.Steps.{IsReply, IsWriteReply, IsWriteReplyOf, IsAnswerIn, IsAnswer, writes_in, replied, accepted, wrote}
 use Rattle.log_laws.specs.Frames.{IsPinnedAt, IsPinned}
 use Rattle.log_laws.specs.Started.{Begun, own_in, seen_by, snapshot_table, Sees}
-use Rattle.statement_core.specs.Outcomes.{IsValued, IsDecided}
+use Rattle.statement_core.specs.Outcomes.{IsValued, IsDecided, told}
 use Rattle.statement_core.specs.Settled.{wrote_or}
 
 -- ---- what was begun
@@ -50,33 +51,45 @@ begun_pinned m s begun k = at (m.txns s) k.snapshot
 
 -- ---- a reply that was given
 
-valued_of : (m : State) (session : ℕ) (snapshot : Option ℕ) (table : Table) (b : Bound) (w : Result (List Edit) Refusal) (r : Reply) → IsValued w r → IsWriteReplyOf m session snapshot table b w r
-valued_of m session snapshot table b (Ok edits) r h = absurd h
-valued_of m session snapshot table b (Err refusal) r h = h
+valued_of : (m : State) (session : ℕ) (snapshot : Option ℕ) (table : Table) (b : Bound) (w : Result (List Edit) Refusal) (r : Reply) (on : Bool) → IsValued w r → IsWriteReplyOf m session snapshot table b w (told on r)
+valued_of m session snapshot table b (Ok edits) r on h = absurd h
+valued_of m session snapshot table b (Err refusal) r on h = ap (told on) h
+
+-- an answer with its counts, as a session is told it
+told_answer : (on : Bool) (answered : Result (List (List Loose)) (ℕ × ℕ)) (r : Reply) → IsAnswer true answered r → IsAnswer on answered (told on r)
+told_answer on (Err place) r h = ap (told on) h
+told_answer on (Ok rows) reply.Done h = absurd h
+told_answer on (Ok rows) (reply.Affected count) h = absurd h
+told_answer true (Ok rows) (reply.Rows list segments) h = h
+told_answer false (Ok rows) (reply.Rows list segments) h = (h.0, refl)
+told_answer on (Ok rows) (reply.Groups lines buffered) h = absurd h
+told_answer on (Ok rows) (reply.Segments lines) h = absurd h
+told_answer on (Ok rows) (reply.Refused refusal) h = absurd h
 
 module _ (schema : Schema) (m : State) (session : ℕ) where
-  valued_in : (txn : Option Txn) (clock : ℕ) (b : Bound) (r : Reply) → IsPinned txn clock → IsValued (writes schema (seen_in m.changes txn) b) r → IsWriteReply schema m session txn b r
+  valued_in : (txn : Option Txn) (clock : ℕ) (b : Bound) (r : Reply) → IsPinned txn clock → IsValued (writes schema (seen_in m.changes txn) b) r → IsWriteReply schema m session txn b (told (m.statistics session) r)
   valued_in None clock b r p h = absurd p
-  valued_in (Some txn) clock b r p h = valued_of m session txn.snapshot (seen m.changes txn) b (writes schema (seen m.changes txn) b) r h
+  valued_in (Some txn) clock b r p h = valued_of m session txn.snapshot (seen m.changes txn) b (writes schema (seen m.changes txn) b) r (m.statistics session) h
 
-  answer_in : (txn : Option Txn) (clock : ℕ) (r : Reply) (query : Query) → IsPinned txn clock → m.statistics session ≡ false → IsAnswer false (answer schema query (values_of (seen_in m.changes txn))) r
-      → IsAnswerIn schema m session txn query r
-  answer_in None clock r query p s h = absurd p
-  answer_in (Some txn) clock r query p s h = subst (λ on. IsAnswer on (answer schema query (values_of (seen m.changes txn))) r) (sym s) h
+  answer_in : (txn : Option Txn) (clock : ℕ) (r : Reply) (query : Query) → IsPinned txn clock → IsAnswer true (answer schema query (values_of (seen_in m.changes txn))) r
+      → IsAnswerIn schema m session txn query (told (m.statistics session) r)
+  answer_in None clock r query p h = absurd p
+  answer_in (Some txn) clock r query p h = told_answer (m.statistics session) (answer schema query (values_of (seen m.changes txn))) r h
 
-  -- the reply that the work decides is the defined one
-  pub decided_reply : (b : Bound) (r : Reply) → m.statistics session ≡ false → (is_of_table b ≡ true → IsPinned (m.txns session) m.clock) → IsDecided schema b (seen_in m.changes (m.txns session)) r → IsReply schema m session b r
-  decided_reply bound.Begin r s p h = absurd h
-  decided_reply bound.Commit r s p h = absurd h
-  decided_reply bound.Rollback r s p h = absurd h
-  decided_reply bound.Nothing r s p h = absurd h
-  decided_reply (bound.Insert plan) r s p h = valued_in (m.txns session) m.clock (bound.Insert plan) r (p refl) h
-  decided_reply (bound.Update plan) r s p h = valued_in (m.txns session) m.clock (bound.Update plan) r (p refl) h
-  decided_reply (bound.Delete condition) r s p h = valued_in (m.txns session) m.clock (bound.Delete condition) r (p refl) h
-  decided_reply (bound.Select query) r s p h = answer_in (m.txns session) m.clock r query (p refl) s h
-  decided_reply bound.GroupReport r s p h = absurd h
-  decided_reply bound.SegmentReport r s p h = absurd h
-  decided_reply (bound.Refused refusal) r s p h = absurd h
+  -- the reply that the work decides is the defined one, as the session is told it
+  pub decided_reply : (b : Bound) (r : Reply) → (is_of_table b ≡ true → IsPinned (m.txns session) m.clock) → IsDecided schema b (seen_in m.changes (m.txns session)) r → IsReply schema m session b (told (m.statistics session) r)
+  decided_reply bound.Begin r p h = absurd h
+  decided_reply bound.Commit r p h = absurd h
+  decided_reply bound.Rollback r p h = absurd h
+  decided_reply bound.Nothing r p h = absurd h
+  decided_reply (bound.Statistics on) r p h = absurd h
+  decided_reply (bound.Insert plan) r p h = valued_in (m.txns session) m.clock (bound.Insert plan) r (p refl) h
+  decided_reply (bound.Update plan) r p h = valued_in (m.txns session) m.clock (bound.Update plan) r (p refl) h
+  decided_reply (bound.Delete condition) r p h = valued_in (m.txns session) m.clock (bound.Delete condition) r (p refl) h
+  decided_reply (bound.Select query) r p h = answer_in (m.txns session) m.clock r query (p refl) h
+  decided_reply bound.GroupReport r p h = absurd h
+  decided_reply bound.SegmentReport r p h = absurd h
+  decided_reply (bound.Refused refusal) r p h = absurd h
 
   valued_same : (w : Result (List Edit) Refusal) (b : Bound) (r : Reply) → IsValued w r → wrote_or m session [] r ≡ replied schema m session b r
   valued_same (Ok edits) b r h = absurd h
@@ -90,11 +103,21 @@ module _ (schema : Schema) (m : State) (session : ℕ) where
   select_same query (reply.Segments lines) = refl
   select_same query (reply.Refused refusal) = refl
 
+  -- counts make no state another
+  pub told_state : (b : Bound) (on : Bool) (r : Reply) → replied schema m session b r ≡ replied schema m session b (told on r)
+  told_state b on reply.Done = refl
+  told_state b on (reply.Affected count) = refl
+  told_state b on (reply.Rows rows segments) = refl
+  told_state b on (reply.Groups lines buffered) = refl
+  told_state b on (reply.Segments lines) = refl
+  told_state b on (reply.Refused refusal) = refl
+
   pub decided_state : (b : Bound) (t : Table) (r : Reply) → IsDecided schema b t r → wrote_or m session [] r ≡ replied schema m session b r
   decided_state bound.Begin t r h = absurd h
   decided_state bound.Commit t r h = absurd h
   decided_state bound.Rollback t r h = absurd h
   decided_state bound.Nothing t r h = absurd h
+  decided_state (bound.Statistics on) t r h = absurd h
   decided_state (bound.Insert plan) t r h = valued_same (writes schema t (bound.Insert plan)) (bound.Insert plan) r h
   decided_state (bound.Update plan) t r h = valued_same (writes schema t (bound.Update plan)) (bound.Update plan) r h
   decided_state (bound.Delete condition) t r h = valued_same (writes schema t (bound.Delete condition)) (bound.Delete condition) r h
@@ -113,6 +136,7 @@ module _ (schema : Schema) (m : State) (session : ℕ) where
   decided_refused bound.Commit t r w h = absurd h
   decided_refused bound.Rollback t r w h = absurd h
   decided_refused bound.Nothing t r w h = absurd h
+  decided_refused (bound.Statistics on) t r w h = absurd h
   decided_refused (bound.Insert plan) t r w h = valued_refused (writes schema t (bound.Insert plan)) r h
   decided_refused (bound.Update plan) t r w h = valued_refused (writes schema t (bound.Update plan)) r h
   decided_refused (bound.Delete condition) t r w h = valued_refused (writes schema t (bound.Delete condition)) r h
@@ -140,6 +164,7 @@ write_reply schema m session bound.Begin r w h = absurd (cc w)
 write_reply schema m session bound.Commit r w h = absurd (cc w)
 write_reply schema m session bound.Rollback r w h = absurd (cc w)
 write_reply schema m session bound.Nothing r w h = absurd (cc w)
+write_reply schema m session (bound.Statistics on) r w h = absurd (cc w)
 write_reply schema m session (bound.Insert plan) r w h = h
 write_reply schema m session (bound.Update plan) r w h = h
 write_reply schema m session (bound.Delete condition) r w h = h
@@ -153,6 +178,7 @@ write_accepted schema m session bound.Begin w = absurd (cc w)
 write_accepted schema m session bound.Commit w = absurd (cc w)
 write_accepted schema m session bound.Rollback w = absurd (cc w)
 write_accepted schema m session bound.Nothing w = absurd (cc w)
+write_accepted schema m session (bound.Statistics on) w = absurd (cc w)
 write_accepted schema m session (bound.Insert plan) w = refl
 write_accepted schema m session (bound.Update plan) w = refl
 write_accepted schema m session (bound.Delete condition) w = refl
@@ -168,6 +194,7 @@ no_writes schema changes (Some txn) bound.Begin w = refl
 no_writes schema changes (Some txn) bound.Commit w = refl
 no_writes schema changes (Some txn) bound.Rollback w = refl
 no_writes schema changes (Some txn) bound.Nothing w = refl
+no_writes schema changes (Some txn) (bound.Statistics on) w = refl
 no_writes schema changes (Some txn) (bound.Insert plan) w = absurd (cc w)
 no_writes schema changes (Some txn) (bound.Update plan) w = absurd (cc w)
 no_writes schema changes (Some txn) (bound.Delete condition) w = absurd (cc w)

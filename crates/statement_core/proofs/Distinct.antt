@@ -92,6 +92,7 @@ kept_apart schema t bound.Begin edits up not is = let same : [] ≡ edits = cc i
 kept_apart schema t bound.Commit edits up not is = let same : [] ≡ edits = cc is in subst Apart same tt
 kept_apart schema t bound.Rollback edits up not is = let same : [] ≡ edits = cc is in subst Apart same tt
 kept_apart schema t bound.Nothing edits up not is = let same : [] ≡ edits = cc is in subst Apart same tt
+kept_apart schema t (bound.Statistics on) edits up not is = let same : [] ≡ edits = cc is in subst Apart same tt
 kept_apart schema t (bound.Insert plan) edits up not is = absurd (cc not)
 kept_apart schema t (bound.Update plan) edits up not is =
     let a = alike_updated schema plan.sets 1 (chosen schema plan.filter t) edits is in

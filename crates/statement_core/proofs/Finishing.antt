@@ -28,12 +28,12 @@ use Rattle.group_directory.specs.Stands.{Stands}
 use Rattle.statement_core.specs.declared.core_state.CoreState.{CoreState}
 use Rattle.statement_core.specs.declared.started.Outcome.{Outcome}
 use Rattle.statement_core.specs.declared.started.Outcome.TheVariants as outcome
-use Rattle.statement_core.specs.CoreState.{state_of, groups_of, IsSame, IsBare}
+use Rattle.statement_core.specs.CoreState.{settings_of, state_of, groups_of, IsSame, IsBare}
 use Rattle.statement_core.specs.Leaves.{commits_txn, committed_in, Leaves}
-use Rattle.statement_core.specs.Outcomes.{needs_none, IsDecided, GivesOn}
+use Rattle.statement_core.specs.Outcomes.{needs_none, IsDecided, GivesOn, told}
 use Rattle.statement_core.specs.Settled.{wrote_or, Ends, Holds, IsDoneAt, IsReadyAt, IsWritingAt, CommitGives}
 use Rattle.statement_core.proofs.Committed.{added}
-use Rattle.statement_core.proofs.Decided.{seen_in, begun_seen, begun_pinned, decided_reply, decided_state}
+use Rattle.statement_core.proofs.Decided.{seen_in, begun_seen, begun_pinned, decided_reply, decided_state, told_state}
 use Rattle.statement_core.proofs.Ending.{said_plain, said_full, ends_settled, ends_short}
 use Rattle.statement_core.proofs.States.{own_model, unwound_commits}
 use Rattle.statement_core.proofs.Stills.{same_leaves}
@@ -49,6 +49,7 @@ none_of_table bound.Begin e = refl
 none_of_table bound.Commit e = absurd (cc e)
 none_of_table bound.Rollback e = refl
 none_of_table bound.Nothing e = refl
+none_of_table (bound.Statistics on) e = refl
 none_of_table (bound.Insert plan) e = absurd (cc e)
 none_of_table (bound.Update plan) e = absurd (cc e)
 none_of_table (bound.Delete condition) e = absurd (cc e)
@@ -63,6 +64,7 @@ decided_table schema bound.Begin t r h = absurd h
 decided_table schema bound.Commit t r h = absurd h
 decided_table schema bound.Rollback t r h = absurd h
 decided_table schema bound.Nothing t r h = absurd h
+decided_table schema (bound.Statistics on) t r h = absurd h
 decided_table schema (bound.Insert plan) t r h = refl
 decided_table schema (bound.Update plan) t r h = refl
 decided_table schema (bound.Delete condition) t r h = refl
@@ -122,6 +124,14 @@ module _ (schema : Schema) (changes : List Change) (old new : CoreState) (sessio
 
 -- ---- what is known of an outcome
 
+told_prints : (schema : Schema) (on : Bool) (r : Reply) → IsPrintableReply schema r → IsPrintableReply schema (told on r)
+told_prints schema on reply.Done p = p
+told_prints schema on (reply.Affected count) p = p
+told_prints schema on (reply.Rows rows segments) p = p
+told_prints schema on (reply.Groups lines buffered) p = p
+told_prints schema on (reply.Segments lines) p = p
+told_prints schema on (reply.Refused refusal) p = p
+
 module _ (begin : Begin) (changes : List Change) (held : CoreState) (session : ℕ) (b : Bound) (short : Bool) where
   pub needs_none_of : IsDoneAt begin changes held session b short outcome.Nothing → needs_none b ≡ true
   needs_none_of d = ap needs_none (sym d.bound) ∙ d.gives
@@ -164,18 +174,19 @@ module _ (begin : Begin) (changes : List Change) (held : CoreState) (session : �
     pub found_answer : short ≡ false
     found_answer = let g = d.gives in sym d.short_is ∙ g.0
 
-    pub answered_ends : (new : CoreState) → Stands new.directory changes → IsSame held new → state_of changes new ≡ wrote_or (state_of changes held) session [] given → Ends begin.schema changes held session b short given new
+    pub answered_ends : (new : CoreState) → Stands new.directory changes → IsSame held new → state_of changes new ≡ wrote_or (state_of changes held) session [] given
+        → Ends begin.schema changes held session b short (told (settings_of held.settings session) given) new
     answered_ends new j same state =
-        ends_settled begin.schema changes held new session b short given j same found_answer (λ k. absurd (not_report k decided)) (record {
-          reply = inr (decided_reply begin.schema (state_of changes held) session b given refl (λ t. begun_pinned (state_of changes held) session d.begun sees) decided);
-          state = state ∙ decided_state begin.schema (state_of changes held) session b (seen_in changes ((state_of changes held).txns session)) given decided;
+        ends_settled begin.schema changes held new session b short (told (settings_of held.settings session) given) j same found_answer (λ k. absurd (not_report k decided)) (record {
+          reply = inr (decided_reply begin.schema (state_of changes held) session b given (λ t. begun_pinned (state_of changes held) session d.begun sees) decided);
+          state = state ∙ decided_state begin.schema (state_of changes held) session b (seen_in changes ((state_of changes held).txns session)) given decided ∙ told_state begin.schema (state_of changes held) session b (settings_of held.settings session) given;
         })
       where
         not_report : kind_of b ≡ kind.Report → IsDecided begin.schema b (seen_in changes ((state_of changes held).txns session)) given → ⊥
         not_report k h = cc (ap kind_is_of_table k, decided_table begin.schema b (seen_in changes ((state_of changes held).txns session)) given h)
 
-    pub answered_prints : IsPrintableReply begin.schema given
-    answered_prints = let holds = d.holds in let g = d.gives in subst (λ (s : Schema). IsPrintableReply s given) holds.schema g.2
+    pub answered_prints : IsPrintableReply begin.schema (told (settings_of held.settings session) given)
+    answered_prints = let holds = d.holds in let g = d.gives in told_prints begin.schema (settings_of held.settings session) given (subst (λ (s : Schema). IsPrintableReply s given) holds.schema g.2)
 
   -- the writes that it gave
   abbrev pub writing_of : (writes : _) (present : _) (affected : ℕ) (parcel : Option Parcel) → IsDoneAt begin changes held session b short (outcome.Writes writes present affected parcel)

@@ -22,9 +22,9 @@ use Rattle.group_directory.specs.Obstacles.{txn_as, txn_in}
 use Rattle.statement_core.specs.declared.core_state.CoreState.{CoreState}
 use Rattle.statement_core.specs.declared.started.Outcome.{Outcome}
 use Rattle.statement_core.specs.declared.started.Outcome.TheVariants as outcome
-use Rattle.statement_core.specs.CoreState.{state_of}
+use Rattle.statement_core.specs.CoreState.{settings_of, state_of}
 use Rattle.statement_core.specs.Fit.{IsFitting, IsFitState}
-use Rattle.statement_core.specs.Outcomes.{needs_none}
+use Rattle.statement_core.specs.Outcomes.{needs_none, told}
 use Rattle.statement_core.specs.Settled.{IsDoneAt}
 use Rattle.statement_core.proofs.Decided.{no_writes, decided_refused}
 use Rattle.statement_core.proofs.Finishing.{none_of_table, writing_of, decided, answered_prints}
@@ -41,6 +41,7 @@ none_writes bound.Begin e = refl
 none_writes bound.Commit e = absurd (cc e)
 none_writes bound.Rollback e = refl
 none_writes bound.Nothing e = refl
+none_writes (bound.Statistics on) e = refl
 none_writes (bound.Insert plan) e = absurd (cc e)
 none_writes (bound.Update plan) e = absurd (cc e)
 none_writes (bound.Delete condition) e = absurd (cc e)
@@ -55,6 +56,7 @@ reply_write schema m session bound.Begin r w h = absurd (cc w)
 reply_write schema m session bound.Commit r w h = absurd (cc w)
 reply_write schema m session bound.Rollback r w h = absurd (cc w)
 reply_write schema m session bound.Nothing r w h = absurd (cc w)
+reply_write schema m session (bound.Statistics on) r w h = absurd (cc w)
 reply_write schema m session (bound.Insert plan) r w h = h
 reply_write schema m session (bound.Update plan) r w h = h
 reply_write schema m session (bound.Delete condition) r w h = h
@@ -102,13 +104,13 @@ module _ (begin : Begin) (changes : List Change) (old : CoreState) (session : �
   no_edits : is_write half.bound ≡ false → ((found : Refusal) × (r ≡ reply.Refused found)) ⊎ All (IsFitting begin.schema) (writes_in begin.schema changes ((state_of changes old).txns session) half.bound)
   no_edits w = inr (subst (All (IsFitting begin.schema)) (sym (no_writes begin.schema changes ((state_of changes old).txns session) half.bound w)) (All-nil (IsFitting begin.schema)))
 
-  module _ (o : Outcome) (d : IsDoneAt begin changes old session half.bound half.short o) (short : o ≡ outcome.Short → r ≡ reply.Refused Memory) (given : (g : Reply) → o ≡ outcome.Answer g → r ≡ g) where
+  module _ (o : Outcome) (d : IsDoneAt begin changes old session half.bound half.short o) (short : o ≡ outcome.Short → r ≡ reply.Refused Memory) (given : (g : Reply) → o ≡ outcome.Answer g → r ≡ told (settings_of old.settings session) g) where
     fits_at : (x : Outcome) → o ≡ x → IsDoneAt begin changes old session half.bound half.short x → ((found : Refusal) × (r ≡ reply.Refused found)) ⊎ All (IsFitting begin.schema) (writes_in begin.schema changes ((state_of changes old).txns session) half.bound)
     fits_at outcome.Nothing e x = no_edits (none_writes half.bound (ap needs_none (sym x.bound) ∙ x.gives))
     fits_at (outcome.Answer g) e x = by (is_write half.bound) refl
       where
         by : (t : Bool) → is_write half.bound ≡ t → ((found : Refusal) × (r ≡ reply.Refused found)) ⊎ All (IsFitting begin.schema) (writes_in begin.schema changes ((state_of changes old).txns session) half.bound)
-        by true w = let f = decided_refused begin.schema (state_of changes old) session half.bound _ g w (decided begin changes old session half.bound half.short g x) in inl (f.0, given g e ∙ f.1)
+        by true w = let f = decided_refused begin.schema (state_of changes old) session half.bound _ g w (decided begin changes old session half.bound half.short g x) in inl (f.0, given g e ∙ ap (told (settings_of old.settings session)) f.1)
         by false w = no_edits w
     fits_at (outcome.Writes writes present affected parcel) e x =
         inr (subst (All (IsFitting begin.schema)) (sym (written_are writes present affected parcel x)) (both_fit begin.schema _ (edits_fit writes present affected parcel x) (edits_whole writes present affected parcel x)))

@@ -109,6 +109,7 @@ module _ (schema : Schema) where
   fit_accepted m i bound.Commit fit e = fit_unwound m i (m.txns i) fit (fit.txns i)
   fit_accepted m i bound.Rollback fit e = fit_gone m i fit
   fit_accepted m i bound.Nothing fit e = fit
+  fit_accepted m i (bound.Statistics on) fit e = record { changes = fit.changes; txns = fit.txns; halves = fit.halves }
   fit_accepted m i (bound.Insert plan) fit e = fit_wrote m i (m.txns i) _ fit (fit.txns i) e
   fit_accepted m i (bound.Update plan) fit e = fit_wrote m i (m.txns i) _ fit (fit.txns i) e
   fit_accepted m i (bound.Delete condition) fit e = fit_wrote m i (m.txns i) _ fit (fit.txns i) e
@@ -167,6 +168,7 @@ module _ (schema : Schema) where
   plain_prints m i bound.Commit r e p k h = subst (IsPrintableReply schema) (sym h) (done_prints (m.txns i) 3902)
   plain_prints m i bound.Rollback r e p k h = subst (IsPrintableReply schema) (sym h) (done_prints (m.txns i) 3903)
   plain_prints m i bound.Nothing r e p k h = subst (IsPrintableReply schema) (sym h) tt
+  plain_prints m i (bound.Statistics on) r e p k h = subst (IsPrintableReply schema) (sym h) tt
   plain_prints m i (bound.Insert plan) r e p k h = absurd (cc e)
   plain_prints m i (bound.Update plan) r e p k h = absurd (cc e)
   plain_prints m i (bound.Delete condition) r e p k h = absurd (cc e)

@@ -21,7 +21,9 @@ use Rattle.log_laws.proofs.Sound.{sound_from}
 use Rattle.group_book.specs.Book.{Book, empty}
 use Rattle.group_book.specs.Commits.{Sizes}
 use Rattle.group_view.specs.Books.{claim_of}
+use Rattle.group_log.specs.Counted.{IsCountedEntry}
 use Rattle.group_log.specs.Followed.{ground_of, Followed, IsBookStep}
+use Rattle.group_log.proofs.Counting.{counted_on}
 use Rattle.group_log.proofs.Follow.{follows_leads, followed_on}
 use Rattle.group_directory.specs.Obstacles.{txn_in}
 use Rattle.group_directory.specs.Stands.{Stands}
@@ -29,7 +31,7 @@ use Rattle.statement_core.specs.declared.core_state.CoreState.{CoreState}
 use Rattle.statement_core.specs.declared.started.Outcome.{Outcome}
 use Rattle.statement_core.specs.declared.started.Terms.{Terms}
 use Rattle.statement_core.specs.Seats.{seat}
-use Rattle.statement_core.specs.CoreState.{state_of, groups_of, claims_of, half_in, IsWithin, IsBare}
+use Rattle.statement_core.specs.CoreState.{state_of, groups_of, claims_of, half_in, is_on, IsWithin, IsBare}
 use Rattle.statement_core.specs.Fit.{IsFitting, IsReadyHalf, IsFitState}
 use Rattle.statement_core.specs.NewTable.{IsNewTable}
 use Rattle.statement_core.specs.Outcomes.{GivesOn}
@@ -81,8 +83,8 @@ module _ (made : Terms) (held : CoreState) (log : List Entry) (cap : ℕ) (sessi
 pub core_push : (made : Terms) (held after : CoreState) (log : List Entry) (cap new : ℕ) (sessions : List ℕ) (e : Entry) → (i : IsCore made held log cap sessions) → (later : List Change) → Stands after.directory later
     → after.directory.sizes ≡ held.directory.sizes → after.directory.schema ≡ held.directory.schema → IsStep (begin_of made.schema.value) (state_of i.changes held) e (state_of later after)
     → IsBookStep (ground_of made.schema.value (sizes_of made)) (state_of i.changes held) (groups_of held) e (state_of later after) (groups_of after)
-    → IsFitState made.schema.value (state_of later after) → IsPrintableEntry made.schema.value e → length log + 1 + owed (log ++ e ∷ []) sessions + length (claims_of after) ≤ new → IsCore made after (log ++ e ∷ []) new sessions
-core_push made held after log cap new sessions e i later stands sizes schema step moves fit prints len = record {
+    → IsFitState made.schema.value (state_of later after) → IsPrintableEntry made.schema.value e → IsCountedEntry (ground_of made.schema.value (sizes_of made)) log e → length log + 1 + owed (log ++ e ∷ []) sessions + length (claims_of after) ≤ new → IsCore made after (log ++ e ∷ []) new sessions
+core_push made held after log cap new sessions e i later stands sizes schema step moves fit prints counts len = record {
   terms = i.terms;
   table = i.table;
   schema = ap (λ (s : Arc Schema Global). s.value) schema ∙ i.schema;
@@ -97,6 +99,7 @@ core_push made held after log cap new sessions e i later stands sizes schema ste
   few = i.few;
   distinct = i.distinct;
   printable = All-push (IsPrintableEntry made.schema.value) log e i.printable prints;
+  counted = counted_on (ground_of made.schema.value (sizes_of made)) log e i.counted counts;
 }
 
 -- the groups have moved without an entry
@@ -117,6 +120,7 @@ core_same made held after log cap new sessions i stands sizes schema state group
   few = i.few;
   distinct = i.distinct;
   printable = i.printable;
+  counted = i.counted;
 }
 
 -- ---- a new core
@@ -132,14 +136,14 @@ pub no_claims : (schema : Schema) (most least : ℕ) (held : CoreState) (made : 
 no_claims schema most least held made n = none_mapped claim_of (claims_of held) (ap (λ (b : Book). b.claims) n.groups)
 
 pub core_new : (schema : Schema) (most least : ℕ) (held : CoreState) (made : Terms) (cap : ℕ) (sessions : List ℕ) → IsNewTable schema most least held.directory made → IsSchema schema → AreTermsOf most least
-    → ((s : ℕ) → seat held.halves s ≡ None) → 64 ≤ cap → All (λ s. s < 65) sessions → length sessions ≤ 64 → AreDistinct sessions → IsCore made held [] cap sessions
-core_new schema most least held made cap sessions n table terms halves room numbers few distinct =
+    → ((s : ℕ) → seat held.halves s ≡ None) → ((s : ℕ) → seat held.settings s ≡ None) → 64 ≤ cap → All (λ s. s < 65) sessions → length sessions ≤ 64 → AreDistinct sessions → IsCore made held [] cap sessions
+core_new schema most least held made cap sessions n table terms halves settings room numbers few distinct =
     let first : state_of [] held ≡ start = λ i. record {
       changes = [];
       clock = n.clock i;
       txns = λ s. txn_in (n.txns s i);
       half = λ s. half_in (halves s i);
-      statistics = λ s. false;
+      statistics = λ s. is_on (settings s i);
       next = n.next i;
     } in
     record {
@@ -157,4 +161,5 @@ core_new schema most least held made cap sessions n table terms halves room numb
       few = few;
       distinct = distinct;
       printable = All-nil (IsPrintableEntry made.schema.value);
+      counted = tt;
     }

@@ -1,4 +1,5 @@
 pub mod Placing
+pub mod Going
 pub mod States
 pub mod Stills
 pub mod Committed
@@ -16,6 +17,7 @@ pub mod Keeping
 pub mod Taking
 pub mod Finishing
 pub mod Fits
+pub mod Counting
 pub mod Working
 pub mod Mending
 pub mod Turns

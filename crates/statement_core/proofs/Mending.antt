@@ -8,16 +8,14 @@ use Rattle.std.proofs.lemmas.Bool.Decides.{nat_tests}
 use Rattle.std.proofs.lemmas.List.Elements.{All-contains, All-from_recursion, All-weaker, recursion_from_All}
 use Rattle.std.proofs.lemmas.List.FromFn.{length-map-range_with_len}
 use Rattle.std.proofs.lemmas.Option.{none-some, slice_get_within}
-use Rattle.cs_types.specs.declared.Column.{Column}
 use Rattle.cs_types.specs.declared.Schema.{Schema}
 use Rattle.cs_types.specs.declared.Value.{Value}
-use Rattle.cs_types.specs.declared.Value.TheVariants.{Null, Number, Text}
 use Rattle.cs_types.specs.Rows.{cell_at}
 use Rattle.cs_types.specs.Schemas as table
 use Rattle.cs_types.specs.Schemas.{IsSchema, may_hold}
 use Rattle.cs_model.specs.declared.work.Actor.{Actor}
 use Rattle.cs_model.specs.Changes.{Change, last_change, made}
-use Rattle.cs_model.specs.Held.{holds, IsHeld, AreFit}
+use Rattle.cs_model.specs.Held.{IsHeld, AreFit}
 use Rattle.delete_bitmap.specs.declared.Marks.{Marks}
 use Rattle.row_group.specs.declared.packed.Packed as Packing
 use Rattle.row_group.proofs.ShownLemmas.{cell_at-get_or}
@@ -53,11 +51,6 @@ use Rattle.statement_core.proofs.Reports.{cell_kept, changes_fit, made_row, row_
 
 -- ---- rows
 
-may_held : (column : Column) (value : Value) → IsTrue (holds column value) → IsTrue (may_hold column value)
-may_held column Null is = is
-may_held column (Number z) is = is
-may_held column (Text t) is = is
-
 module _ (schema : Schema) where
   abbrev width : ℕ
   width = length schema.columns
@@ -67,7 +60,7 @@ module _ (schema : Schema) where
     short = let all = length-map-range_with_len (cell_at row) 0 width in omega (arith, all);
     held = λ i column found.
         let same : cell_at (padded width row) i ≡ cell_at row i = cell_at-get_or (padded width row) i ∙ cell_kept schema row i (slice_get_within schema.columns i column found) in
-        subst (λ (cell : Value). IsTrue (may_hold column cell)) (sym same) (may_held column (cell_at row i) (held i column found));
+        subst (λ (cell : Value). IsTrue (may_hold column cell)) (sym same) (held i column found);
   }
 
   -- a version that has the row of its change has one of the table, under its key

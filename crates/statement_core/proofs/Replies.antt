@@ -71,6 +71,7 @@ module _ (now : Schema) (changes : List Change) (book : Book) where
   reply_shows schema m session bound.Commit r h k = subst (ShowsBook now changes book) (sym h) (done_shows (m.txns session) 3902)
   reply_shows schema m session bound.Rollback r h k = subst (ShowsBook now changes book) (sym h) (done_shows (m.txns session) 3903)
   reply_shows schema m session bound.Nothing r h k = subst (ShowsBook now changes book) (sym h) tt
+  reply_shows schema m session (bound.Statistics on) r h k = subst (ShowsBook now changes book) (sym h) tt
   reply_shows schema m session (bound.Insert plan) r h k = write_shows schema m session (bound.Insert plan) (m.txns session) r h
   reply_shows schema m session (bound.Update plan) r h k = write_shows schema m session (bound.Update plan) (m.txns session) r h
   reply_shows schema m session (bound.Delete condition) r h k = write_shows schema m session (bound.Delete condition) (m.txns session) r h
@@ -135,6 +136,7 @@ module _ (schema : Schema) (m : State) (session : ℕ) where
   defined_never bound.Commit r w h = done_never (m.txns session) 3902 (sym h ∙ w.refuses)
   defined_never bound.Rollback r w h = done_never (m.txns session) 3903 (sym h ∙ w.refuses)
   defined_never bound.Nothing r w h = cc (h, w.refuses)
+  defined_never (bound.Statistics on) r w h = cc (h, w.refuses)
   defined_never (bound.Insert plan) r w h = write_never (bound.Insert plan) (m.txns session) r w.given h w.refuses w.is_reply w.commits
   defined_never (bound.Update plan) r w h = write_never (bound.Update plan) (m.txns session) r w.given h w.refuses w.is_reply w.commits
   defined_never (bound.Delete condition) r w h = write_never (bound.Delete condition) (m.txns session) r w.given h w.refuses w.is_reply w.commits

@@ -12,10 +12,11 @@ use Rattle.cs_types.specs.declared.Value.{Value}
 use Rattle.cs_types.specs.declared.Value.TheVariants.{Null}
 use Rattle.cs_types.specs.Keys.{same_key}
 use Rattle.cs_types.specs.Rows.{cell_at, key_in, number_in}
+use Rattle.cs_types.specs.Schemas.{may_hold}
 use Rattle.cs_model.specs.declared.entry.Reply.{Reply}
 use Rattle.cs_model.specs.declared.entry.Reply.TheVariants as reply
 use Rattle.cs_model.specs.Changes.{Change, until, last_change, made}
-use Rattle.cs_model.specs.Held.{holds, IsHeld, IsRowAt, IsFit, MayStand, AreFit}
+use Rattle.cs_model.specs.Held.{IsHeld, IsRowAt, IsFit, MayStand, AreFit}
 use Rattle.cs_model.specs.Text.{IsPrintableReply}
 use Rattle.delete_bitmap.specs.declared.MarkedEnd.{MarkedEnd}
 use Rattle.row_group.specs.Rows.{PackedRow}
@@ -78,7 +79,7 @@ module _ (schema : Schema) where
   row_held key row None h is = absurd (none-some (padded width row) is)
   row_held key row (Some other) h is = λ i column found.
       let same = cell_same other row i (slice_get_within schema.columns i column found) is in
-      subst (λ (cell : Value). IsTrue (holds column cell)) same (h.held i column found)
+      subst (λ (cell : Value). IsTrue (may_hold column cell)) same (h.held i column found)
 
   pub row_under : (key : Key) (row : List Value) (o : Option (List Value)) → schema.key < width → IfSome o (IsRowAt schema key) → option_map (padded width) o ≡ Some (padded width row) → key_in schema.key row ≡ key
   row_under key row None within h is = absurd (none-some (padded width row) is)

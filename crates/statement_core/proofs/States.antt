@@ -11,7 +11,7 @@ use Rattle.cs_model.specs.declared.entry.Refusal.TheVariants.{Reading}
 use Rattle.cs_model.specs.declared.entry.Reply.{Reply}
 use Rattle.cs_model.specs.declared.entry.Reply.TheVariants as reply
 use Rattle.cs_model.specs.Changes.{Edit, Change}
-use Rattle.cs_model.specs.State.{State, Txn, Half, with, txn_set, half_set}
+use Rattle.cs_model.specs.State.{State, Txn, Half, with, txn_set, half_set, statistics_set}
 use Rattle.cs_model.specs.Steps.{IsSegments, or_clock, fixed, txn_opened, next_opened, pinned, began, begin_reply, done_in, unwound, commits, gone, wrote, is_empty, numbered, replied}
 use Rattle.log_laws.specs.Started.{own_in}
 use Rattle.txn_table.specs.declared.txn.Txn as kept
@@ -20,7 +20,7 @@ use Rattle.group_directory.specs.Obstacles.{txn_as, txn_in}
 use Rattle.statement_core.specs.declared.core_state.CoreState.{CoreState}
 use Rattle.statement_core.specs.declared.core_state.HalfDone.{HalfDone}
 use Rattle.statement_core.specs.Seats.{seat}
-use Rattle.statement_core.specs.CoreState.{half_in, state_of, IsBare}
+use Rattle.statement_core.specs.CoreState.{half_in, is_on, settings_of, state_of, IsBare}
 use Rattle.statement_core.specs.Leaves.{commits_txn}
 use Rattle.statement_core.specs.Settled.{wrote_or}
 use Rattle.statement_core.proofs.Placing.{with_map, with_twice, with_same, with_own}
@@ -43,10 +43,10 @@ txns_with old new i o e = ap all e ∙ with_map txn_in old i o
     all f s = txn_in (f s)
 
 -- the directory has other transactions alone
-pub state_with : (changes : List Change) (old new : CoreState) (i : ℕ) (o : Option kept.Txn) → new.halves ≡ old.halves → new.directory.clock ≡ old.directory.clock
+pub state_with : (changes : List Change) (old new : CoreState) (i : ℕ) (o : Option kept.Txn) → new.halves ≡ old.halves → new.settings ≡ old.settings → new.directory.clock ≡ old.directory.clock
     → txn_of new.directory.txns ≡ with_txn (txn_of old.directory.txns) i o → new.directory.txns.next ≡ old.directory.txns.next → state_of changes new ≡ txn_set (state_of changes old) i (txn_in o)
-state_with changes old new i o halves clock txns next =
-    same_state _ _ refl clock (txns_with (txn_of old.directory.txns) (txn_of new.directory.txns) i o txns) (ap (λ h. (state_of changes (record old { halves = h })).half) halves) refl next
+state_with changes old new i o halves settings clock txns next =
+    same_state _ _ refl clock (txns_with (txn_of old.directory.txns) (txn_of new.directory.txns) i o txns) (ap (λ h. (state_of changes (record old { halves = h })).half) halves) (ap settings_of settings) next
 
 -- ---- what a Start does to the open transactions
 
@@ -95,23 +95,31 @@ state_half changes old seats i half e = same_state _ _ refl refl refl (ap all e 
     all f s = half_in (f s)
 
 -- the same transactions
-pub state_kept : (changes : List Change) (old new : CoreState) → new.halves ≡ old.halves → new.directory.clock ≡ old.directory.clock
+pub state_kept : (changes : List Change) (old new : CoreState) → new.halves ≡ old.halves → new.settings ≡ old.settings → new.directory.clock ≡ old.directory.clock
     → txn_of new.directory.txns ≡ txn_of old.directory.txns → new.directory.txns.next ≡ old.directory.txns.next → state_of changes new ≡ state_of changes old
-state_kept changes old new halves clock txns next = same_state _ _ refl clock (ap all txns) (ap (λ h. (state_of changes (record old { halves = h })).half) halves) refl next
+state_kept changes old new halves settings clock txns next = same_state _ _ refl clock (ap all txns) (ap (λ h. (state_of changes (record old { halves = h })).half) halves) (ap settings_of settings) next
   where
     all : (ℕ → Option kept.Txn) → ℕ → Option Txn
     all f s = txn_in (f s)
 
 -- one opens
-pub state_opened : (changes : List Change) (old new : CoreState) (i depth : ℕ) → new.halves ≡ old.halves → new.directory.clock ≡ old.directory.clock
+pub state_opened : (changes : List Change) (old new : CoreState) (i depth : ℕ) → new.halves ≡ old.halves → new.settings ≡ old.settings → new.directory.clock ≡ old.directory.clock
     → txn_of new.directory.txns ≡ with_txn (txn_of old.directory.txns) i (Some (opened old.directory.txns.next depth)) → new.directory.txns.next ≡ old.directory.txns.next + 1
     → state_of changes new ≡ record (state_of changes old) {
       txns = with (state_of changes old).txns i (Some (record { number = old.directory.txns.next; depth = depth; snapshot = None; own = [] }));
       next = old.directory.txns.next + 1;
     }
-state_opened changes old new i depth halves clock txns next =
+state_opened changes old new i depth halves settings clock txns next =
     same_state _ _ refl clock (txns_with (txn_of old.directory.txns) (txn_of new.directory.txns) i (Some (opened old.directory.txns.next depth)) txns)
-    (ap (λ h. (state_of changes (record old { halves = h })).half) halves) refl next
+    (ap (λ h. (state_of changes (record old { halves = h })).half) halves) (ap settings_of settings) next
+
+-- another setting alone
+pub state_set : (changes : List Change) (old : CoreState) (seats : List (Option Bool)) (i : ℕ) (on : Bool) → seat seats ≡ with (seat old.settings) i (Some on)
+    → state_of changes (record old { settings = seats }) ≡ statistics_set (state_of changes old) i on
+state_set changes old seats i on e = same_state _ _ refl refl refl refl (ap all e ∙ with_map is_on (seat old.settings) i (Some on)) refl
+  where
+    all : (ℕ → Option Bool) → ℕ → Bool
+    all f s = is_on (f s)
 
 -- ---- a transaction of the table, and that of the model
 

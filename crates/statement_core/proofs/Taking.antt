@@ -5,6 +5,7 @@ use Rattle.std.specs.declared.alloc.Global.{Global}
 use Rattle.std.specs.declared.sync.Arc.{Arc}
 use Rattle.cs_types.specs.declared.Schema.{Schema}
 use Rattle.cs_model.specs.declared.entry.Bound.{Bound}
+use Rattle.cs_model.specs.declared.pred.Pred.{Pred}
 use Rattle.cs_model.specs.Changes.{Change, until, table}
 use Rattle.cs_model.specs.Floors as floors
 use Rattle.cs_model.specs.Floors.{IsFloor}
@@ -15,15 +16,21 @@ use Rattle.edit_laws.specs.Edits.{edits_of}
 use Rattle.write_set.specs.declared.write.Write.{Write}
 use Rattle.txn_table.specs.declared.txn.Txn as kept
 use Rattle.txn_table.specs.Txns.{txn_of, depth_of, fixed, own_of, snapshot_of, snapshots_in}
+use Rattle.group_book.specs.Book.{Book}
+use Rattle.group_log.specs.Counted.{AreCounts}
 use Rattle.group_view.specs.declared.view.Pinned.{Pinned}
+use Rattle.group_view.specs.Books.{book_of}
+use Rattle.group_view.specs.Scanned.{counts_in}
 use Rattle.group_view.specs.Views.{shown_table, padded_table, IsView, ShowsTables}
 use Rattle.group_directory.specs.declared.directory.Directory.{Directory}
 use Rattle.group_directory.specs.Laws.{IsLookAt}
 use Rattle.group_directory.specs.Obstacles.{txn_in}
 use Rattle.group_directory.specs.Stands.{width_in, Stands}
+use Rattle.group_directory.proofs.ReportLaws.{counts_shown}
 use Rattle.statement_core.specs.declared.core_state.CoreState.{CoreState}
 use Rattle.statement_core.specs.Begun.{Pins, IsPinnedFor}
-use Rattle.statement_core.specs.CoreState.{state_of}
+use Rattle.statement_core.specs.CoreState.{state_of, groups_of}
+use Rattle.statement_core.specs.Counted.{HasCounts}
 use Rattle.statement_core.specs.Taken.{opened_for, IsPinOf, IsPinOrNone, IsTaken}
 use Rattle.statement_core.proofs.Placing.{with_own}
 use Rattle.statement_core.proofs.States.{own_model}
@@ -45,10 +52,10 @@ low d changes j floor is = at is.one_of
     at (inl x) = let txns = j.txns in txns.snapshots x.0 floor x.1
     at (inr x) = let same = x.0 in omega (arith, same)
 
-pub pin_of : (changes : List Change) (mid : Directory) (new : Directory) (session : ℕ) (pinned : Pinned) → Stands mid changes → new.schema ≡ mid.schema → new.clock ≡ mid.clock → IsLookAt mid pinned.view → IsView pinned.view
+pub pin_of : (changes : List Change) (mid : Directory) (new : Directory) (session : ℕ) (pinned : Pinned) → Stands mid changes → new.schema ≡ mid.schema → new.clock ≡ mid.clock → book_of new.list ≡ book_of mid.list → IsLookAt mid pinned.view → IsView pinned.view
     → ShowsTables (width_in mid) pinned.view changes → snapshots_in (txn_of new.txns) session ≡ Some pinned.snapshot → txn_of new.txns session ≡ fixed mid.clock (txn_of mid.txns session) → pinned.own ≡ own_of (txn_of new.txns session)
     → IsPinOf changes new session pinned
-pin_of changes mid new session pinned j schema clock look view shows snap txns own =
+pin_of changes mid new session pinned j schema clock book look view shows snap txns own =
     let low_is = low mid changes j pinned.view.floor look.floor in
     let kept = j.txns in
     let floor = look.floor in
@@ -61,6 +68,9 @@ pin_of changes mid new session pinned j schema clock look view shows snap txns o
       snapshot = snap;
       taken = let le = in_view.1 in omega (arith, clock, le);
       own = own;
+      counts = λ condition.
+          subst (λ (s : Arc Schema Global). AreCounts s.value changes (book_of new.list) condition (counts_in s.value pinned.view condition)) (sym schema)
+          (subst (λ (b : Book). AreCounts mid.schema.value changes b condition (counts_in mid.schema.value pinned.view condition)) (sym book) (counts_shown mid pinned.view changes condition j look));
     }
 
 -- ---- what was begun
@@ -70,7 +80,7 @@ module _ (begin : Begin) (changes : List Change) (old mid new : CoreState) (sess
     (opened : state_of changes mid ≡ opened_for (state_of changes old) session b short)
     (halved : state_of changes new ≡ half_set (state_of changes mid) session (Some (record { bound = b; short = short })))
     (why : short ≡ true → is_of_table b ≡ true) (own_is : own ≡ own_of (txn_of mid.directory.txns session)) (implicit_is : implicit ≡ is_implicit ((state_of changes mid).txns session))
-    (pin : is_of_table b ≡ true → short ≡ false → IsPinOrNone changes mid.directory session pinned) where
+    (pin : is_of_table b ≡ true → short ≡ false → IsPinOrNone changes mid.directory session pinned) (groups : groups_of mid ≡ groups_of old) where
   snap_of : Option Pinned → ℕ
   snap_of None = 0
   snap_of (Some p) = p.snapshot
@@ -123,6 +133,11 @@ module _ (begin : Begin) (changes : List Change) (old mid new : CoreState) (sess
     own = ap edits_of is.own ∙ sym (own_model (txn_of mid.directory.txns session));
   }
 
+  has : (p : Pinned) → IsPinOf changes mid.directory session p → HasCounts begin.schema changes (groups_of old) (Some p)
+  has p is = λ condition.
+      subst (λ (s : Schema). AreCounts s changes (groups_of old) condition (counts_in s p.view condition)) schema
+      (subst (λ (book : Book). AreCounts mid.directory.schema.value changes book condition (counts_in mid.directory.schema.value p.view condition)) groups (is.counts condition))
+
   taken_at : (o : Option Pinned) → pinned ≡ o → IsTaken begin changes old session b (record { pinned = pinned; own = own; short = short; implicit = implicit }) new
   taken_at None e = record {
     begun = begun_at 0;
@@ -133,6 +148,7 @@ module _ (begin : Begin) (changes : List Change) (old mid new : CoreState) (sess
     implicit = implicit_is;
     own = own_begun;
     pinned = λ t n. absurd (none t n);
+    counts = λ t n. absurd (none t n);
   }
     where
       none : is_of_table b ≡ true → short ≡ false → ⊥
@@ -146,6 +162,7 @@ module _ (begin : Begin) (changes : List Change) (old mid new : CoreState) (sess
     implicit = implicit_is;
     own = own_begun;
     pinned = λ t n. subst (IsPinnedFor (begun_at p.snapshot)) (sym e) (pins p (there t n));
+    counts = λ t n. subst (HasCounts begin.schema changes (groups_of old)) (sym e) (has p (there t n));
   }
     where
       there : is_of_table b ≡ true → short ≡ false → IsPinOf changes mid.directory session p

@@ -329,7 +329,7 @@ module _ (made : Terms) (held : CoreState) (log : List Entry) (cap : ℕ) (sessi
   core_worked after new actor w mover stands sizes schema state moves len =
       core_push made held after log cap new sessions (Mover actor w) i i.changes stands sizes schema state
       (mover, (floor, floor_of i.changes held floor at_floor, subst (λ (s : Sizes). Works s floor actor (groups_of held) w (groups_of after)) i.sizes moves))
-      (subst (IsFitState made.schema.value) (sym state) i.fit) tt
+      (subst (IsFitState made.schema.value) (sym state) i.fit) tt tt
       (let same = owed_mover sessions log actor w in omega (arith, len, same))
 
   -- the first event of a turn

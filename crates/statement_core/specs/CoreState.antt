@@ -1,5 +1,5 @@
 -- The state of the row model that the core's fields stand for, beside the committed changes.
-use Rattle.std.specs.Prelude.{◌≡◌, ◌<◌, ◌+◌, ◌^◌, ℕ, List, [], ◌==◌, true, false, Option, None, Some}
+use Rattle.std.specs.Prelude.{◌≡◌, ◌<◌, ◌+◌, ◌^◌, ℕ, List, [], ◌==◌, Bool, true, false, Option, None, Some}
 use Rattle.cs_model.specs.declared.work.Actor.{Actor}
 use Rattle.cs_model.specs.Changes.{Change}
 use Rattle.cs_model.specs.State.{Txn, Half, State}
@@ -19,14 +19,21 @@ half_in (Some half) = Some (record { bound = half.bound.value; short = half.shor
 abbrev pub halves_of : List (Option HalfDone) → ℕ → Option Half
 halves_of seats session = half_in (seat seats session)
 
--- no statement sets a session's STATISTICS IO so far
+-- a setting is off until it is made
+abbrev pub is_on : Option Bool → Bool
+is_on None = false
+is_on (Some on) = on
+
+abbrev pub settings_of : List (Option Bool) → ℕ → Bool
+settings_of seats session = is_on (seat seats session)
+
 abbrev pub state_of : List Change → CoreState → State
 state_of changes held = let directory = held.directory in record {
   changes = changes;
   clock = directory.clock;
   txns = txns_of directory.txns;
   half = halves_of held.halves;
-  statistics = λ _. false;
+  statistics = settings_of held.settings;
   next = directory.txns.next;
 }
 

@@ -11,6 +11,7 @@ use Rattle.cs_model.specs.Text.{IsPrintableEntry}
 use Rattle.log_laws.specs.Laws.{AreDistinct}
 use Rattle.log_laws.specs.Started.{Begun, IsStarted}
 use Rattle.group_book.specs.Commits.{Sizes}
+use Rattle.group_log.specs.Counted.{IsCounted}
 use Rattle.group_log.specs.Followed.{ground_of, Followed}
 use Rattle.group_directory.specs.Laws.{sizes_of as directory_sizes}
 use Rattle.group_directory.specs.Stands.{Stands}
@@ -23,7 +24,8 @@ use Rattle.statement_core.specs.Fit.{IsFitState}
 use Rattle.statement_core.specs.Terms.{sizes_of, AreTerms}
 
 -- the log is followed, and leads to the state and the book that the fields stand for, with some committed changes; all of it
--- fits the table; and there is room for every Finish and End that is still owed, and for the install of every claim that is out
+-- fits the table; answers tell the counts of their Starts' groups; and there is room for every Finish and End that is still owed, and
+-- for the install of every claim that is out
 pub record IsCore (made : Terms) (held : CoreState) (log : List Entry) (capacity : ℕ) (sessions : List ℕ) : Type 0 where
   pub terms : AreTerms made
   pub table : IsSchema made.schema.value
@@ -39,6 +41,7 @@ pub record IsCore (made : Terms) (held : CoreState) (log : List Entry) (capacity
   pub few : length sessions ≤ 64
   pub distinct : AreDistinct sessions
   pub printable : All (IsPrintableEntry made.schema.value) log
+  pub counted : IsCounted (ground_of made.schema.value (sizes_of made)) log
 
 -- the entry is the Start of this statement in a session
 abbrev pub IsStartOf : ℕ → Bound → Bool → Entry → Type 0

@@ -3,6 +3,7 @@ pub mod CoreState
 pub mod Leaves
 pub mod Terms
 pub mod Outcomes
+pub mod Counted
 pub mod Begun
 pub mod Settled
 pub mod Taken
@@ -11,4 +12,5 @@ pub mod CoreValue
 pub mod Turns
 pub mod Movers
 pub mod NewTable
+pub mod Ended
 pub mod Cores

@@ -1,5 +1,5 @@
 -- What the work of a statement gives on what was started.
-use Rattle.std.specs.Prelude.{◌≡◌, ◌≢◌, ℕ, List, [], map, filter, length, Bool, true, false, All, Contains, Result, Ok, Err, Option, None, Some}
+use Rattle.std.specs.Prelude.{◌≡◌, ◌≢◌, ℕ, List, [], map, filter, length, Bool, true, false, All, Contains, Result, Ok, Err, Option, None, Some, if◌then◌else◌}
 use Rattle.std.specs.Map.{values_of}
 use Rattle.cs_types.specs.declared.Key.{Key}
 use Rattle.cs_types.specs.declared.Schema.{Schema}
@@ -33,19 +33,29 @@ abbrev pub IsValued : Result (List Edit) Refusal → Reply → Type 0
 IsValued (Ok edits) r = ⊥
 IsValued (Err refusal) r = r ≡ reply.Refused refusal
 
--- the reply that a statement has by what it reads alone: a query's answer, or a write's first value refusal
+-- the reply that a statement has by what it reads alone: a query's answer, with counts of segments, or a write's first value refusal
 abbrev pub IsDecided : Schema → Bound → Table → Reply → Type 0
 IsDecided schema bound.Begin table r = ⊥
 IsDecided schema bound.Commit table r = ⊥
 IsDecided schema bound.Rollback table r = ⊥
 IsDecided schema bound.Nothing table r = ⊥
+IsDecided schema (bound.Statistics on) table r = ⊥
 IsDecided schema (bound.Insert plan) table r = IsValued (writes schema table (bound.Insert plan)) r
 IsDecided schema (bound.Update plan) table r = IsValued (writes schema table (bound.Update plan)) r
 IsDecided schema (bound.Delete condition) table r = IsValued (writes schema table (bound.Delete condition)) r
-IsDecided schema (bound.Select query) table r = IsAnswer false (answer schema query (values_of table)) r
+IsDecided schema (bound.Select query) table r = IsAnswer true (answer schema query (values_of table)) r
 IsDecided schema bound.GroupReport table r = ⊥
 IsDecided schema bound.SegmentReport table r = ⊥
 IsDecided schema (bound.Refused refusal) table r = ⊥
+
+-- a reply as its session is told it: without counts of segments where the setting is off
+abbrev pub told : Bool → Reply → Reply
+told on reply.Done = reply.Done
+told on (reply.Affected count) = reply.Affected count
+told on (reply.Rows rows segments) = reply.Rows rows (if on then segments else None)
+told on (reply.Groups lines buffered) = reply.Groups lines buffered
+told on (reply.Segments lines) = reply.Segments lines
+told on (reply.Refused refusal) = reply.Refused refusal
 
 -- ---- writes
 
@@ -89,6 +99,7 @@ needs_none bound.Begin = true
 needs_none bound.Commit = false
 needs_none bound.Rollback = true
 needs_none bound.Nothing = true
+needs_none (bound.Statistics on) = true
 needs_none (bound.Insert plan) = false
 needs_none (bound.Update plan) = false
 needs_none (bound.Delete condition) = false

@@ -9,15 +9,18 @@ use Rattle.log_laws.specs.Started.{Begun, Starts}
 use Rattle.edit_laws.specs.Edits.{edits_of}
 use Rattle.txn_table.specs.Txns.{txn_of, own_of, snapshots_in}
 use Rattle.group_view.specs.declared.view.Pinned.{Pinned}
+use Rattle.group_view.specs.Books.{book_of}
 use Rattle.group_view.specs.Views.{IsView, ShowsTables}
 use Rattle.group_directory.specs.declared.directory.Directory.{Directory}
 use Rattle.group_directory.specs.Stands.{width_in}
 use Rattle.statement_core.specs.declared.begin.Taken.{Taken}
 use Rattle.statement_core.specs.declared.core_state.CoreState.{CoreState}
 use Rattle.statement_core.specs.Begun.{IsPinnedFor}
-use Rattle.statement_core.specs.CoreState.{state_of}
+use Rattle.statement_core.specs.CoreState.{state_of, groups_of}
+use Rattle.statement_core.specs.Counted.{HasCounts}
 
--- what is pinned shows the tables of these changes, and has the snapshot and the own writes of the session's transaction
+-- what is pinned shows the tables of these changes, has the snapshot and the own writes of the session's transaction, and has the
+-- counts of the directory's groups
 pub record IsPinOf (changes : List Change) (directory : Directory) (session : ℕ) (pinned : Pinned) : Type 0 where
   pub view : IsView pinned.view
   pub shows : ShowsTables (width_in directory) pinned.view changes
@@ -26,6 +29,7 @@ pub record IsPinOf (changes : List Change) (directory : Directory) (session : �
   pub snapshot : snapshots_in (txn_of directory.txns) session ≡ Some pinned.snapshot
   pub taken : pinned.snapshot ≤ directory.clock
   pub own : pinned.own ≡ own_of (txn_of directory.txns session)
+  pub counts : HasCounts directory.schema.value changes (book_of directory.list) (Some pinned)
 
 abbrev pub IsPinOrNone : List Change → Directory → ℕ → Option Pinned → Type 0
 IsPinOrNone changes directory session None = ⊥
@@ -45,3 +49,4 @@ pub record IsTaken (begin : Begin) (changes : List Change) (old : CoreState) (se
   pub implicit : taken.implicit ≡ begun.implicit
   pub own : edits_of taken.own ≡ begun.own
   pub pinned : is_of_table begun.bound ≡ true → begun.short ≡ false → IsPinnedFor begun taken.pinned
+  pub counts : is_of_table begun.bound ≡ true → begun.short ≡ false → HasCounts begin.schema changes (groups_of old) taken.pinned

@@ -1,5 +1,5 @@
 // The core: the log of events, and what stands for the state that it leads to.
-ghost use Rattle.std.specs.Prelude.{◌≡◌, ◌≤◌, ◌<◌, ◌++◌, ◌∷◌, [], List, length, filter, not, All, Contains, OnErr, IfOk, IsSome, None, true, false};
+ghost use Rattle.std.specs.Prelude.{◌≡◌, ◌≤◌, ◌<◌, ◌++◌, ◌∷◌, [], List, length, filter, not, All, Contains, OnErr, IfOk, IfSome, IsSome, None, true, false};
 ghost use Rattle.cs_types.specs.Schemas.{IsSchema};
 ghost use Rattle.cs_model.specs.declared.entry.Entry.TheVariants.{Finish, End};
 ghost use Rattle.cs_model.specs.declared.entry.Entry.{Entry};
@@ -7,6 +7,7 @@ ghost use Rattle.cs_model.specs.declared.entry.Reply.{Reply};
 ghost use Rattle.cs_model.specs.declared.work.Actor.{Actor};
 ghost use Rattle.cs_model.specs.State.{State, begin_of};
 ghost use Rattle.cs_model.specs.Actors.{entries_of, is_begun, has_ended};
+ghost use Rattle.cs_model.specs.Changes.{table};
 ghost use Rattle.cs_model.specs.Ready.{IsReady};
 ghost use Rattle.cs_model.specs.Steps.{Legal};
 ghost use Rattle.cs_model.specs.Text.{IsPrintableEntry};
@@ -15,10 +16,13 @@ ghost use Rattle.log_laws.specs.Started.{Begun, IsStarted};
 ghost use Rattle.group_book.specs.Book.{Book};
 ghost use Rattle.group_book.specs.Choices as spec;
 ghost use Rattle.group_book.specs.Turns.{same_actor};
+ghost use Rattle.group_log.specs.Counted.{AreCountsAt, IsCounted};
 ghost use Rattle.group_log.specs.Followed.{ground_of, is_mover, Followed};
 ghost use Rattle.group_directory.specs.Installing.{held_by};
 ghost use Rattle.statement_core.specs.Begun.{Hands, MayWork};
 ghost use Rattle.statement_core.specs.Cores.{IsDone, IsStartOf};
+ghost use Rattle.statement_core.specs.Counted.{outcome_counts, HasStartCounts};
+ghost use Rattle.statement_core.specs.Ended.{HaveEnded};
 ghost use Rattle.statement_core.specs.Movers.{GivesTurn, IsMended};
 ghost use Rattle.statement_core.specs.NewTable.{IsNewTable};
 ghost use Rattle.statement_core.specs.Terms.{sizes_of, AreTerms, AreTermsOf};
@@ -51,6 +55,8 @@ pub struct Core {
     held: CoreState,
     log: Vec<Entry>,
     sessions: Vec<u32>,
+    /// How many of the sessions have no End in the log.
+    unended: usize,
 }
 
 impl Model for Core {
@@ -64,14 +70,15 @@ impl Model for Core {
 
     ghost coded = { Prim.hlevel (codes, expr.the_row.coded, pred.the_row.coded) };
 
-    ghost use Rattle.std.specs.Prelude.{vec_capacity};
+    ghost use Rattle.std.specs.Prelude.{◌≡◌, vec_capacity};
     ghost use Rattle.statement_core.specs.Cores.{IsCore};
+    ghost use Rattle.statement_core.specs.Ended.{without_end};
     ghost use Rattle.statement_core.specs.CoreState.{claims_of};
     ghost use Rattle.statement_core.specs.Terms.{sizes_of};
 
     ghost view = { λ c. record { schema = c.terms.value.schema.value; sizes = sizes_of c.terms.value; log = c.log.items; sessions = c.sessions.items; claims = claims_of c.held } };
 
-    ghost invariant = { λ c. IsCore c.terms.value c.held c.log.items (vec_capacity c.log) c.sessions.items };
+    ghost invariant = { λ c. IsCore c.terms.value c.held c.log.items (vec_capacity c.log) c.sessions.items × (c.unended ≡ without_end c.log.items c.sessions.items) };
 }
 
 /// The directory of a new table, with what the core was made with.
@@ -124,12 +131,16 @@ impl Core {
             Ok(terms) => terms,
             Err(_) => return Err(Memory),
         };
+        let halves = Seats::new(alloc)?;
+        let settings = Seats::new(alloc)?;
         let held = CoreState {
             directory,
-            halves: Seats::new(alloc)?,
+            halves,
+            settings,
         };
         let mut log = Vec::new(alloc);
         log.reserve(SESSIONS)?;
+        let unended = sessions.len();
         let sessions = sessions.to_vec(alloc)?;
         Ok(Core {
             alloc,
@@ -137,6 +148,7 @@ impl Core {
             held,
             log,
             sessions,
+            unended,
         })
     }
 
@@ -152,6 +164,7 @@ impl Core {
         ensures bound { IfOk result (λ started. started.bound.value ≡ bound) }
         ensures terms { IfOk result (λ started. AreTerms started.terms.value × (sizes_of started.terms.value ≡ self.new.sizes)) }
         ensures started { IfOk result (λ started. (begun : Begun) × Hands begun started × MayWork begun × IsStarted (begin_of self.new.schema) self.new.log session begun) }
+        ensures counts { IfOk result (HasStartCounts (ground_of self.new.schema self.new.sizes) self.new.log session) }
         ensures schema { self.new.schema ≡ self.old.schema }
         ensures sizes { self.new.sizes ≡ self.old.sizes }
         ensures sessions { self.new.sessions ≡ self.old.sessions }
@@ -183,11 +196,13 @@ impl Core {
         })
     }
 
-    /// The Finish of the session's statement: its reply is in the log then. Where memory for the reply or its effect is not
+    /// The Finish of the session's statement: its reply is in the log then, with the counts of segments of an answer exactly where
+    /// the session's setting of STATISTICS IO is on. Where memory for the reply or its effect is not
     /// there, it is error 701; and 50001 at 1 where a commit would draw a group id above 2^62. It takes no memory for its entry.
     pub fn finish(&mut self, session: u32, outcome: Outcome)
         requires known { Contains self.old.sessions session }
         requires outcome { IsDone (begin_of self.old.schema) self.old.sizes self.old.log session outcome }
+        requires counts { IfSome (outcome_counts outcome) (AreCountsAt (ground_of self.old.schema self.old.sizes) self.old.log session) }
         ensures log { (reply : Reply) × (self.new.log ≡ self.old.log ++ Finish session reply ∷ []) }
         ensures schema { self.new.schema ≡ self.old.schema }
         ensures sizes { self.new.sizes ≡ self.old.sizes }
@@ -211,6 +226,15 @@ impl Core {
     {
         end(&mut self.held, session);
         self.log.push_reserved(Entry::End { session });
+        self.unended -= 1;
+    }
+
+    /// Whether each of its sessions has its End in the log; without a session, at once.
+    pub fn ended(&self) -> bool
+        ensures ended { result ≡ true → HaveEnded self.now.log self.now.sessions }
+        ensures exactly { HaveEnded self.now.log self.now.sessions → result ≡ true }
+    {
+        self.unended == 0
     }
 
     /// The first event of an actor's turn, by the first of the seven choices that there is (Larson et al., PVLDB 2015, section 4):
@@ -290,6 +314,13 @@ impl Core {
         &self.terms
     }
 
+    /// How many rows the table has at the clock, after the log so far. No row is read.
+    pub fn rows(&self) -> u128
+        ensures { (m : State) → Legal (begin_of self.now.schema) self.now.log m → result ≡ length (table m.changes m.clock) }
+    {
+        self.held.directory.rows()
+    }
+
     /// The log, which is legal and which the row groups follow: it leads from the empty state and the empty book, entry by entry,
     /// to a state of the row model and a book of row groups; and it can be printed.
     pub fn log(&self) -> &[Entry]
@@ -297,6 +328,8 @@ impl Core {
         ensures legal { (m : State) × Legal (begin_of self.now.schema) self.now.log m }
         ensures followed { (m : State) × (book : Book) × Followed (ground_of self.now.schema self.now.sizes) self.now.log m book }
         ensures printable { All (IsPrintableEntry self.now.schema) self.now.log }
+        // Counts of segments in an answer are those of the groups at its statement's Start.
+        ensures counted { IsCounted (ground_of self.now.schema self.now.sizes) self.now.log }
         // In the book that it leads to, an actor that holds none of the claims has no turn to end.
         ensures claims { HasAllClaims (ground_of self.now.schema self.now.sizes) self.now.log self.now.claims }
     {

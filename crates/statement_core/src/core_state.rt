@@ -1,7 +1,7 @@
 // What the core keeps beside its log.
 ghost use Rattle.std.specs.Prelude.{◌≡◌, ℕ, ◌+◌, ◌<◌, ◌≢◌, ◌^◌, [], List, IsSome, OnOk, OnErr, Err, None, Some, true};
 ghost use Rattle.cs_model.specs.Changes.{Change};
-ghost use Rattle.cs_model.specs.State.{with, txn_set, half_set};
+ghost use Rattle.cs_model.specs.State.{with, txn_set, half_set, statistics_set};
 ghost use Rattle.cs_model.specs.Steps.{gone};
 ghost use Rattle.edit_laws.specs.Edits.{edits_of};
 ghost use Rattle.txn_table.specs.Txns.{txn_of, deepened, widened, own_of};
@@ -12,7 +12,7 @@ ghost use Rattle.group_directory.specs.declared.committing.CommitRefusal.TheVari
 ghost use Rattle.group_directory.specs.Laws.{sizes_of, MayStage};
 ghost use Rattle.group_directory.specs.Obstacles.{txn_in};
 ghost use Rattle.group_directory.specs.Stands.{Stands};
-ghost use Rattle.statement_core.specs.CoreState.{half_in, halves_of, state_of, groups_of, IsWithin, IsSame, IsStill};
+ghost use Rattle.statement_core.specs.CoreState.{half_in, halves_of, settings_of, state_of, groups_of, IsWithin, IsSame, IsStill};
 ghost use Rattle.statement_core.specs.Leaves.{committed_in, Leaves};
 
 use crate::seats::Seats;
@@ -31,11 +31,13 @@ pub struct HalfDone {
     pub short: bool,
 }
 
-/// The row groups with the open transactions, and what each session has half done.
+/// The row groups with the open transactions, and what each session has half done and has set.
 #[derive(Drop)]
 pub struct CoreState {
     pub directory: Directory,
     pub halves: Seats<HalfDone>,
+    /// Each session's setting of STATISTICS IO: whether its answers tell counts of segments. None is off.
+    pub settings: Seats<bool>,
 }
 
 /// Gives a session another half-done statement, and answers the one that it had.
@@ -43,9 +45,29 @@ pub fn set_half(held: &mut CoreState, session: u32, half: Option<HalfDone>) -> O
     requires { session < 65 }
     ensures was { half_in result ≡ halves_of held.old.halves session }
     ensures state { (changes : List Change) → state_of changes held.new ≡ half_set (state_of changes held.old) session (half_in half) }
+    ensures settings { held.new.settings ≡ held.old.settings }
     ensures rest { held.new.directory ≡ held.old.directory }
 {
     held.halves.set(session, half)
+}
+
+/// Gives a session another setting.
+pub fn set_statistics(held: &mut CoreState, session: u32, on: bool)
+    requires { session < 65 }
+    ensures state { (changes : List Change) → state_of changes held.new ≡ statistics_set (state_of changes held.old) session on }
+    ensures still { IsStill held.old held.new }
+{
+    held.settings.set(session, Some(on));
+}
+
+/// Whether a session is told counts of segments.
+pub fn is_told(held: &CoreState, session: u32) -> bool
+    ensures { result ≡ settings_of held.now.settings session }
+{
+    match held.settings.get(session) {
+        Some(on) => *on,
+        None => false,
+    }
 }
 
 /// Opens a transaction of the session, so deep.

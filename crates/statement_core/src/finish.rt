@@ -19,11 +19,12 @@ ghost use Rattle.group_directory.specs.Obstacles.{txn_in};
 ghost use Rattle.group_directory.specs.Stands.{Stands};
 ghost use Rattle.statement_core.specs.declared.started.Outcome.TheVariants as outcome;
 ghost use Rattle.cs_model.specs.declared.entry.Reply.{Reply};
-ghost use Rattle.statement_core.specs.CoreState.{halves_of, state_of, groups_of, IsBare, IsWithin, IsStill};
+ghost use Rattle.statement_core.specs.CoreState.{halves_of, settings_of, state_of, groups_of, IsBare, IsWithin, IsStill};
 ghost use Rattle.statement_core.specs.Outcomes.{needs_none};
+ghost use Rattle.statement_core.specs.Outcomes as spec;
 ghost use Rattle.statement_core.specs.Settled.{wrote_or, Settles, Ends, IsDoneAt, IsReadyAt, IsFinished};
 
-use crate::core_state::{CoreState, deepen, open, roll_back, set_half};
+use crate::core_state::{CoreState, deepen, is_told, open, roll_back, set_half, set_statistics};
 use crate::started::Outcome;
 use crate::writes::{commit_with, wrote};
 use cs_base::Memory;
@@ -107,6 +108,16 @@ fn rollback(held: &mut CoreState, session: u32) -> Reply
     Reply::Done
 }
 
+/// The Finish of a SET of STATISTICS IO. It is no part of a transaction.
+fn statistics(held: &mut CoreState, session: u32, on: bool) -> Reply
+    requires { session < 65 }
+    ensures settles { (schema : Schema) (changes : List Change) → Settles schema (state_of changes held.old) session (statement.Statistics on) result (state_of changes held.new) }
+    ensures still { IsStill held.old held.new }
+{
+    set_statistics(held, session, on);
+    Reply::Done
+}
+
 /// The Finish of the report on row groups: what they are now, whatever the session's snapshot.
 fn group_report(held: &mut CoreState, session: u32) -> Reply
     requires session { session < 65 }
@@ -172,6 +183,7 @@ fn plain(alloc: Global, held: &mut CoreState, session: u32, bound: &Bound) -> Re
         Bound::Begin => begin(held, session),
         Bound::Rollback => rollback(held, session),
         Bound::Nothing => Reply::Done,
+        Bound::Statistics(on) => statistics(held, session, *on),
         Bound::GroupReport => group_report(held, session),
         Bound::SegmentReport => segment_report(alloc, held, session),
         Bound::Refused(refusal) => refuse(held, session, *refusal),
@@ -180,21 +192,35 @@ fn plain(alloc: Global, held: &mut CoreState, session: u32, bound: &Bound) -> Re
     }
 }
 
+/// A reply as its session is told it: without counts of segments where that is off.
+fn told(on: bool, reply: Reply) -> Reply
+    ensures { result ≡ spec.told on reply }
+{
+    match reply {
+        Reply::Rows { rows, segments } => Reply::Rows {
+            rows,
+            segments: if on { segments } else { None },
+        },
+        other => other,
+    }
+}
+
 /// The Finish of a statement whose work gave its reply. An implicit transaction has written nothing, so it is over.
 fn answered(held: &mut CoreState, session: u32, reply: Reply) -> Reply
     requires session { session < 65 }
     requires bare { IsBare (txn_in (txn_of held.old.directory.txns session)) }
-    ensures reply { result ≡ reply }
+    ensures reply { result ≡ spec.told (settings_of held.old.settings session) reply }
     ensures state { (changes : List Change) → state_of changes held.new ≡ wrote_or (state_of changes held.old) session [] reply }
     ensures still { IsStill held.old held.new }
 {
     if let Reply::Refused(refusal) = reply {
         return refuse(held, session, refusal);
     }
+    let answer = told(is_told(held, session), reply);
     if held.directory.depth(session) == Some(0) {
         roll_back(held, session);
     }
-    reply
+    answer
 }
 
 /// The Finish of a COMMIT.
@@ -229,7 +255,7 @@ fn settle(
         → Ends begin.schema changes held.old session bound.now short result held.new }
     ensures printable { (changes : List Change) → Stands held.old.directory changes → AreFit held.old.directory.schema.value changes → bound.now ≡ statement.SegmentReport → IsPrintableReply held.old.directory.schema.value result }
     ensures short { outcome ≡ Outcome.Short → result ≡ Reply.Refused Refusal.Memory }
-    ensures given { (given : Reply) → outcome ≡ Outcome.Answer given → result ≡ given }
+    ensures given { (given : Reply) → outcome ≡ Outcome.Answer given → result ≡ spec.told (settings_of held.old.settings session) given }
 {
     match outcome {
         Outcome::Nothing => plain(alloc, held, session, bound),
@@ -253,7 +279,7 @@ pub fn finish(alloc: Global, held: &mut CoreState, session: u32, outcome: Outcom
     ensures finished { (begin : Begin) (changes : List Change) → IsReadyAt begin changes held.old session outcome → IsFinished begin changes held.old session result held.new }
     ensures printable { (changes : List Change) → Stands held.old.directory changes → AreFit held.old.directory.schema.value changes → halves_of held.old.halves session ≡ Some (record { bound = statement.SegmentReport; short = false }) → IsPrintableReply held.old.directory.schema.value result }
     ensures short { outcome ≡ Outcome.Short → result ≡ Reply.Refused Refusal.Memory }
-    ensures given { (given : Reply) → outcome ≡ Outcome.Answer given → result ≡ given }
+    ensures given { (given : Reply) → outcome ≡ Outcome.Answer given → result ≡ spec.told (settings_of held.old.settings session) given }
 {
     match set_half(held, session, None) {
         Some(half) => settle(alloc, held, session, &half.bound, outcome),

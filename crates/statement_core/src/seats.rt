@@ -1,5 +1,6 @@
 // A value for some sessions, by their numbers.
 ghost use Rattle.std.specs.Prelude.{◌≡◌, ◌<◌, IfOk, ℕ, None};
+ghost use Rattle.std.specs.Option.{option_copied};
 ghost use Rattle.cs_model.specs.State.{with};
 ghost use Rattle.statement_core.specs.Seats.{seat};
 
@@ -36,6 +37,16 @@ impl<T: Drop> Seats<T> {
             seats.push(None)?;
         }
         Ok(Seats { seats })
+    }
+
+    /// What a session has.
+    pub fn get(&self, session: u32) -> Option<&T>
+        ensures { option_copied result ≡ seat self.now session }
+    {
+        match self.seats.get(session as usize) {
+            Some(Some(value)) => Some(value),
+            _ => None,
+        }
     }
 
     /// Gives a session another value, and answers the one that it had.

@@ -4,6 +4,7 @@ ghost use Rattle.group_book.specs.Commits.{Sizes};
 ghost use Rattle.group_view.specs.Claims.{IsMendable, IsProductOf};
 ghost use Rattle.log_laws.specs.Started.{Begun};
 ghost use Rattle.statement_core.specs.Begun.{Hands, MayWork};
+ghost use Rattle.statement_core.specs.Counted.{AreCountsOf};
 ghost use Rattle.statement_core.specs.Outcomes.{GivesOn};
 ghost use Rattle.statement_core.specs.Terms.{sizes_of, AreTerms};
 
@@ -12,7 +13,7 @@ use cs_model::{Bound, Reply};
 use cs_types::{Key, Schema};
 use group_view::{Claim, Parcel, Pinned, Product};
 use std::alloc::Global;
-use std::sync::Arc;
+use std::sync::{Arc, Wait};
 use write_set::{Own, Write};
 
 /// What a core was made with.
@@ -46,7 +47,8 @@ pub struct Started {
 pub enum Outcome {
     /// There is nothing to do before the Finish: the statement is none of the table and no COMMIT.
     Nothing,
-    /// The reply: the answer of a query, or the first value refusal of a write.
+    /// The reply: the answer of a query, with the counts of segments that its scan read and skipped, or the first value refusal of
+    /// a write.
     Answer(Reply),
     /// What a write puts at which key.
     Writes {
@@ -65,13 +67,14 @@ pub enum Outcome {
     Short,
 }
 
-/// Who does the work of statements and of movers.
-pub trait Desk {
-    /// The outcome of a statement that was started, over what it reads.
-    fn work(&self, alloc: Global, started: &Started) -> Outcome
+/// Who does the work of statements and of movers; sessions and movers on threads share one.
+pub trait Desk: Sync {
+    /// The outcome of a statement that was started, over what it reads. It may wait for threads that do parts of the work.
+    fn work<R: Wait>(&self, rt: &R, alloc: Global, started: &Started) -> Outcome
         requires terms { AreTerms started.now.terms.value }
         requires begun { (begun : Begun) × Hands begun started.now × MayWork begun }
-        ensures { (begun : Begun) → Hands begun started.now → MayWork begun → GivesOn (sizes_of started.now.terms.value) begun result };
+        ensures gives { (begun : Begun) → Hands begun started.now → MayWork begun → GivesOn (sizes_of started.now.terms.value) begun result }
+        ensures counted { AreCountsOf started.now result };
 
     /// The product of the work on a claim that a core has lent: a new group, or new bitmaps. `Memory` where there is no room for
     /// it.

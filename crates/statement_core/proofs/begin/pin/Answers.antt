@@ -18,14 +18,14 @@ returns-in-Ok-clause-state c = λ changes.
     let mid = c.open_implicit.new.held in
     let s = c.args.session in
     let own = txn_of mid.directory.txns s in
-    state_with changes mid (record mid { directory = c.pin.new.self }) s (fixed mid.directory.clock own) refl c.pin.ensures.clock c.in-Ok.ensures.txns c.pin.ensures.next
+    state_with changes mid (record mid { directory = c.pin.new.self }) s (fixed mid.directory.clock own) refl refl c.pin.ensures.clock c.in-Ok.ensures.txns c.pin.ensures.next
     ∙ ap (txn_set (state_of changes mid) s) (fixed_as own mid.directory.clock)
     ∙ takes (state_of changes c.args.held.now) (state_of changes mid) s (c.open_implicit.ensures.state changes)
 
 pub returns-in-Err-clause-state : goal.returns-in-Err-clause-state
 returns-in-Err-clause-state c = λ changes.
     let mid = c.open_implicit.new.held in
-    state_kept changes mid (record mid { directory = c.pin.new.self }) refl c.pin.ensures.clock (ap (λ (t : Table). txn_of t) c.in-Err.ensures.err) c.pin.ensures.next
+    state_kept changes mid (record mid { directory = c.pin.new.self }) refl refl c.pin.ensures.clock (ap (λ (t : Table). txn_of t) c.in-Err.ensures.err) c.pin.ensures.next
     ∙ c.open_implicit.ensures.state changes
 
 pub returns-in-Ok-clause-own : goal.returns-in-Ok-clause-own
@@ -45,7 +45,7 @@ returns-in-Ok-clause-pinned c = λ changes j some.
     let facts = c.in-Ok.ensures in
     let now = ap (λ (f : ℕ → Option Txn). f c.args.session) facts.txns ∙ with_own (txn_of mid.txns) c.args.session (fixed mid.clock own) in
     let stands = still.stands changes j in
-    pin_of changes mid c.pin.new.self c.args.session c.in-Ok.pinned stands (ap (λ (d : Directory). d.schema) c.pin.ensures.rest) c.pin.ensures.clock facts.look (facts.view changes stands) (facts.shows changes stands) facts.snapshot now
+    pin_of changes mid c.pin.new.self c.args.session c.in-Ok.pinned stands (ap (λ (d : Directory). d.schema) c.pin.ensures.rest) c.pin.ensures.clock c.pin.ensures.book facts.look (facts.view changes stands) (facts.shows changes stands) facts.snapshot now
     (facts.own ∙ sym (own_fixed mid.clock own) ∙ sym (ap own_of now))
 
 pub returns-in-Ok-clause-still : goal.returns-in-Ok-clause-still

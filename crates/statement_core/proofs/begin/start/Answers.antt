@@ -20,4 +20,4 @@ returns-clause-ok c = λ begin changes j same.
     (ap (λ (s : Arc Schema Global). s.value) kept.schema ∙ same) (subst (λ b. state_of changes mid ≡ opened_for (state_of changes c.args.held.now) c.args.session b c.take-pinned.result.1) is (c.take-pinned.ensures.state changes)) (c.set_half.ensures.state changes)
     (subst (λ b. c.take-pinned.result.1 ≡ true → is_of_table b ≡ true) is c.take-pinned.ensures.why)
     (c.in_ok-own.ensures ∙ sym c.take-pinned.ensures.own) (implicit_depth (txn_of mid.directory.txns c.args.session) c.depth.result c.eq-implicit.result c.depth.ensures zero)
-    (subst (λ b. is_of_table b ≡ true → c.take-pinned.result.1 ≡ false → IsPinOrNone changes mid.directory c.args.session c.take-pinned.result.0) is (c.take-pinned.ensures.pinned changes j))
+    (subst (λ b. is_of_table b ≡ true → c.take-pinned.result.1 ≡ false → IsPinOrNone changes mid.directory c.args.session c.take-pinned.result.0) is (c.take-pinned.ensures.pinned changes j)) kept.groups

@@ -9,7 +9,7 @@ use Rattle.statement_core.proofs.core_state.open.Goals as goal
 
 pub returns-clause-state : goal.returns-clause-state
 returns-clause-state c = λ changes.
-    state_opened changes c.args.held.now (record c.args.held.now { directory = c.begin.new.self }) c.args.session c.args.depth refl (ap (λ (d : Directory). d.clock) c.begin.ensures.rest) c.begin.ensures.txns c.begin.ensures.next
+    state_opened changes c.args.held.now (record c.args.held.now { directory = c.begin.new.self }) c.args.session c.args.depth refl refl (ap (λ (d : Directory). d.clock) c.begin.ensures.rest) c.begin.ensures.txns c.begin.ensures.next
 
 pub returns-clause-open : goal.returns-clause-open
 returns-clause-open c =

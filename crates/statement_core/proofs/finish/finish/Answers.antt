@@ -6,6 +6,8 @@ use Rattle.cs_model.specs.Text.{IsPrintableReply}
 use Rattle.group_directory.specs.declared.directory.Directory.{Directory}
 use Rattle.group_directory.specs.Stands.{Stands}
 use Rattle.cs_model.specs.State.{Half}
+use Rattle.statement_core.specs.CoreState.{settings_of}
+use Rattle.statement_core.specs.Outcomes.{told}
 use Rattle.statement_core.specs.Settled.{Ends, IsDoneAt}
 use Rattle.statement_core.proofs.Ending.{finishes}
 use Rattle.statement_core.proofs.Finishing.{some_half, done_of}
@@ -48,6 +50,9 @@ returns-clause-printable c = λ changes j fit is.
     let rest = sym c.in-Some.ensures.rest in
     subst (λ (d : Directory). IsPrintableReply d.schema.value c.settle.result) c.in-Some.ensures.rest
     (c.settle.ensures.printable changes (subst (λ (d : Directory). Stands d changes) rest j) (subst (λ (d : Directory). AreFit d.schema.value changes) rest fit) (same ∙ report))
+
+pub returns-clause-given : goal.returns-clause-given
+returns-clause-given c = λ given is. c.settle.ensures.given given is ∙ ap (λ seats. told (settings_of seats c.args.session) given) c.in-Some.ensures.settings
 
 pub settle-requires-clause-table : goal.settle-requires-clause-table
 settle-requires-clause-table c = subst (λ (d : Directory). IsSchema d.schema.value) (sym c.in-Some.ensures.rest) c.requires.table

@@ -12,6 +12,10 @@ pub returns-in-Rollback-clause-settles : goal.returns-in-Rollback-clause-settles
 returns-in-Rollback-clause-settles c = λ schema changes.
     subst (λ b. Settles schema (state_of changes c.args.held.now) c.args.session b c.rollback.result (state_of changes c.rollback.new.held)) (sym c.in-Rollback.is) (c.rollback.ensures.settles schema changes)
 
+pub returns-in-Statistics-clause-settles : goal.returns-in-Statistics-clause-settles
+returns-in-Statistics-clause-settles c = λ schema changes.
+    subst (λ b. Settles schema (state_of changes c.args.held.now) c.args.session b c.statistics.result (state_of changes c.statistics.new.held)) (sym c.in-Statistics.is) (c.statistics.ensures.settles schema changes)
+
 pub returns-in-GroupReport-clause-settles : goal.returns-in-GroupReport-clause-settles
 returns-in-GroupReport-clause-settles c = λ schema changes.
     subst (λ b. Settles schema (state_of changes c.args.held.now) c.args.session b c.group_report.result (state_of changes c.group_report.new.held)) (sym c.in-GroupReport.is) (c.group_report.ensures.settles schema changes)
@@ -28,6 +32,9 @@ returns-in-Rollback-clause-shows c = λ changes j k. absurd (cc (sym (ap kind_of
 
 pub returns-in-Nothing-clause-shows : goal.returns-in-Nothing-clause-shows
 returns-in-Nothing-clause-shows c = λ changes j k. absurd (cc (sym (ap kind_of c.in-Nothing.is) ∙ k))
+
+pub returns-in-Statistics-clause-shows : goal.returns-in-Statistics-clause-shows
+returns-in-Statistics-clause-shows c = λ changes j k. absurd (cc (sym (ap kind_of c.in-Statistics.is) ∙ k))
 
 pub returns-in-GroupReport-clause-shows : goal.returns-in-GroupReport-clause-shows
 returns-in-GroupReport-clause-shows c = λ changes j k. let held = c.args.held.now in c.group_report.ensures.shows held.directory.schema.value changes

@@ -1,8 +1,9 @@
-use Rattle.std.proofs.Common.{sym, subst}
+use Rattle.std.proofs.Common.{◌≡◌, ◌∙◌, ap, sym, subst}
 use Rattle.cs_types.specs.declared.Schema.{Schema}
 use Rattle.group_log.specs.Followed.{ShowsBook}
 use Rattle.statement_core.specs.declared.started.Outcome.TheVariants as outcome
-use Rattle.statement_core.specs.CoreState.{groups_of}
+use Rattle.statement_core.specs.CoreState.{groups_of, settings_of}
+use Rattle.statement_core.specs.Outcomes.{told}
 use Rattle.statement_core.specs.Settled.{Ends, IsDoneAt}
 use Rattle.statement_core.proofs.Ending.{ends_settled}
 use Rattle.statement_core.proofs.Finishing.{never_short, none_of_table, needs_none_of, is_commit, with_outcome, answered_ends, writing_of}
@@ -26,6 +27,13 @@ returns-in-Answer-clause-ends c = λ begin changes short d.
     let still = c.answered.ensures.still in
     subst (λ r. Ends begin.schema changes held c.args.session b short r c.answered.new.held) (sym c.answered.ensures.reply)
     (answered_ends begin changes held c.args.session b short c.in-Answer.reply d' c.answered.new.held (still.stands changes d.stands) still.same (c.answered.ensures.state changes))
+
+pub returns-in-Answer-clause-given : goal.returns-in-Answer-clause-given
+returns-in-Answer-clause-given c = λ given is.
+    let held = c.args.held.now in
+    let both : outcome.Answer c.in-Answer.reply ≡ outcome.Answer given = sym c.in-Answer.is ∙ is in
+    let same : c.in-Answer.reply ≡ given = cc both in
+    c.answered.ensures.reply ∙ ap (told (settings_of held.settings c.args.session)) same
 
 pub returns-in-Writes-clause-ends : goal.returns-in-Writes-clause-ends
 returns-in-Writes-clause-ends c = λ begin changes short d.

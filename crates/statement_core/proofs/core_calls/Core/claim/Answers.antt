@@ -1,4 +1,4 @@
-use Rattle.std.proofs.Common.{◌≡◌, ◌∙◌, ◌++◌, ◌∷◌, [], List, ap, sym, subst, arith, rules, None, Some, Option}
+use Rattle.std.proofs.Common.{◌≡◌, ◌∙◌, ◌++◌, ◌∷◌, [], List, ap, sym, subst, arith, rules, None, Some, Option, refl}
 use Rattle.std.proofs.lemmas.List.{append-nil}
 use Rattle.cs_types.specs.declared.Schema.{Schema}
 use Rattle.cs_types.specs.Schemas.{IsSchema}
@@ -16,6 +16,7 @@ use Rattle.statement_core.specs.CoreState.{groups_of, claims_of}
 use Rattle.statement_core.specs.Fit.{AreFitting}
 use Rattle.statement_core.specs.Movers.{GivesTurn, IsFirstOf}
 use Rattle.statement_core.specs.Turns.{TurnsTo}
+use Rattle.statement_core.proofs.Going.{going_stays}
 use Rattle.statement_core.proofs.Keeping.{core_same}
 use Rattle.statement_core.proofs.Turns.{core_worked, first_none, first_works, free_in_book, turn_told, turned_claims}
 use Rattle.statement_core.proofs.core_calls.Core.claim.Goals as goal
@@ -27,7 +28,7 @@ claim-turned-requires-clause-none c = free_in_book c.self.inside.held.directory 
 pub invariant_of-self-in-Some : goal.invariant_of-self-in-Some
 invariant_of-self-in-Some c =
     let inside = c.self.inside in
-    let i = c.self.invariant in
+    let i = c.self.invariant.0 in
     let j = i.stands in
     let fits = i.fit in
     let made = inside.terms.value in
@@ -43,15 +44,17 @@ invariant_of-self-in-Some c =
     let few = i.few in
     let turned = gives.turned i.changes j (subst IsSchema (sym i.schema) i.table) (subst (λ (s : Schema). AreFitting s i.changes) (sym i.schema) fits.changes) in
     let more = turned_claims actor (claims_of old) (claims_of new) given turned in
-    rw (c.push_reserved.ensures.items, c.in_ok-reserve.ensures.items)
-    (core_worked made old inside.log.items _ inside.sessions.items i new _ actor w c.requires.mover (gives.stands i.changes j) gives.sizes gives.schema (gives.state i.changes)
-    (first_works (directory_sizes old.directory) j.floor actor (groups_of old) (groups_of new) given w none first)
-    (omega (arith, most, few, more, c.len-claims.ensures, c.push_reserved.ensures.capacity, c.in_ok-reserve.ensures.ok)))
+    rw (c.push_reserved.ensures.items, c.in_ok-reserve.ensures.items) (
+      core_worked made old inside.log.items _ inside.sessions.items i new _ actor w c.requires.mover (gives.stands i.changes j) gives.sizes gives.schema (gives.state i.changes)
+          (first_works (directory_sizes old.directory) j.floor actor (groups_of old) (groups_of new) given w none first)
+          (omega (arith, most, few, more, c.len-claims.ensures, c.push_reserved.ensures.capacity, c.in_ok-reserve.ensures.ok)),
+      c.self.invariant.1 ∙ sym (going_stays inside.sessions.items inside.log.items (Mover actor w) refl),
+    )
 
 pub invariant_of-self-in_default : goal.invariant_of-self-in_default
 invariant_of-self-in_default c =
     let inside = c.self.inside in
-    let i = c.self.invariant in
+    let i = c.self.invariant.0 in
     let j = i.stands in
     let fits = i.fit in
     let made = inside.terms.value in
@@ -67,13 +70,15 @@ invariant_of-self-in_default c =
     let few = i.few in
     let turned = gives.turned i.changes j (subst IsSchema (sym i.schema) i.table) (subst (λ (s : Schema). AreFitting s i.changes) (sym i.schema) fits.changes) in
     let more = turned_claims actor (claims_of old) (claims_of new) given turned in
-    rw c.in_ok-reserve.ensures.items
-    (core_same made old new inside.log.items _ _ inside.sessions.items i (gives.stands i.changes j) gives.sizes gives.schema (gives.state i.changes) same (omega (arith, most, few, more, c.len-claims.ensures, c.in_ok-reserve.ensures.ok)))
+    rw c.in_ok-reserve.ensures.items (
+      core_same made old new inside.log.items _ _ inside.sessions.items i (gives.stands i.changes j) gives.sizes gives.schema (gives.state i.changes) same (omega (arith, most, few, more, c.len-claims.ensures, c.in_ok-reserve.ensures.ok)),
+      c.self.invariant.1,
+    )
 
 pub returns-clause-begins : goal.returns-clause-begins
 returns-clause-begins c =
     let inside = c.self.inside in
-    let i = c.self.invariant in
+    let i = c.self.invariant.0 in
     let j = i.stands in
     let made = inside.terms.value in
     let old = inside.held in
@@ -103,7 +108,7 @@ returns-clause-begins c =
 pub returns-clause-turned : goal.returns-clause-turned
 returns-clause-turned c =
     let inside = c.self.inside in
-    let i = c.self.invariant in
+    let i = c.self.invariant.0 in
     let fits = i.fit in
     let actor = c.args.actor in
     let given = c.claim-turned.result.0 in

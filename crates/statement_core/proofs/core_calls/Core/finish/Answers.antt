@@ -1,4 +1,4 @@
-use Rattle.std.proofs.Common.{◌≡◌, arith, length, sym, subst, ◌∙◌, ap, false, Some}
+use Rattle.std.proofs.Common.{◌≡◌, arith, length, sym, subst, ◌∙◌, ap, false, Some, refl}
 use Rattle.cs_types.specs.declared.Schema.{Schema}
 use Rattle.cs_types.specs.Schemas.{IsSchema}
 use Rattle.cs_model.specs.declared.entry.Bound.TheVariants.{SegmentReport}
@@ -13,10 +13,14 @@ use Rattle.log_laws.proofs.Room.{room_finish}
 use Rattle.log_laws.proofs.StartedOn.{shows_begun}
 use Rattle.group_book.specs.Book.{empty}
 use Rattle.group_book.specs.Commits.{Sizes}
-use Rattle.group_log.specs.Followed.{Finishes}
+use Rattle.group_log.specs.Counted.{AreCountsAt}
+use Rattle.group_log.specs.Followed.{ground_of, Finishes}
 use Rattle.statement_core.specs.CoreValue.{CoreValue}
 use Rattle.statement_core.specs.CoreState.{state_of, groups_of}
 use Rattle.statement_core.specs.Fit.{IsReadyHalf}
+use Rattle.statement_core.specs.Terms.{sizes_of}
+use Rattle.statement_core.proofs.Going.{going_stays}
+use Rattle.statement_core.proofs.Counting.{tells_after}
 use Rattle.statement_core.proofs.Finishing.{never_short, done_of}
 use Rattle.statement_core.proofs.Fits.{fits_after, prints_after}
 use Rattle.statement_core.proofs.Reports.{changes_fit}
@@ -29,23 +33,23 @@ report_half half a b = λ k. record { bound = a k; short = b k }
 pub finish-reply-requires-clause-within : goal.finish-reply-requires-clause-within
 finish-reply-requires-clause-within c =
     let inside = c.self.inside in
-    within inside.terms.value inside.held inside.log.items _ inside.sessions.items c.self.invariant c.args.session inside.log.small (rw (← c.self.view_is) at c.requires.known)
+    within inside.terms.value inside.held inside.log.items _ inside.sessions.items c.self.invariant.0 c.args.session inside.log.small (rw (← c.self.view_is) at c.requires.known)
 
 pub finish-reply-requires-clause-done : goal.finish-reply-requires-clause-done
 finish-reply-requires-clause-done c =
     let inside = c.self.inside in
-    let i = c.self.invariant in
+    let i = c.self.invariant.0 in
     let made = inside.terms.value in
     let done = rw (← c.self.view_is) at c.requires.outcome in
     (begin_of made.schema.value, i.changes, ready_at made inside.held inside.log.items _ inside.sessions.items i c.args.session c.args.outcome done)
 
 pub finish-reply-requires-clause-table : goal.finish-reply-requires-clause-table
-finish-reply-requires-clause-table c = let i = c.self.invariant in subst IsSchema (sym i.schema) i.table
+finish-reply-requires-clause-table c = let i = c.self.invariant.0 in subst IsSchema (sym i.schema) i.table
 
 pub push_reserved-requires : goal.push_reserved-requires
 push_reserved-requires c =
     let inside = c.self.inside in
-    let i = c.self.invariant in
+    let i = c.self.invariant.0 in
     let made = inside.terms.value in
     let known = rw (← c.self.view_is) at c.requires.known in
     let done = rw (← c.self.view_is) at c.requires.outcome in
@@ -58,7 +62,7 @@ push_reserved-requires c =
 pub returns-clause-claims : goal.returns-clause-claims
 returns-clause-claims c =
     let inside = c.self.inside in
-    let i = c.self.invariant in
+    let i = c.self.invariant.0 in
     let made = inside.terms.value in
     let done = rw (← c.self.view_is) at c.requires.outcome in
     let f = c.finish-reply.ensures.finished (begin_of made.schema.value) i.changes (ready_at made inside.held inside.log.items _ inside.sessions.items i c.args.session c.args.outcome done) in
@@ -67,7 +71,7 @@ returns-clause-claims c =
 pub invariant_of-self : goal.invariant_of-self
 invariant_of-self c =
     let inside = c.self.inside in
-    let i = c.self.invariant in
+    let i = c.self.invariant.0 in
     let made = inside.terms.value in
     let schema = made.schema.value in
     let old = inside.held in
@@ -76,6 +80,7 @@ invariant_of-self c =
     let r = c.finish-reply.result in
     let known = rw (← c.self.view_is) at c.requires.known in
     let done = rw (← c.self.view_is) at c.requires.outcome in
+    let counts = rw (← c.self.view_is) at c.requires.counts in
     let legal = core_legal made old inside.log.items _ inside.sessions.items i in
     let shows = done.started (state_of i.changes old) legal in
     let begun = shows_begun (begin_of schema) inside.log.items (state_of i.changes old) s done.begun (may_begin schema) legal shows in
@@ -95,8 +100,11 @@ invariant_of-self c =
     let report : Some half ≡ Some (record { bound = SegmentReport; short = false }) = (λ k. Some (report_half half e found k)) in
     subst (λ (x : Schema). IsPrintableReply x r) i.schema
     (c.finish-reply.ensures.printable i.changes i.stands (subst (λ (x : Schema). AreFit x i.changes) (sym i.schema) (changes_fit schema i.changes fit.changes)) (shows.half ∙ report)) in
-    rw c.push_reserved.ensures.items
-    (core_push made old new inside.log.items _ _ inside.sessions.items (Finish s r) i f.later f.stands f.sizes f.schema f.step moves
-    (fits_after (begin_of schema) i.changes old s half r shows.half c.args.outcome at c.finish-reply.ensures.short c.finish-reply.ensures.given (state_of f.later new) x fit)
-    (prints_after (begin_of schema) i.changes old s half r shows.half c.args.outcome at c.finish-reply.ensures.short c.finish-reply.ensures.given (state_of f.later new) x bound_ready.0 segments)
-    (omega (arith, less, room, cap, ap length f.claims)))
+    rw c.push_reserved.ensures.items (
+      core_push made old new inside.log.items _ _ inside.sessions.items (Finish s r) i f.later f.stands f.sizes f.schema f.step moves
+          (fits_after (begin_of schema) i.changes old s half r shows.half c.args.outcome at c.finish-reply.ensures.short c.finish-reply.ensures.given (state_of f.later new) x fit)
+          (prints_after (begin_of schema) i.changes old s half r shows.half c.args.outcome at c.finish-reply.ensures.short c.finish-reply.ensures.given (state_of f.later new) x bound_ready.0 segments)
+          (tells_after (begin_of schema) i.changes old s half r (AreCountsAt (ground_of schema (sizes_of made)) inside.log.items s) c.args.outcome at c.finish-reply.ensures.short c.finish-reply.ensures.given counts (state_of f.later new) x)
+          (omega (arith, less, room, cap, ap length f.claims)),
+      c.self.invariant.1 ∙ sym (going_stays inside.sessions.items inside.log.items (Finish s r) refl),
+    )

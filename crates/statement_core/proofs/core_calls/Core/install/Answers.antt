@@ -14,13 +14,14 @@ use Rattle.statement_core.specs.declared.core_state.CoreState.{CoreState}
 use Rattle.statement_core.specs.CoreValue.{CoreValue}
 use Rattle.statement_core.specs.Movers.{IsOfWork}
 use Rattle.statement_core.specs.Turns.{EndsBy}
+use Rattle.statement_core.proofs.Going.{going_stays}
 use Rattle.statement_core.proofs.Turns.{fewer_claims, state_listed, core_worked, held_found, held_install, held_work, mended_product, works_install, turn_ended}
 use Rattle.statement_core.proofs.core_calls.Core.install.Goals as goal
 
 pub install_work-work-requires : goal.install_work-work-requires
 install_work-work-requires c =
     let d = c.self.inside.held.directory in
-    let i = c.self.invariant in
+    let i = c.self.invariant.0 in
     let kept = held_found (held_by c.args.actor d.list.claims.items) c.in-Some.claim.now c.in-Some.ensures in
     subst (λ (x : Claim). IsOfWork (choice_of x.choice)) kept.2 (held_work d i.changes i.stands c.args.actor kept.0 kept.1)
 
@@ -30,7 +31,7 @@ install-requires-clause-product c = mended_product (held_by c.args.actor c.self.
 pub push_reserved-requires : goal.push_reserved-requires
 push_reserved-requires c =
     let inside = c.self.inside in
-    let i = c.self.invariant in
+    let i = c.self.invariant.0 in
     let claims = inside.held.directory.list.claims.items in
     let kept = held_found (held_by c.args.actor claims) c.in-Some.claim.now c.in-Some.ensures in
     let fewer = fewer_claims c.args.actor claims (subst (λ (o : Option (Actor × Claim)). IsSome o) (sym kept.1) refl) in
@@ -40,11 +41,11 @@ push_reserved-requires c =
 pub invariant_of-self : goal.invariant_of-self
 invariant_of-self c =
     let inside = c.self.inside in
-    let i = c.self.invariant in
+    let i = c.self.invariant.0 in
     let j = i.stands in
     let old = inside.held in
     let d = c.install.new.self in
-    let new : CoreState = record { directory = d; halves = old.halves } in
+    let new : CoreState = record { directory = d; halves = old.halves; settings = old.settings } in
     let actor = c.args.actor in
     let w = c.install_work-work.result in
     let claims = old.directory.list.claims.items in
@@ -56,15 +57,17 @@ invariant_of-self c =
     let less = ap (λ (l : List (Actor × Claim)). length l) gives.claims in
     let room = i.room in
     let cap = c.push_reserved.ensures.capacity in
-    rw c.push_reserved.ensures.items
-    (core_worked inside.terms.value old inside.log.items _ inside.sessions.items i new _ actor w c.requires.mover (gives.stands i.changes j) (ap (λ (x : Directory). x.sizes) gives.rest) (ap (λ (x : Directory). x.schema) gives.rest)
-    (state_listed i.changes old d gives.rest) (works_install old.directory i.changes j actor kept.0 kept.1 (directory_sizes old.directory) j.floor w (book_of d.list) is_work gives.book)
-    (omega (arith, fewer, less, room, cap)))
+    rw c.push_reserved.ensures.items (
+      core_worked inside.terms.value old inside.log.items _ inside.sessions.items i new _ actor w c.requires.mover (gives.stands i.changes j) (ap (λ (x : Directory). x.sizes) gives.rest) (ap (λ (x : Directory). x.schema) gives.rest)
+          (state_listed i.changes old d gives.rest) (works_install old.directory i.changes j actor kept.0 kept.1 (directory_sizes old.directory) j.floor w (book_of d.list) is_work gives.book)
+          (omega (arith, fewer, less, room, cap)),
+      c.self.invariant.1 ∙ sym (going_stays inside.sessions.items inside.log.items (Mover actor w) refl),
+    )
 
 pub returns-clause-ends : goal.returns-clause-ends
 returns-clause-ends c =
     let inside = c.self.inside in
-    let i = c.self.invariant in
+    let i = c.self.invariant.0 in
     let j = i.stands in
     let old = inside.held in
     let actor = c.args.actor in

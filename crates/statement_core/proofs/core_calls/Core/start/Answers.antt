@@ -1,17 +1,23 @@
-use Rattle.std.proofs.Common.{◌≡◌, ◌∙◌, ◌++◌, ◌∷◌, [], ap, arith, length, sym, subst, Bool}
+use Rattle.std.proofs.Common.{◌≡◌, ◌∙◌, ◌++◌, ◌∷◌, [], ap, arith, length, sym, subst, Bool, refl}
 use Rattle.cs_model.specs.declared.entry.Entry.TheVariants.{Start}
 use Rattle.cs_model.specs.Ready.{IsReady}
 use Rattle.cs_model.specs.State.{begin_of}
 use Rattle.cs_model.specs.Steps.{IsStep}
+use Rattle.cs_model.specs.Kinds.{is_of_table}
 use Rattle.log_laws.specs.Started.{IsStarted}
 use Rattle.log_laws.proofs.Beginnings.{may_begin}
 use Rattle.log_laws.proofs.Entries.{rests_is}
 use Rattle.log_laws.proofs.Room.{room_start, owed_at_most}
 use Rattle.log_laws.proofs.Sound.{sound_step}
 use Rattle.log_laws.proofs.StartedOn.{start_steps, start_shows}
+use Rattle.group_log.specs.Counted.{IsBegunAt}
+use Rattle.group_log.specs.Followed.{ground_of}
+use Rattle.group_log.proofs.Counting.{begun_first}
 use Rattle.statement_core.specs.declared.started.Terms.{Terms}
-use Rattle.statement_core.specs.CoreState.{state_of}
+use Rattle.statement_core.specs.CoreState.{state_of, groups_of}
 use Rattle.statement_core.specs.Fit.{IsFitState}
+use Rattle.statement_core.specs.Terms.{sizes_of}
+use Rattle.statement_core.proofs.Going.{going_stays}
 use Rattle.statement_core.proofs.Fitting.{started_fits}
 use Rattle.statement_core.proofs.Keeping.{core_legal, core_sound, within, core_push}
 use Rattle.statement_core.proofs.Working.{may_work}
@@ -20,12 +26,12 @@ use Rattle.statement_core.proofs.core_calls.Core.start.Goals as goal
 pub start-requires-clause-within : goal.start-requires-clause-within
 start-requires-clause-within c =
     let inside = c.self.inside in
-    within inside.terms.value inside.held inside.log.items _ inside.sessions.items c.self.invariant c.args.session inside.log.small (rw (← c.self.view_is) at c.requires.known)
+    within inside.terms.value inside.held inside.log.items _ inside.sessions.items c.self.invariant.0 c.args.session inside.log.small (rw (← c.self.view_is) at c.requires.known)
 
 pub invariant_of-self-2 : goal.invariant_of-self-2
 invariant_of-self-2 c =
     let inside = c.self.inside in
-    let i = c.self.invariant in
+    let i = c.self.invariant.0 in
     let made = inside.terms.value in
     let schema = made.schema.value in
     let old = inside.held in
@@ -50,15 +56,17 @@ invariant_of-self-2 c =
     let is_ready : IsReady schema t.begun.bound = subst (IsReady schema) (sym (c.in_ok-in_log.ensures ∙ c.in-Ok.ensures.ok) ∙ same) ready in
     let still = c.start.ensures.still in
     let kept = still.same in
-    rw (c.push_reserved.ensures.items, c.in_ok-reserve.ensures.items)
-    (core_push made old new inside.log.items _ _ inside.sessions.items (Start s shared taken.short) i i.changes (still.stands i.changes i.stands) kept.sizes kept.schema step kept.groups
-    (subst (IsFitState schema) (sym starts.state) (started_fits schema m s t.begun.bound t.begun.short i.fit is_ready starts.why)) tt
-    (omega (arith, more, most, few, ap length kept.claims, c.push_reserved.ensures.capacity, c.in_ok-reserve.ensures.ok, inside.log.ok.0)))
+    rw (c.push_reserved.ensures.items, c.in_ok-reserve.ensures.items) (
+      core_push made old new inside.log.items _ _ inside.sessions.items (Start s shared taken.short) i i.changes (still.stands i.changes i.stands) kept.sizes kept.schema step kept.groups
+          (subst (IsFitState schema) (sym starts.state) (started_fits schema m s t.begun.bound t.begun.short i.fit is_ready starts.why)) tt tt
+          (omega (arith, more, most, few, ap length kept.claims, c.push_reserved.ensures.capacity, c.in_ok-reserve.ensures.ok, inside.log.ok.0)),
+      c.self.invariant.1 ∙ sym (going_stays inside.sessions.items inside.log.items (Start s shared taken.short) refl),
+    )
 
 pub returns-clause-started : goal.returns-clause-started
 returns-clause-started c =
     let inside = c.self.inside in
-    let i = c.self.invariant in
+    let i = c.self.invariant.0 in
     let made = inside.terms.value in
     let schema = made.schema.value in
     let old = inside.held in
@@ -96,3 +104,29 @@ returns-clause-started c =
       may_work schema i.changes after s t.begun shows.schema shows.own t.among i.table is_ready fit (sound.by_key s) (let all = i.fit in all.changes),
       at_log,
     )
+
+pub returns-clause-counts : goal.returns-clause-counts
+returns-clause-counts c =
+    let inside = c.self.inside in
+    let i = c.self.invariant.0 in
+    let made = inside.terms.value in
+    let schema = made.schema.value in
+    let origin = ground_of schema (sizes_of made) in
+    let old = inside.held in
+    let s = c.args.session in
+    let shared = c.in_ok-in_log.in_log in
+    let bound = c.in-Ok.bound in
+    let taken = c.in_ok-taken.taken in
+    let t = c.in_ok-taken.ensures.ok (begin_of schema) i.changes i.stands i.schema in
+    let is : t.begun.bound ≡ bound.value = t.bound ∙ c.in_ok-in_half.ensures in
+    let log = c.push_reserved.ensures.items ∙ ap (λ items. items ++ Start s shared taken.short ∷ []) c.in_ok-reserve.ensures.items in
+    record {
+      schema = ap (λ (x : Terms). x.schema.value) c.in_ok-terms.ensures;
+      state = state_of i.changes old;
+      book = groups_of old;
+      begun =
+          subst (λ l. IsBegunAt origin l s bound.value (state_of i.changes old) (groups_of old)) (sym log)
+          (subst (λ b. IsBegunAt origin (inside.log.items ++ Start s shared taken.short ∷ []) s b (state_of i.changes old) (groups_of old)) c.in_ok-in_log.ensures
+          (begun_first origin inside.log.items s shared taken.short (state_of i.changes old) (groups_of old) i.followed));
+      has = λ on_table found. t.counts (ap is_of_table is ∙ on_table) (sym t.short ∙ found);
+    }
