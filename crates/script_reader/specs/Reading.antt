@@ -9,6 +9,7 @@ use Rattle.script_reader.specs.declared.form.Form.{Form}
 use Rattle.script_reader.specs.declared.form.Form.TheVariants.{Skipped, Setup, Ask, Other}
 use Rattle.script_reader.specs.declared.read.HalfDone.{HalfDone}
 use Rattle.script_reader.specs.declared.read.Reading.{Reading}
+use Rattle.script_reader.specs.declared.script.Mode.{Mode}
 use Rattle.script_reader.specs.declared.script.Step.{Step}
 use Rattle.script_reader.specs.declared.script.ScriptRefusal.{ScriptRefusal}
 use Rattle.script_reader.specs.declared.script.ScriptRefusal.TheVariants.{Bad, Memory}
@@ -55,17 +56,17 @@ IsSetUp (text ∷ []) None = ⊥
 IsSetUp (text ∷ []) (Some schema) = IsOnlyTable text schema
 IsSetUp (text ∷ next ∷ texts) schema = ⊥
 
--- what these lines, which are good, say
-pub record IsRead (lines : List (List ℕ)) (reading : Reading) : Type 0 where
-  pub good : AreGood [] lines
+-- what these lines, which are good for the mode, say
+pub record IsRead (mode : Mode) (lines : List (List ℕ)) (reading : Reading) : Type 0 where
+  pub good : AreGood mode [] lines
   pub setup : IsSetUp (setups lines) reading.schema
   pub steps : reading.lines ≡ steps_of lines
   pub marked : AreMarked reading.half_done reading.lines
 
 -- why the n-th line, behind these, is refused
-abbrev pub RefusesLine : List (List ℕ) → List ℕ → ℕ → ScriptRefusal → Type 0
-RefusesLine before line n (Bad at reason number) = (at ≡ n) × IsBad before line reason number × (IsGood before line → ⊥)
-RefusesLine before line n Memory = Unit {0}
+abbrev pub RefusesLine : Mode → List (List ℕ) → List ℕ → ℕ → ScriptRefusal → Type 0
+RefusesLine mode before line n (Bad at reason number) = (at ≡ n) × IsBad mode before line reason number × (IsGood mode before line → ⊥)
+RefusesLine mode before line n Memory = Unit {0}
 
 -- the error of a setup statement in the n-th line that is refused
 abbrev pub RefusesSetup : List ℕ → ℕ → ScriptRefusal → Type 0

@@ -11,6 +11,8 @@ use Rattle.tsql_create.specs.Tables.{IsTable, IsNoTable}
 use Rattle.script_reader.specs.Lines.{lines, line_reason, form_of}
 use Rattle.script_reader.specs.declared.form.Form.{Form}
 use Rattle.script_reader.specs.declared.form.Form.TheVariants.{Skipped, Setup, Ask, Other}
+use Rattle.script_reader.specs.declared.script.Mode.{Mode}
+use Rattle.script_reader.specs.declared.script.Mode.TheVariants.{Replay, Run}
 use Rattle.script_reader.specs.declared.script.Script.{Script}
 use Rattle.script_reader.specs.declared.script.Step.{Step}
 use Rattle.script_reader.specs.declared.script.Step.TheVariants.{Whole, Begun, Finished, Turn, Claiming, Installing}
@@ -112,23 +114,34 @@ abbrev pub is_actor : Actor → Bool
 is_actor (Session n) = nat_le 1 n && nat_le n 64
 is_actor (Mover n) = nat_le 1 n && nat_le n 8
 
--- why a step is bad behind these: of another actor (reason 4), or no step that may follow (reason 7)
-abbrev pub step_reason : List Step → Step → Option ℕ
-step_reason before step = if not (is_actor (taken_by step)) then Some 4 else (if may_follow before step then None else Some 7)
+-- a mode has a step: replay has each, and a run only the whole statements of sessions
+abbrev pub allows : Mode → Step → Bool
+allows Replay step = true
+allows Run (Whole session text) = true
+allows Run (Begun session text) = false
+allows Run (Finished session) = false
+allows Run (Turn mover) = false
+allows Run (Claiming mover) = false
+allows Run (Installing mover) = false
+
+-- why a step is bad behind these: one that the mode does not have (reason 3), of another actor (reason 4), or no step that may
+-- follow (reason 7)
+abbrev pub step_reason : Mode → List Step → Step → Option ℕ
+step_reason mode before step = if not (allows mode step) then Some 3 else (if not (is_actor (taken_by step)) then Some 4 else (if may_follow before step then None else Some 7))
 
 -- why a line is bad for its form: no form (reason 1), a second setup line, or a step before the first one (reason 2), or a
 -- bad step
-abbrev pub form_reason : List (List ℕ) → List Step → Form → Option ℕ
-form_reason setups before Other = Some 1
-form_reason setups before Skipped = None
-form_reason [] before (Setup text) = None
-form_reason (setup ∷ setups) before (Setup text) = Some 2
-form_reason [] before (Ask step) = Some 2
-form_reason (setup ∷ setups) before (Ask step) = step_reason before step
+abbrev pub form_reason : Mode → List (List ℕ) → List Step → Form → Option ℕ
+form_reason mode setups before Other = Some 1
+form_reason mode setups before Skipped = None
+form_reason mode [] before (Setup text) = None
+form_reason mode (setup ∷ setups) before (Setup text) = Some 2
+form_reason mode [] before (Ask step) = Some 2
+form_reason mode (setup ∷ setups) before (Ask step) = step_reason mode before step
 
 -- why a line is bad behind the lines before it, but for a setup statement that is refused
-abbrev pub reason_behind : List (List ℕ) → List ℕ → Option ℕ
-reason_behind before line = option_or (line_reason line) (form_reason (setups before) (steps_of before) (form_of line))
+abbrev pub reason_behind : Mode → List (List ℕ) → List ℕ → Option ℕ
+reason_behind mode before line = option_or (line_reason line) (form_reason mode (setups before) (steps_of before) (form_of line))
 
 abbrev pub HasTable : Form → Type 0
 HasTable (Setup text) = (schema : Schema) × IsTable text schema
@@ -137,19 +150,19 @@ HasTable (Ask step) = Unit {0}
 HasTable Other = Unit {0}
 
 -- a line is good behind the lines before it: it has no reason to be bad, and its setup statement, if it has one, is a table's
-abbrev pub IsGood : List (List ℕ) → List ℕ → Type 0
-IsGood before line = (reason_behind before line ≡ None) × HasTable (form_of line)
+abbrev pub IsGood : Mode → List (List ℕ) → List ℕ → Type 0
+IsGood mode before line = (reason_behind mode before line ≡ None) × HasTable (form_of line)
 
 -- each of the lines is good behind those before it
-abbrev pub AreGood : List (List ℕ) → List (List ℕ) → Type 0
-AreGood before [] = Unit {0}
-AreGood before (line ∷ lines) = IsGood before line × AreGood (before ++ line ∷ []) lines
+abbrev pub AreGood : Mode → List (List ℕ) → List (List ℕ) → Type 0
+AreGood mode before [] = Unit {0}
+AreGood mode before (line ∷ lines) = IsGood mode before line × AreGood mode (before ++ line ∷ []) lines
 
 -- ---- the script
 
--- each line is good, one sets up the table, the others give the steps, and nothing is left half done
-pub record IsScript (bytes : List ℕ) (script : Script) : Type 0 where
-  pub good : AreGood [] (lines bytes)
+-- for this mode each line is good, one sets up the table, the others give the steps, and nothing is left half done
+pub record IsScript (mode : Mode) (bytes : List ℕ) (script : Script) : Type 0 where
+  pub good : AreGood mode [] (lines bytes)
   pub text : List ℕ
   pub setup : setups (lines bytes) ≡ text ∷ []
   pub table : IsTable text script.schema
@@ -158,21 +171,21 @@ pub record IsScript (bytes : List ℕ) (script : Script) : Type 0 where
   pub sessions : script.sessions ≡ sessions_of script.lines
 
 -- why a line is bad behind the lines before it, and the error number of a refused setup statement (reason 8), else 0
-pub data IsBad (before : List (List ℕ)) (line : List ℕ) : ℕ → ℕ → Type 0 where
-  by_reason : {reason : ℕ} → reason_behind before line ≡ Some reason → IsBad before line reason 0
-  by_setup : (text : List ℕ) (at : ℕ) {number : ℕ} → reason_behind before line ≡ None → form_of line ≡ Setup text → IsNoTable text number at → IsBad before line 8 number
+pub data IsBad (mode : Mode) (before : List (List ℕ)) (line : List ℕ) : ℕ → ℕ → Type 0 where
+  by_reason : {reason : ℕ} → reason_behind mode before line ≡ Some reason → IsBad mode before line reason 0
+  by_setup : (text : List ℕ) (at : ℕ) {number : ℕ} → reason_behind mode before line ≡ None → form_of line ≡ Setup text → IsNoTable text number at → IsBad mode before line 8 number
 
 -- the first bad line of these bytes, counted from 1, and why it is bad. The line after the last is bad where no line is a
 -- setup line (reason 2), or a statement or a turn is left half done (reason 7)
-pub data IsBadLine (bytes : List ℕ) : ℕ → ℕ → ℕ → Type 0 where
-  bad_line : (before others : List (List ℕ)) (line : List ℕ) {reason number : ℕ} → lines bytes ≡ before ++ line ∷ others → AreGood [] before → IsBad before line reason number → IsBadLine bytes (length before + 1) reason number
-  no_setup : AreGood [] (lines bytes) → setups (lines bytes) ≡ [] → IsBadLine bytes (length (lines bytes) + 1) 2 0
-  left_half_done : (actor : Actor) → AreGood [] (lines bytes) → half_done actor (steps_of (lines bytes)) ≡ true → IsBadLine bytes (length (lines bytes) + 1) 7 0
+pub data IsBadLine (mode : Mode) (bytes : List ℕ) : ℕ → ℕ → ℕ → Type 0 where
+  bad_line : (before others : List (List ℕ)) (line : List ℕ) {reason number : ℕ} → lines bytes ≡ before ++ line ∷ others → AreGood mode [] before → IsBad mode before line reason number → IsBadLine mode bytes (length before + 1) reason number
+  no_setup : AreGood mode [] (lines bytes) → setups (lines bytes) ≡ [] → IsBadLine mode bytes (length (lines bytes) + 1) 2 0
+  left_half_done : (actor : Actor) → AreGood mode [] (lines bytes) → half_done actor (steps_of (lines bytes)) ≡ true → IsBadLine mode bytes (length (lines bytes) + 1) 7 0
 
 -- a refusal is the first bad line, and want of memory may come anywhere
-abbrev pub RefusesScript : List ℕ → ScriptRefusal → Type 0
-RefusesScript bytes (Bad line reason number) = IsBadLine bytes line reason number
-RefusesScript bytes Memory = Unit {0}
+abbrev pub RefusesScript : Mode → List ℕ → ScriptRefusal → Type 0
+RefusesScript mode bytes (Bad line reason number) = IsBadLine mode bytes line reason number
+RefusesScript mode bytes Memory = Unit {0}
 
 -- the actor is one of these sessions, each 1 to 64, or a mover 1 to 8
 abbrev pub IsServed : List ℕ → Actor → Type 0

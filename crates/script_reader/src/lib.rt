@@ -2,8 +2,8 @@
 //! statement of a session, its start alone, or the finish of a started one; a turn of a mover, its first event alone, or its
 //! last one.
 //!
-//! Its one contract: `read_script` gives the script that the grammar has for the bytes, and else the first bad line and
-//! its reason. It stands on `tsql_create` for the setup statement.
+//! Its one contract: `read_script` gives the script that the grammar has for the bytes and a mode, and else the first bad line
+//! and its reason. It stands on `tsql_create` for the setup statement.
 #![tactic(auto)]
 
 mod form;
@@ -15,4 +15,4 @@ mod script;
 mod tests;
 
 pub use read::read_script;
-pub use script::{Script, ScriptRefusal, Step};
+pub use script::{Mode, Script, ScriptRefusal, Step};

@@ -2,6 +2,7 @@
 ghost use Rattle.std.specs.Prelude.{◌≡◌, ◌≤◌, ◌<◌, ◌+◌, ℕ, List, [], ◌∷◌, ◌++◌, length, All, IfOk, IfErr, OnOk, MatchResult, slice_index_or, true, false, None, Some};
 ghost use Rattle.cs_model.specs.declared.work.Actor.{Actor};
 ghost use Rattle.cs_types.specs.declared.Schema.{Schema};
+ghost use Rattle.script_reader.specs.declared.script.Mode.{Mode};
 ghost use Rattle.script_reader.specs.declared.script.Script.{Script};
 ghost use Rattle.script_reader.specs.declared.script.Step.{Step};
 ghost use Rattle.script_reader.specs.Lines.{lines, form_of};
@@ -12,7 +13,7 @@ ghost use Rattle.script_reader.specs.Reading.{IsShort, HasPlace, IsPlaced, AreMa
 use crate::form::{Form, form_of};
 use crate::line::line_reason;
 use crate::lines::next_line;
-use crate::script::{Script, ScriptRefusal, Step};
+use crate::script::{Mode, Script, ScriptRefusal, Step};
 use cs_base::{Items, Memory};
 use cs_model::Actor;
 use cs_types::Schema;
@@ -37,6 +38,9 @@ const NO_FORM: u32 = 1;
 
 /// No setup line where the first one has to be, or a second one.
 const SETUP: u32 = 2;
+
+/// A step that the mode does not have.
+const OTHER_STEP: u32 = 3;
 
 /// A session that is not 1 to 64, or a mover that is not 1 to 8.
 const OTHER_ACTOR: u32 = 4;
@@ -133,12 +137,14 @@ impl Reading {
         }
     }
 
-    /// Why a step is bad behind those so far.
-    fn step_reason(&self, step: &Step) -> Option<u32>
-        ensures reason { AreMarked self.now.half_done self.now.lines → result ≡ spec.step_reason self.now.lines step.now }
+    /// Why a step is bad in this mode, behind those so far.
+    fn step_reason(&self, mode: Mode, step: &Step) -> Option<u32>
+        ensures reason { AreMarked self.now.half_done self.now.lines → result ≡ spec.step_reason mode self.now.lines step.now }
         ensures placed { result ≡ None → HasPlace (taken_by step.now) }
     {
-        if !is_actor(step.taken_by()) {
+        if !mode.allows(step) {
+            Some(OTHER_STEP)
+        } else if !is_actor(step.taken_by()) {
             Some(OTHER_ACTOR)
         } else if self.may_follow(step) {
             None
@@ -147,9 +153,9 @@ impl Reading {
         }
     }
 
-    /// Why a line of this form is bad behind those so far.
-    fn form_reason(&self, form: &Form) -> Option<u32>
-        ensures reason { (before : List (List ℕ)) → IsRead before self.now → result ≡ spec.form_reason (setups before) (steps_of before) form.now }
+    /// Why a line of this form is bad in this mode, behind those so far.
+    fn form_reason(&self, mode: Mode, form: &Form) -> Option<u32>
+        ensures reason { (before : List (List ℕ)) → IsRead mode before self.now → result ≡ spec.form_reason mode (setups before) (steps_of before) form.now }
         ensures placed { result ≡ None → IsPlaced form.now }
     {
         match form {
@@ -157,7 +163,7 @@ impl Reading {
             Form::Skipped => None,
             Form::Setup(_) => self.schema.is_some().then_some(SETUP),
             Form::Ask(_) if self.schema.is_none() => Some(SETUP),
-            Form::Ask(step) => self.step_reason(step),
+            Form::Ask(step) => self.step_reason(mode, step),
         }
     }
 
@@ -165,7 +171,7 @@ impl Reading {
     fn add(&mut self, alloc: Global, number: u64, form: Form) -> Result<(), ScriptRefusal>
         requires short { IsShort 65_536 form }
         requires placed { IsPlaced form }
-        ensures { (before : List (List ℕ)) (line : List ℕ) → IsRead before self.old → reason_behind before line ≡ None → form_of line ≡ form → MatchResult result (λ _. IsRead (before ++ line ∷ []) self.new) (λ e. RefusesLine before line number e) }
+        ensures { (mode : Mode) (before : List (List ℕ)) (line : List ℕ) → IsRead mode before self.old → reason_behind mode before line ≡ None → form_of line ≡ form → MatchResult result (λ _. IsRead mode (before ++ line ∷ []) self.new) (λ e. RefusesLine mode before line number e) }
     {
         match form {
             Form::Setup(text) => {
@@ -178,14 +184,20 @@ impl Reading {
     }
 
     /// Reads the next line, whose number it is given.
-    fn read(&mut self, alloc: Global, number: u64, line: &[u8]) -> Result<(), ScriptRefusal>
-        ensures { (before : List (List ℕ)) → IsRead before self.old → MatchResult result (λ _. IsRead (before ++ line.now ∷ []) self.new) (λ e. RefusesLine before line.now number e) }
+    fn read(
+        &mut self,
+        alloc: Global,
+        mode: Mode,
+        number: u64,
+        line: &[u8],
+    ) -> Result<(), ScriptRefusal>
+        ensures { (before : List (List ℕ)) → IsRead mode before self.old → MatchResult result (λ _. IsRead mode (before ++ line.now ∷ []) self.new) (λ e. RefusesLine mode before line.now number e) }
     {
         if let Some(reason) = line_reason(line) {
             return Err(bad(number, reason));
         }
         let form = form_of(alloc, line)?;
-        match self.form_reason(&form) {
+        match self.form_reason(mode, &form) {
             Some(reason) => Err(bad(number, reason)),
             None => self.add(alloc, number, form),
         }
@@ -238,10 +250,10 @@ fn schema_of(alloc: Global, line: u64, text: &[u8]) -> Result<Schema, ScriptRefu
 }
 
 /// What the lines of a script say, and the number of the line after the last.
-fn read_lines(alloc: Global, bytes: &[u8]) -> Result<(Reading, u64), ScriptRefusal>
-    ensures found { IfOk result (λ x. IsRead (lines bytes.now) x.0 × (x.1 ≡ length (lines bytes.now) + 1)) }
-    ensures only { (other : Script) → IsScript bytes.now other → IfErr result (λ e. e ≡ ScriptRefusal.Memory) }
-    ensures refused { IfErr result (λ e. RefusesScript bytes.now e) }
+fn read_lines(alloc: Global, bytes: &[u8], mode: Mode) -> Result<(Reading, u64), ScriptRefusal>
+    ensures found { IfOk result (λ x. IsRead mode (lines bytes.now) x.0 × (x.1 ≡ length (lines bytes.now) + 1)) }
+    ensures only { (other : Script) → IsScript mode bytes.now other → IfErr result (λ e. e ≡ ScriptRefusal.Memory) }
+    ensures refused { IfErr result (λ e. RefusesScript mode bytes.now e) }
 {
     let mut reading = Reading {
         schema: None,
@@ -251,7 +263,7 @@ fn read_lines(alloc: Global, bytes: &[u8]) -> Result<(Reading, u64), ScriptRefus
     let mut number = 1u64;
     let mut rest = bytes;
     while let Some((line, next)) = next_line(rest) {
-        reading.read(alloc, number, line)?;
+        reading.read(alloc, mode, number, line)?;
         rest = next;
         number += 1;
     }
@@ -287,7 +299,7 @@ fn sessions(alloc: Global, steps: &[Step]) -> Result<Items<u32>, Memory>
     Ok(sessions)
 }
 
-/// The script that these bytes are: the table of its setup line, and the steps of the lines behind it.
+/// The script of this mode that these bytes are: the table of its setup line, and the steps of the lines behind it.
 ///
 /// A line's form, without tabs and spaces at both ends: empty or `--` and anything, which is skipped; `setup`, blanks and a
 /// text; `s`, a session's number and blanks and a text, a statement; `s`, the number, `>` and a text, its start alone; `s`,
@@ -297,22 +309,24 @@ fn sessions(alloc: Global, steps: &[Step]) -> Result<Items<u32>, Memory>
 ///
 /// Else the first bad line and its reason: 5 for a line of over 65,536 bytes, 6 for one with a byte other than tab and 32 to
 /// 126, 1 for one of no form, 2 for a step before the setup line, a second setup line, or, at the line after the last, no
-/// setup line, 4 for a session that is not 1 to 64 or a mover that is not 1 to 8, 7 for a finish without a start, a start
-/// where the session has a statement half done, the last event of a turn without the first, a turn or the first event of one
-/// where the mover has a turn half done, whatever that claimed, or, at the line after the last, a statement or a turn left
-/// half done, and 8 for a setup statement that is refused, with its error number. A session and a mover of one number are
-/// different actors. On one line the reasons are judged in this order. `Memory` where there is no room for the script.
-pub fn read_script(alloc: Global, bytes: &[u8]) -> Result<Script, ScriptRefusal>
+/// setup line, 3 in `Mode::Run` for a mover's line and for a start or a finish alone, 4 for a session that is not 1 to 64 or a
+/// mover that is not 1 to 8, 7 for a finish without a start, a start where the session has a statement half done, the last event
+/// of a turn without the first, a turn or the first event of one where the mover has a turn half done, whatever that claimed, or,
+/// at the line after the last, a statement or a turn left half done, and 8 for a setup statement that is refused, with its error
+/// number. A session and a mover of one number are different actors. On one line the reasons are judged in this order. `Memory`
+/// where there is no room for the script.
+pub fn read_script(alloc: Global, bytes: &[u8], mode: Mode) -> Result<Script, ScriptRefusal>
     // What is given is the script of the bytes.
-    ensures found { IfOk result (λ script. IsScript bytes.now script) }
+    ensures found { IfOk result (λ script. IsScript mode bytes.now script) }
     // Bytes that are a script give it, and no other.
-    ensures only { (other : Script) → IsScript bytes.now other → MatchResult result (λ script. script ≡ other) (λ e. e ≡ ScriptRefusal.Memory) }
+    ensures only { (other : Script) → IsScript mode bytes.now other → MatchResult result (λ script. script ≡ other) (λ e. e ≡ ScriptRefusal.Memory) }
     // What is refused is refused at the first bad line, for its reason.
-    ensures refused { IfErr result (λ e. RefusesScript bytes.now e) }
-    // The script can be run.
+    ensures refused { IfErr result (λ e. RefusesScript mode bytes.now e) }
+    // The script can be run, by steps that the mode has.
     ensures runs { IfOk result (λ script. IsRunnable script) }
+    ensures allowed { IfOk result (λ script. All (λ step. spec.allows mode step ≡ true) script.lines) }
 {
-    let (reading, end) = read_lines(alloc, bytes)?;
+    let (reading, end) = read_lines(alloc, bytes, mode)?;
     let Reading {
         schema,
         lines,

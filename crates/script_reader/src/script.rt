@@ -1,11 +1,33 @@
 // Scripts.
 ghost use Rattle.std.specs.Prelude.{◌≡◌};
+ghost use Rattle.script_reader.specs.Scripts as spec;
 ghost use Rattle.script_reader.specs.Scripts.{taken_by, text_of};
 
 use cs_base::{Items, Memory};
 use cs_model::Actor;
 use cs_types::{Bytes, Schema};
 use thiserror::Error;
+
+/// How a script is to be run, and with that which lines it may have.
+#[derive(Clone, Copy, Debug, PartialEq, Eq)]
+pub enum Mode {
+    /// By the events that its lines name, in their order.
+    Replay,
+    /// By sessions that run side by side, beside movers that go by themselves: each step is the whole statement of a session.
+    Run,
+}
+
+impl Mode {
+    /// Whether a script of this mode may have the step.
+    pub fn allows(self, step: &Step) -> bool
+        ensures { result ≡ spec.allows self step.now }
+    {
+        match self {
+            Mode::Replay => true,
+            Mode::Run => matches!(step, Step::Whole { .. }),
+        }
+    }
+}
 
 /// A script: its table, its steps in order, and the sessions that they name, each once, by their numbers.
 #[derive(Debug, Drop)]

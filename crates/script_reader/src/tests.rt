@@ -1,4 +1,4 @@
-use crate::{Script, read_script};
+use crate::{Mode, Script, read_script};
 use std::alloc::{AllocError, Global};
 use std::process::Abort;
 use std::test::Fail;
@@ -6,9 +6,9 @@ use std::test::Fail;
 /// A setup line.
 const SETUP: &[u8] = b"setup CREATE TABLE t (k int PRIMARY KEY)\n";
 
-/// A script's steps and sessions, or its refusal, as they are printed.
-fn outcome_of(alloc: Global, script: &[u8]) -> Result<String, AllocError> {
-    match read_script(alloc, script) {
+/// The steps and sessions of a script of this mode, or its refusal, as they are printed.
+fn outcome_of(alloc: Global, mode: Mode, script: &[u8]) -> Result<String, AllocError> {
+    match read_script(alloc, script, mode) {
         Ok(
             Script {
                 lines,
@@ -20,9 +20,15 @@ fn outcome_of(alloc: Global, script: &[u8]) -> Result<String, AllocError> {
     }
 }
 
-/// The script has the outcome that is printed so.
-fn check(rt: &impl Abort, alloc: Global, script: &[u8], expected: &str) -> Result<(), Fail> {
-    let outcome = outcome_of(alloc, script)?;
+/// The script has the outcome that is printed so, in this mode.
+fn check(
+    rt: &impl Abort,
+    alloc: Global,
+    mode: Mode,
+    script: &[u8],
+    expected: &str,
+) -> Result<(), Fail> {
+    let outcome = outcome_of(alloc, mode, script)?;
     assert_eq!(rt; outcome.as_str(), expected, "at {script:?}");
     Ok(())
 }
@@ -35,11 +41,16 @@ fn behind_setup(alloc: Global, bytes: &[u8]) -> Result<Vec<u8>, AllocError> {
     Ok(script)
 }
 
-/// Each of the lines has the outcome beside it, behind a setup line.
-fn check_lines(rt: &impl Abort, alloc: Global, cases: &[(&[u8], &str)]) -> Result<(), Fail> {
+/// Each of the lines has the outcome beside it, behind a setup line, in this mode.
+fn check_lines(
+    rt: &impl Abort,
+    alloc: Global,
+    mode: Mode,
+    cases: &[(&[u8], &str)],
+) -> Result<(), Fail> {
     for (lines, expected) in cases {
         let script = behind_setup(alloc, lines)?;
-        check(rt, alloc, script.as_slice(), expected)?;
+        check(rt, alloc, mode, script.as_slice(), expected)?;
     }
     Ok(())
 }
@@ -98,7 +109,7 @@ fn forms(rt: HostRuntime) -> Result<(), Fail> {
         (b"s1 s1<", "[Whole { session: 1, text: [115, 49, 60] }] [1]"),
         (b"s10 1", "[Whole { session: 10, text: [49] }] [10]"),
     ];
-    check_lines(&rt, rt.alloc(), &cases)
+    check_lines(&rt, rt.alloc(), Mode::Replay, &cases)
 }
 
 #[test]
@@ -145,7 +156,7 @@ fn mover_forms(rt: HostRuntime) -> Result<(), Fail> {
             "[Begun { session: 1, text: [65] }, Turn { mover: 1 }, Finished { session: 1 }] [1]",
         ),
     ];
-    check_lines(&rt, rt.alloc(), &cases)
+    check_lines(&rt, rt.alloc(), Mode::Replay, &cases)
 }
 
 #[test]
@@ -189,7 +200,7 @@ fn bad_steps(rt: HostRuntime) -> Result<(), Fail> {
         (b"s1>A\ns1<\ns1<", "Bad { line: 4, reason: 7, number: 0 }"),
         (b"s1>A\ns2 B\n--\n", "Bad { line: 5, reason: 7, number: 0 }"),
     ];
-    check_lines(&rt, rt.alloc(), &cases)
+    check_lines(&rt, rt.alloc(), Mode::Replay, &cases)
 }
 
 #[test]
@@ -246,7 +257,7 @@ fn bad_mover_steps(rt: HostRuntime) -> Result<(), Fail> {
         (b"s1>A\nm1>\nm1<", "Bad { line: 5, reason: 7, number: 0 }"),
         (b"m1>\ns1>A\ns1<", "Bad { line: 5, reason: 7, number: 0 }"),
     ];
-    check_lines(&rt, rt.alloc(), &cases)
+    check_lines(&rt, rt.alloc(), Mode::Replay, &cases)
 }
 
 #[test]
@@ -283,7 +294,74 @@ fn setups(rt: HostRuntime) -> Result<(), Fail> {
         ),
     ];
     for (script, expected) in &cases {
-        check(&rt, rt.alloc(), script, expected)?;
+        check(&rt, rt.alloc(), Mode::Replay, script, expected)?;
+    }
+    Ok(())
+}
+
+#[test]
+fn whole_statements_of_a_run(rt: HostRuntime) -> Result<(), Fail> {
+    let cases: [(&[u8], &str); 29] = [
+        (b"", "[] []"),
+        (b"-- m1\n\ns1 A", "[Whole { session: 1, text: [65] }] [1]"),
+        (
+            b"s64 A\ns3 B\ns64 C",
+            "[Whole { session: 64, text: [65] }, Whole { session: 3, text: [66] }, Whole { session: 64, text: [67] }] [3, 64]",
+        ),
+        (b"m1", "Bad { line: 2, reason: 3, number: 0 }"),
+        (b"m8\n", "Bad { line: 2, reason: 3, number: 0 }"),
+        (b"m1>\nm1<", "Bad { line: 2, reason: 3, number: 0 }"),
+        (b"m1<", "Bad { line: 2, reason: 3, number: 0 }"),
+        (b"s1>A\ns1<", "Bad { line: 2, reason: 3, number: 0 }"),
+        (b"s1<", "Bad { line: 2, reason: 3, number: 0 }"),
+        (b"s1 A\ns1<", "Bad { line: 3, reason: 3, number: 0 }"),
+        (
+            b"s1 A\n--\nm1\ns65 B",
+            "Bad { line: 4, reason: 3, number: 0 }",
+        ),
+        // Before reason 4, and before reason 7.
+        (b"m9", "Bad { line: 2, reason: 3, number: 0 }"),
+        (b"m999999999", "Bad { line: 2, reason: 3, number: 0 }"),
+        (b"m9>", "Bad { line: 2, reason: 3, number: 0 }"),
+        (b"m9<", "Bad { line: 2, reason: 3, number: 0 }"),
+        (b"s65> x", "Bad { line: 2, reason: 3, number: 0 }"),
+        (b"s65<", "Bad { line: 2, reason: 3, number: 0 }"),
+        (b"s65 A", "Bad { line: 2, reason: 4, number: 0 }"),
+        (b"s65 A\nm1", "Bad { line: 2, reason: 4, number: 0 }"),
+        // After reasons 5, 6, 1 and 2.
+        (b"m1 \x7f", "Bad { line: 2, reason: 6, number: 0 }"),
+        (b"s1>A\x0b", "Bad { line: 2, reason: 6, number: 0 }"),
+        (b"m0", "Bad { line: 2, reason: 1, number: 0 }"),
+        (b"m1 x", "Bad { line: 2, reason: 1, number: 0 }"),
+        (b"m1 >", "Bad { line: 2, reason: 1, number: 0 }"),
+        (b"s1>", "Bad { line: 2, reason: 1, number: 0 }"),
+        (b"s1<<", "Bad { line: 2, reason: 1, number: 0 }"),
+        (b"s0 A", "Bad { line: 2, reason: 1, number: 0 }"),
+        (b"setup A", "Bad { line: 2, reason: 2, number: 0 }"),
+        (
+            b"s1 A\nsetup A\nm1",
+            "Bad { line: 3, reason: 2, number: 0 }",
+        ),
+    ];
+    check_lines(&rt, rt.alloc(), Mode::Run, &cases)
+}
+
+#[test]
+fn setups_of_a_run(rt: HostRuntime) -> Result<(), Fail> {
+    let cases: [(&[u8], &str); 10] = [
+        (b"", "Bad { line: 1, reason: 2, number: 0 }"),
+        (b"--\n", "Bad { line: 2, reason: 2, number: 0 }"),
+        (b"m1", "Bad { line: 1, reason: 2, number: 0 }"),
+        (b"m9", "Bad { line: 1, reason: 2, number: 0 }"),
+        (b"s65> x", "Bad { line: 1, reason: 2, number: 0 }"),
+        (b"s1<", "Bad { line: 1, reason: 2, number: 0 }"),
+        (b"m1 x", "Bad { line: 1, reason: 1, number: 0 }"),
+        (b"m1\x01", "Bad { line: 1, reason: 6, number: 0 }"),
+        (b"setup A\nm1", "Bad { line: 1, reason: 8, number: 102 }"),
+        (b"setup CREATE TABLE t (k int PRIMARY KEY)", "[] []"),
+    ];
+    for (script, expected) in &cases {
+        check(&rt, rt.alloc(), Mode::Run, script, expected)?;
     }
     Ok(())
 }
@@ -300,7 +378,7 @@ fn check_long(
     let line = long(alloc, front, byte, size)?;
     let mut script = behind_setup(alloc, line.as_slice())?;
     script.extend_from_slice(b"\r\n")?;
-    check(rt, alloc, script.as_slice(), expected)
+    check(rt, alloc, Mode::Replay, script.as_slice(), expected)
 }
 
 #[test]

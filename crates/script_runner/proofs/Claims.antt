@@ -12,9 +12,14 @@ use Rattle.group_directory.specs.Installing.{held_by}
 use Rattle.group_view.specs.declared.claim.Claim.{Claim}
 use Rattle.group_view.specs.declared.claim.Product.{Product}
 use Rattle.group_view.specs.Claims.{IsProductOf}
+use Rattle.script_reader.specs.Scripts.{IsServed}
 use Rattle.script_runner.specs.Running.{IsReadyFor, AreReady, OthersKeep}
 use Rattle.statement_core.specs.declared.movers.Turned.TheVariants.{Lent}
 use Rattle.statement_core.specs.Movers.{GivesTurn, IsMended}
+
+-- a mover that is served has a seat
+pub mover_seat : (sessions : List ℕ) (mover : ℕ) → IsServed sessions (Mover mover) → mover < 65
+mover_seat sessions mover served = let high = served.1 in omega (arith, high)
 
 abbrev Held : Type 0
 Held = Actor × Claim

@@ -2,18 +2,15 @@
 use Rattle.std.proofs.Common.{◌≡◌, ◌≢◌, ℕ, zero, suc, ◌+◌, ◌<◌, List, [], ◌∷◌, ◌++◌, length, map, get_or, take, drop, refl, sym, ap, subst, ◌∙◌, cond, Bool, true, false, arith, All, Contains, append_assoc}
 use Rattle.std.specs.Prelude.{◌==◌}
 use Rattle.std.proofs.lemmas.Bool.Decides.{nat_tests}
-use Rattle.std.proofs.lemmas.List.{append-nil, map-append, take_more, drop_more}
+use Rattle.std.proofs.lemmas.List.{map-append, take_more, drop_more}
 use Rattle.std.proofs.lemmas.Grind.{common_steps}
 use Rattle.cs_model.specs.declared.entry.Entry.{Entry}
 use Rattle.cs_model.specs.declared.entry.Entry.TheVariants.{End}
 use Rattle.cs_model.specs.Actors.{entries_of, turns_of, is_begun, has_ended}
 use Rattle.log_laws.specs.Laws.{AreDistinct}
-use Rattle.log_laws.proofs.Entries.{entries_push}
+use Rattle.statement_core.proofs.Going.{ended_apart}
 use Rattle.script_runner.specs.Running.{Ending}
-use Rattle.script_runner.proofs.Pieces.{begun_after}
-
-ended_apart : (log : List Entry) (n s : ℕ) → (n == s) ≡ false → has_ended (entries_of s (log ++ End n ∷ [])) ≡ has_ended (entries_of s log)
-ended_apart log n s ne = ap has_ended (entries_push s log (End n) ∙ ap (λ t. entries_of s log ++ cond t (End n ∷ []) []) ne ∙ append-nil (entries_of s log))
+use Rattle.script_turns.proofs.Entries.{begun_after}
 
 rests_end : (log : List Entry) (n s : ℕ) → is_begun (entries_of s log) ≡ false → is_begun (entries_of s (log ++ End n ∷ [])) ≡ false
 rests_end log n s e = begun_after log (End n) s ∙ at (n == s)
@@ -29,7 +26,7 @@ ending_push first log done left n e = record {
   going = λ k d lt.
       let not : n ≢ get_or left k d = e.distinct.0 k d lt in
       let ne : (n == get_or left k d) ≡ false = grind (arith, nat_tests, not) in
-      ended_apart log n (get_or left k d) ne ∙ e.going (suc k) d (omega (arith, lt));
+      ended_apart log (End n) (get_or left k d) ne ∙ e.going (suc k) d (omega (arith, lt));
   distinct = e.distinct.1;
 }
 

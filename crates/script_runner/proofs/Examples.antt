@@ -1,5 +1,5 @@
 -- What the definitions of logs and schedules say, at examples.
-use Rattle.std.proofs.Common.{◌≡◌, ℕ, List, [], ◌∷◌, ◌++◌, length, map, take, drop, refl, sym, ap, subst, Bool, false, inl, inr, arith, length-append, Global}
+use Rattle.std.proofs.Common.{◌≡◌, ◌≤◌, ℕ, List, [], ◌∷◌, ◌++◌, length, map, take, drop, refl, sym, ap, subst, Bool, false, inl, inr, arith, length-append, Global}
 use Rattle.std.proofs.lemmas.List.{append-nil, map-append, take-append-drop, take_all}
 use Rattle.std.proofs.Common.{append_assoc, ◌∙◌}
 use Rattle.std.specs.Prelude.{None}
@@ -23,14 +23,26 @@ use Rattle.cs_types.specs.declared.Schema.{Schema}
 use Rattle.script_reader.specs.declared.script.Script.{Script}
 use Rattle.script_reader.specs.declared.script.Step.TheVariants.{Whole, Finished, Turn, Claiming, Installing}
 use Rattle.script_reader.specs.Scripts.{IsRunnable}
-use Rattle.script_runner.specs.Schedule.{Turns, IsBoundAfter, IsFinishOf, AreMoves, IsPiece, ArePieces, AreTurns, AreMeant}
+use Rattle.script_runner.specs.Running.{MayRun}
+use Rattle.group_log.specs.Counted.{AreCountedAfter, IsCounted}
+use Rattle.script_turns.specs.Turns.{Turns, IsBoundAfter, IsFinishOf, AreTurns, AreMeant}
+use Rattle.script_runner.specs.Schedule.{AreMoves, IsPiece, ArePieces}
 use Rattle.script_runner.specs.Logs.{IsLogOf, IsMadeOf}
+use Rattle.statement_core.specs.CoreValue.{CoreValue}
 use Rattle.statement_core.specs.Turns.{Moment, BeginsTurn, EndsTurn, IsFirst}
 use Rattle.script_runner.proofs.Turning.{has_turns, has_front_turns, turns_cut}
 
 -- a run that stopped before its first line has made no step
 none_made : (sizes : Sizes) (script : Script) → IsRunnable script → IsMadeOf (ground_of script.schema sizes) script []
-none_made sizes script can = inr (record { state = start; book = empty; followed = (refl, refl); lines = 0; ended = 0; last = λ some. absurd (omega (arith, some)); events = []; pieces = refl; ends = refl; turns = has_front_turns sizes script 0 [] can refl })
+none_made sizes script can = inr (record {
+  lines = 0;
+  ended = 0;
+  history = record { state = start; book = empty; followed = (refl, refl); counted = tt; turns = has_front_turns sizes script 0 [] can refl };
+  last = λ some. absurd (omega (arith, some));
+  events = [];
+  pieces = refl;
+  ends = refl;
+})
 
 -- a script of one statement of session 1
 abbrev one_line : Schema → List ℕ → Script
@@ -38,14 +50,20 @@ one_line schema text = record { schema = schema; lines = Whole 1 text ∷ []; se
 
 module _ (sizes : Sizes) (schema : Schema) (text : List ℕ) (can : IsRunnable (one_line schema text)) (bound : Arc Bound Global) (means : IsBoundAfter (begin_of schema) [] text bound.value) (reply : Reply) (m : State) (book : Book) where
   -- its whole log, which is the log of a run also where the text of it found no room
-  whole_made : Followed (ground_of schema sizes) (Start 1 bound false ∷ Finish 1 reply ∷ End 1 ∷ []) m book → IsMadeOf (ground_of schema sizes) (one_line schema text) (Start 1 bound false ∷ Finish 1 reply ∷ End 1 ∷ [])
-  whole_made followed = inl (record {
-    history = record { state = m; book = book; followed = followed; turns = has_turns sizes (one_line schema text) (Start 1 bound false ∷ Finish 1 reply ∷ End 1 ∷ []) (Start 1 bound false ∷ Finish 1 reply ∷ []) can pieces refl };
+  whole_made : Followed (ground_of schema sizes) (Start 1 bound false ∷ Finish 1 reply ∷ End 1 ∷ []) m book → IsCounted (ground_of schema sizes) (Start 1 bound false ∷ Finish 1 reply ∷ End 1 ∷ [])
+      → IsMadeOf (ground_of schema sizes) (one_line schema text) (Start 1 bound false ∷ Finish 1 reply ∷ End 1 ∷ [])
+  whole_made followed counted = inl (record {
+    history = record { state = m; book = book; followed = followed; counted = counted; turns = has_turns sizes (one_line schema text) (Start 1 bound false ∷ Finish 1 reply ∷ End 1 ∷ []) (Start 1 bound false ∷ Finish 1 reply ∷ []) can pieces refl };
     scheduled = (Start 1 bound false ∷ Finish 1 reply ∷ [], pieces, refl);
   })
     where
       pieces : ArePieces (ground_of schema sizes) [] (Whole 1 text ∷ []) (Start 1 bound false ∷ Finish 1 reply ∷ [])
       pieces = (Start 1 bound false ∷ Finish 1 reply ∷ [], [], refl, (Start 1 bound false, Finish 1 reply ∷ [], refl, (refl, means), ([], Finish 1 reply, refl, refl, refl)), refl)
+
+-- the first entries are counted where all are
+counted_front : (origin : Ground) (before log more : List Entry) → AreCountedAfter origin before (log ++ more) → AreCountedAfter origin before log
+counted_front origin before [] more x = tt
+counted_front origin before (e ∷ log) more x = (x.0, counted_front origin (before ++ e ∷ []) log more x.1)
 
 -- the log of a whole run, cut among its Ends, is that of a run that stopped
 module _ (origin : Ground) (script : Script) (log : List Entry) (whole : IsLogOf origin script log) (ended : ℕ) (m : State) (book : Book) where
@@ -54,16 +72,19 @@ module _ (origin : Ground) (script : Script) (log : List Entry) (whole : IsLogOf
 
   ends_begun : Followed origin begun_ends m book → IsMadeOf origin script begun_ends
   ends_begun followed = inr (record {
-    state = m;
-    book = book;
-    followed = followed;
     lines = length script.lines;
     ended = ended;
+    history = record {
+      state = m;
+      book = book;
+      followed = followed;
+      counted = counted_front origin [] begun_ends (map End (drop ended script.sessions)) (subst (IsCounted origin) cut whole.history.counted);
+      turns = turns_cut origin.begin script begun_ends (map End (drop ended script.sessions)) (subst (Turns origin.begin script) cut whole.history.turns);
+    };
     last = λ some. omega arith;
     events = whole.scheduled.0;
     pieces = subst (λ lines. ArePieces origin [] lines whole.scheduled.0) (sym (take_all (length script.lines) script.lines (omega arith))) whole.scheduled.1;
     ends = refl;
-    turns = turns_cut origin.begin script begun_ends (map End (drop ended script.sessions)) (subst (Turns origin.begin script) cut whole.history.turns);
   })
     where
       cut : log ≡ begun_ends ++ map End (drop ended script.sessions)
@@ -136,6 +157,18 @@ module _ (origin : Ground) (before claims installs : List Entry) (reply : Reply)
   three_lines : ArePieces origin before (Claiming 1 ∷ Finished 1 ∷ Installing 1 ∷ []) (claims ++ Finish 1 reply ∷ (installs ++ []))
   three_lines =
       (claims, Finish 1 reply ∷ (installs ++ []), refl, begins, (Finish 1 reply ∷ [], installs ++ [], refl, ([], Finish 1 reply, refl, refl, refl), (installs, [], refl, ends, refl)))
+
+-- movers are 1 to 8, and no other has a line, not even the last half of a turn
+module _ (core : CoreValue) where
+  no_mover_0 : (MayRun core (Turn 0) → ⊥) × (MayRun core (Claiming 0) → ⊥) × (MayRun core (Installing 0) → ⊥)
+  no_mover_0 = (
+    λ may. let served = may.served in let low : 1 ≤ 0 = served.0 in absurd (omega (arith, low)),
+    λ may. let served = may.served in let low : 1 ≤ 0 = served.0 in absurd (omega (arith, low)),
+    λ may. let low : 1 ≤ 0 = may.0 in absurd (omega (arith, low)),
+  )
+
+  no_mover_9 : (MayRun core (Turn 9) → ⊥) × (MayRun core (Installing 9) → ⊥)
+  no_mover_9 = (λ may. let served = may.served in let high : 9 ≤ 8 = served.1 in absurd (omega (arith, high)), λ may. let high : 9 ≤ 8 = may.1 in absurd (omega (arith, high)))
 
 -- a whole turn has no entry where there is nothing to do
 module _ (origin : Ground) (before : List Entry) (mover : ℕ) (moment : Moment origin before) (floor : ℕ) (is : IsFloor (snapshots moment.state) (let state = moment.state in state.clock) floor)

@@ -4,7 +4,6 @@ pub mod Claims
 pub mod Events
 pub mod Meanings
 pub mod Turning
-pub mod Sessions
 pub mod Endings
 pub mod Steps
 pub mod Examples

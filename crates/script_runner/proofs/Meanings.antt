@@ -1,13 +1,10 @@
 -- Each Start of a log that follows a script is what its session's next text means.
-use Rattle.std.proofs.Common.{◌≡◌, ℕ, ◌+◌, List, [], ◌∷◌, ◌++◌, length, map, refl, sym, ap, subst, ◌∙◌, cond, Bool, true, false, arith, append_assoc, length-append}
-use Rattle.std.specs.Prelude.{◌==◌, None, Some, slice_get}
+use Rattle.std.proofs.Common.{◌≡◌, ℕ, ◌+◌, List, [], ◌∷◌, ◌++◌, length, map, refl, sym, ap, subst, ◌∙◌, cond, Bool, true, false, append_assoc, length-append}
+use Rattle.std.specs.Prelude.{◌==◌, None, Some}
 use Rattle.std.specs.List.{cons_option}
 use Rattle.std.proofs.lemmas.Bool.{eq-eqb}
-use Rattle.std.proofs.lemmas.List.{append-nil}
 use Rattle.std.proofs.lemmas.List.Elements.{filter_map-append}
 use Rattle.std.proofs.lemmas.List.Sums.{sum_by-append}
-use Rattle.std.proofs.lemmas.Option.{slice_get_read}
-use Rattle.std.proofs.Math.Seq.{get_or-append_seam}
 use Rattle.cs_model.specs.declared.entry.Entry.{Entry}
 use Rattle.cs_model.specs.declared.entry.Entry.TheVariants.{Start, Finish, End, Mover}
 use Rattle.cs_model.specs.State.{Begin}
@@ -15,22 +12,12 @@ use Rattle.group_log.specs.Followed.{Ground}
 use Rattle.cs_model.specs.Text.{is_start_of, statements_of}
 use Rattle.script_reader.specs.declared.script.Step.{Step}
 use Rattle.script_reader.specs.declared.script.Step.TheVariants.{Whole, Begun, Finished, Turn, Claiming, Installing}
-use Rattle.script_runner.specs.Schedule.{IsStart, IsFinishOf, ArePieces, started_in, texts_of, IsMeant, AreMeant}
+use Rattle.script_turns.specs.Turns.{started_in, texts_of, IsMeant, AreMeant}
+use Rattle.script_turns.proofs.Meanings.{starts, starts_none, meant_append, finish_meant, start_meant}
+use Rattle.script_runner.specs.Schedule.{ArePieces}
 use Rattle.script_runner.proofs.Pieces.{IsWork, AreWorks, IsPlain, plain}
 
 -- ---- how many statements a session began
-
-starts : (begin : Begin) (before : List Entry) (session : ℕ) (text : List ℕ) (e : Entry) (s : ℕ) → IsStart begin before session text e → is_start_of s e ≡ (session == s)
-starts begin before session text (Start k b short) s h = ap (λ n. n == s) h.0
-starts begin before session text (Finish k r) s h = absurd h
-starts begin before session text (End k) s h = absurd h
-starts begin before session text (Mover actor work) s h = absurd h
-
-starts_none : (session : ℕ) (e : Entry) (s : ℕ) → IsFinishOf session e → is_start_of s e ≡ false
-starts_none session (Start k b short) s h = absurd h
-starts_none session (Finish k r) s h = refl
-starts_none session (End k) s h = absurd h
-starts_none session (Mover actor work) s h = absurd h
 
 -- works of movers begin no statement
 work_counted : (s : ℕ) (e : Entry) → IsWork e → is_start_of s e ≡ false
@@ -71,28 +58,12 @@ piece_counted begin before (Installing mover) piece s p = works_counted s piece 
 texts_push : (s : ℕ) (done : List Step) (step : Step) → length (texts_of s (done ++ step ∷ [])) ≡ length (texts_of s done) + length (texts_of s (step ∷ []))
 texts_push s done step = ap length (filter_map-append (started_in s) done (step ∷ [])) ∙ length-append (texts_of s done) (texts_of s (step ∷ []))
 
--- what stands at the seam of two lists
-at_seam : {A : Type 0} (xs : List A) (x : A) (ys : List A) → slice_get (xs ++ x ∷ ys) (length xs) ≡ Some x
-at_seam xs x ys =
-    let all = length-append xs (x ∷ ys) in
-    slice_get_read (xs ++ x ∷ ys) (length (xs ++ x ∷ ys)) (length xs) x refl (omega (arith, all)) (sym (get_or-append_seam xs x ys x))
-
 -- ---- the statement of each Start
 
 module _ (origin : Ground) (steps : List Step) where
-  meant_append : (before xs ys : List Entry) → AreMeant origin.begin steps before xs → AreMeant origin.begin steps (before ++ xs) ys → AreMeant origin.begin steps before (xs ++ ys)
-  meant_append before [] ys x y = subst (λ es. AreMeant origin.begin steps es ys) (append-nil before) y
-  meant_append before (e ∷ xs) ys x y = (x.0, meant_append (before ++ e ∷ []) xs ys x.1 (subst (λ es. AreMeant origin.begin steps es ys) (sym (append_assoc before (e ∷ []) xs)) y))
-
   ends_meant : (before : List Entry) (sessions : List ℕ) → AreMeant origin.begin steps before (map End sessions)
   ends_meant before [] = tt
   ends_meant before (n ∷ sessions) = (tt, ends_meant (before ++ End n ∷ []) sessions)
-
-  finish_meant : (before : List Entry) (session : ℕ) (e : Entry) → IsFinishOf session e → IsMeant origin.begin steps before e
-  finish_meant before session (Start s b short) h = absurd h
-  finish_meant before session (Finish s r) h = tt
-  finish_meant before session (End s) h = absurd h
-  finish_meant before session (Mover actor work) h = absurd h
 
   work_meant : (before : List Entry) (e : Entry) → IsWork e → IsMeant origin.begin steps before e
   work_meant before (Start s b short) w = absurd w
@@ -103,18 +74,6 @@ module _ (origin : Ground) (steps : List Step) where
   works_meant : (before piece : List Entry) → AreWorks piece → AreMeant origin.begin steps before piece
   works_meant before [] w = tt
   works_meant before (e ∷ es) w = (work_meant before e w.0, works_meant (before ++ e ∷ []) es w.1)
-
-  -- the text of a step that comes after these is its session's next
-  start_meant : (before : List Entry) (session : ℕ) (text : List ℕ) (done more : List (List ℕ)) (e : Entry) → statements_of session before ≡ length done → texts_of session steps ≡ done ++ text ∷ more
-      → IsStart origin.begin before session text e → IsMeant origin.begin steps before e
-  start_meant before session text done more (Start s b short) counted split h = (
-    text,
-    ap (λ k. slice_get (texts_of k steps) (statements_of k before)) h.0 ∙ (λ i. slice_get (split i) (counted i)) ∙ at_seam done text more,
-    h.1,
-  )
-  start_meant before session text done more (Finish s r) counted split h = absurd h
-  start_meant before session text done more (End s) counted split h = absurd h
-  start_meant before session text done more (Mover actor work) counted split h = absurd h
 
   -- where the session's texts stand, at a step that has one
   texts_at : (done left : List Step) (step : Step) (session : ℕ) (text : List ℕ) → steps ≡ done ++ step ∷ left → started_in session step ≡ Some text
@@ -128,14 +87,14 @@ module _ (origin : Ground) (steps : List Step) where
   piece_meant : (before : List Entry) (done left : List Step) (step : Step) (piece : List Entry) → steps ≡ done ++ step ∷ left → ((s : ℕ) → statements_of s before ≡ length (texts_of s done)) → IsPlain origin.begin before step piece
       → AreMeant origin.begin steps before piece
   piece_meant before done left (Whole session text) piece split counted p = subst (AreMeant origin.begin steps before) (sym p.2) (
-    start_meant before session text (texts_of session done) (texts_of session left) p.0 (counted session) (texts_at done left (Whole session text) session text split (starts_text session text)) p.3,
-    (finish_meant (before ++ p.0 ∷ []) session p.1 p.4, tt),
+    start_meant origin.begin steps before session text (texts_of session done) (texts_of session left) p.0 (counted session) (texts_at done left (Whole session text) session text split (starts_text session text)) p.3,
+    (finish_meant origin.begin steps (before ++ p.0 ∷ []) session p.1 p.4, tt),
   )
   piece_meant before done left (Begun session text) piece split counted p = subst (AreMeant origin.begin steps before) (sym p.1) (
-    start_meant before session text (texts_of session done) (texts_of session left) p.0 (counted session) (texts_at done left (Begun session text) session text split (starts_text session text)) p.2,
+    start_meant origin.begin steps before session text (texts_of session done) (texts_of session left) p.0 (counted session) (texts_at done left (Begun session text) session text split (starts_text session text)) p.2,
     tt,
   )
-  piece_meant before done left (Finished session) piece split counted p = subst (AreMeant origin.begin steps before) (sym p.1) (finish_meant before session p.0 p.2, tt)
+  piece_meant before done left (Finished session) piece split counted p = subst (AreMeant origin.begin steps before) (sym p.1) (finish_meant origin.begin steps before session p.0 p.2, tt)
   piece_meant before done left (Turn mover) piece split counted p = works_meant before piece p
   piece_meant before done left (Claiming mover) piece split counted p = works_meant before piece p
   piece_meant before done left (Installing mover) piece split counted p = works_meant before piece p
@@ -145,7 +104,7 @@ module _ (origin : Ground) (steps : List Step) where
   meant_in (step ∷ left) done before entries split counted is =
       let p = plain origin before step is.0 is.3 in
       subst (AreMeant origin.begin steps before) (sym is.2)
-      (meant_append before is.0 is.1 (piece_meant before done left step is.0 split counted p)
+      (meant_append origin.begin steps before is.0 is.1 (piece_meant before done left step is.0 split counted p)
       (meant_in left (done ++ step ∷ []) (before ++ is.0) is.1 (split ∙ sym (append_assoc done (step ∷ []) left)) (λ s. more s p) is.4))
     where
       more : (s : ℕ) → IsPlain origin.begin before step is.0 → statements_of s (before ++ is.0) ≡ length (texts_of s (done ++ step ∷ []))
@@ -160,4 +119,4 @@ module _ (origin : Ground) (steps : List Step) where
   -- and so are they with the Ends after them
   pub whole_meant : (events log : List Entry) (sessions : List ℕ) → ArePieces origin [] steps events → log ≡ events ++ map End sessions → AreMeant origin.begin steps [] log
   whole_meant events log sessions pieces is =
-      subst (AreMeant origin.begin steps []) (sym is) (meant_append [] events (map End sessions) (all_meant events pieces) (ends_meant events sessions))
+      subst (AreMeant origin.begin steps []) (sym is) (meant_append origin.begin steps [] events (map End sessions) (all_meant events pieces) (ends_meant events sessions))

@@ -1,5 +1,5 @@
 -- What the events of a step say of its actor, and of the others.
-use Rattle.std.proofs.Common.{◌≡◌, ℕ, List, [], ◌∷◌, ◌++◌, refl, sym, ap, subst, ◌∙◌, cond, inl, inr, Bool, true, false, ◌||◌, append_assoc}
+use Rattle.std.proofs.Common.{◌≡◌, ℕ, List, [], ◌∷◌, ◌++◌, refl, sym, ap, subst, ◌∙◌, cond, inl, inr, Bool, true, false, append_assoc}
 use Rattle.std.specs.Prelude.{◌==◌, not, Option, None, Some}
 use Rattle.std.proofs.lemmas.List.{append-nil}
 use Rattle.cs_model.specs.declared.entry.Entry.{Entry}
@@ -8,68 +8,18 @@ use Rattle.cs_model.specs.declared.work.Actor.{Actor}
 use Rattle.cs_model.specs.declared.work.Actor.TheVariants as actor
 use Rattle.cs_model.specs.declared.work.Work.{Work}
 use Rattle.cs_model.specs.State.{Begin}
-use Rattle.cs_model.specs.Actors.{actor_of, is_turn, entries_of, begun_by, is_end, is_begun, has_ended}
+use Rattle.cs_model.specs.Actors.{actor_of, entries_of, is_begun, has_ended}
 use Rattle.group_book.specs.Turns.{same_actor}
 use Rattle.group_log.specs.Followed.{Ground}
-use Rattle.log_laws.proofs.Entries.{entries_push, begun_push, ended_push}
 use Rattle.script_reader.specs.declared.script.Step.{Step}
 use Rattle.script_reader.specs.declared.script.Step.TheVariants.{Whole, Begun, Finished, Turn, Claiming, Installing}
 use Rattle.script_reader.specs.Scripts as reader
 use Rattle.script_reader.specs.Scripts.{taken_by}
-use Rattle.script_runner.specs.Schedule.{IsStart, IsFinishOf, IsFinishing, IsPiece, ArePieces}
+use Rattle.script_turns.specs.Turns.{IsStart, IsFinishOf}
+use Rattle.script_turns.proofs.Entries.{begun_after, one_begun, one_going, start_does, finish_does}
+use Rattle.script_runner.specs.Schedule.{IsFinishing, IsPiece, ArePieces}
 use Rattle.statement_core.specs.Turns.{BeginsTurn, EndsTurn, IsFirst}
-
--- ---- one entry more
-
-pub begun_after : (log : List Entry) (e : Entry) (s : ℕ) → is_begun (entries_of s (log ++ e ∷ [])) ≡ cond (actor_of e == s) (begun_by (is_begun (entries_of s log)) e) (is_begun (entries_of s log))
-begun_after log e s = ap is_begun (entries_push s log e) ∙ at (actor_of e == s)
-  where
-    at : (t : Bool) → is_begun (entries_of s log ++ cond t (e ∷ []) []) ≡ cond t (begun_by (is_begun (entries_of s log)) e) (is_begun (entries_of s log))
-    at true = begun_push (entries_of s log) e
-    at false = ap is_begun (append-nil (entries_of s log))
-
-pub ended_after : (log : List Entry) (e : Entry) (s : ℕ) → has_ended (entries_of s (log ++ e ∷ [])) ≡ cond (actor_of e == s) (has_ended (entries_of s log) || is_end e) (has_ended (entries_of s log))
-ended_after log e s = ap has_ended (entries_push s log e) ∙ at (actor_of e == s)
-  where
-    at : (t : Bool) → has_ended (entries_of s log ++ cond t (e ∷ []) []) ≡ cond t (has_ended (entries_of s log) || is_end e) (has_ended (entries_of s log))
-    at true = ended_push (entries_of s log) e
-    at false = ap has_ended (append-nil (entries_of s log))
-
--- ---- a Start, a Finish
-
--- a turn of one session, which leaves a statement half done or not, and is no End
-pub record Does (session : ℕ) (begins : Bool) (e : Entry) : Type 0 where
-  pub actor : actor_of e ≡ session
-  pub turn : is_turn e ≡ true
-  pub begun : (before : Bool) → begun_by before e ≡ begins
-  pub going : is_end e ≡ false
-
-pub start_does : (begin : Begin) (before : List Entry) (session : ℕ) (text : List ℕ) (e : Entry) → IsStart begin before session text e → Does session true e
-start_does begin before session text (Start s b short) h = record { actor = h.0; turn = refl; begun = λ before. refl; going = refl }
-start_does begin before session text (Finish s r) h = absurd h
-start_does begin before session text (End s) h = absurd h
-start_does begin before session text (Mover actor work) h = absurd h
-
-pub finish_does : (session : ℕ) (e : Entry) → IsFinishOf session e → Does session false e
-finish_does session (Start s b short) h = absurd h
-finish_does session (Finish s r) h = record { actor = h; turn = refl; begun = λ before. refl; going = refl }
-finish_does session (End s) h = absurd h
-finish_does session (Mover actor work) h = absurd h
-
-one_begun : (log : List Entry) (e : Entry) (s session : ℕ) (begins : Bool) → Does session begins e → is_begun (entries_of s (log ++ e ∷ [])) ≡ cond (session == s) begins (is_begun (entries_of s log))
-one_begun log e s session begins d =
-    begun_after log e s ∙ (λ i. cond (d.actor i == s) (d.begun (is_begun (entries_of s log)) i) (is_begun (entries_of s log)))
-
-or_false : (b : Bool) → (b || false) ≡ b
-or_false true = refl
-or_false false = refl
-
-one_going : (log : List Entry) (e : Entry) (s session : ℕ) (begins : Bool) → Does session begins e → has_ended (entries_of s (log ++ e ∷ [])) ≡ has_ended (entries_of s log)
-one_going log e s session begins d = ended_after log e s ∙ at (actor_of e == s)
-  where
-    at : (t : Bool) → cond t (has_ended (entries_of s log) || is_end e) (has_ended (entries_of s log)) ≡ has_ended (entries_of s log)
-    at true = ap (λ b. has_ended (entries_of s log) || b) d.going ∙ or_false (has_ended (entries_of s log))
-    at false = refl
+use Rattle.statement_core.proofs.Going.{ended_stays}
 
 -- ---- works of movers
 
@@ -107,11 +57,7 @@ work_going : (log : List Entry) (e : Entry) (s : ℕ) → IsWork e → has_ended
 work_going log (Start n b short) s w = absurd w
 work_going log (Finish n r) s w = absurd w
 work_going log (End n) s w = absurd w
-work_going log (Mover by work) s w = ended_after log (Mover by work) s ∙ at (actor_of (Mover by work) == s)
-  where
-    at : (t : Bool) → cond t (has_ended (entries_of s log) || false) (has_ended (entries_of s log)) ≡ has_ended (entries_of s log)
-    at true = or_false (has_ended (entries_of s log))
-    at false = refl
+work_going log (Mover by work) s w = ended_stays log (Mover by work) s refl
 
 works_begun : (log piece : List Entry) (s : ℕ) → AreWorks piece → is_begun (entries_of s (log ++ piece)) ≡ is_begun (entries_of s log)
 works_begun log [] s w = ap (λ es. is_begun (entries_of s es)) (append-nil log)

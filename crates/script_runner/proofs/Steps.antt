@@ -15,6 +15,7 @@ use Rattle.group_book.specs.Book.{Book}
 use Rattle.group_book.specs.Commits.{Sizes}
 use Rattle.group_book.specs.Turns.{same_actor}
 use Rattle.group_directory.specs.Installing.{held_by}
+use Rattle.group_log.specs.Counted.{IsCounted}
 use Rattle.group_log.specs.Followed.{Ground, ground_of, Followed}
 use Rattle.group_view.specs.declared.claim.Claim.{Claim}
 use Rattle.cs_model.specs.Actors.{entries_of, is_begun, has_ended}
@@ -22,9 +23,9 @@ use Rattle.script_reader.specs.declared.script.Script.{Script}
 use Rattle.script_reader.specs.declared.script.Step.{Step}
 use Rattle.script_reader.specs.declared.script.Step.TheVariants.{Whole, Begun, Finished, Turn, Claiming, Installing}
 use Rattle.script_reader.specs.Scripts as reader
-use Rattle.script_reader.specs.Scripts.{taken_by, text_of, half_done, may_follow, ArePaired, IsServed, IsRunnable}
+use Rattle.script_reader.specs.Scripts.{taken_by, text_of, half_done, ArePaired, IsServed, IsRunnable}
 use Rattle.script_reader.proofs.Halves.{half_same, half_other, half_empty}
-use Rattle.script_runner.specs.Running.{Running, AreFree, AreRunnable, IsFrontRun, IsKnown, LeavesClaims, MayRun, OthersKeep}
+use Rattle.script_runner.specs.Running.{Running, AreFree, AreRunnable, IsFrontRun, LeavesClaims, MayRun, OthersKeep}
 use Rattle.script_runner.specs.Schedule.{IsPiece, ArePieces, Scheduled}
 use Rattle.script_runner.specs.Logs.{IsLogOf, IsFrontLogOf}
 use Rattle.script_runner.proofs.Pieces.{is_not, plain, piece_begun, piece_going, pieces_push}
@@ -96,15 +97,15 @@ running_push origin core new done left step piece run p is leaves = record {
 -- ---- the step at a place
 
 -- a step that comes next can be run
-may_run : (origin : Ground) (core : CoreValue) (done left : List Step) (step : Step) → Running origin core done (step ∷ left) → length (text_of step) ≤ 65536 → IsKnown core.sessions (taken_by step) → MayRun core step
-may_run origin core done left (Whole s text) run short known =
-    (record { seat = known.0; known = known.1; half = run.begun s ∙ is_not (half_done (Session s) done) run.paired.0; going = run.going s }, short)
-may_run origin core done left (Begun s text) run short known =
-    (record { seat = known.0; known = known.1; half = run.begun s ∙ is_not (half_done (Session s) done) run.paired.0; going = run.going s }, short)
-may_run origin core done left (Finished s) run short known = record { seat = known.0; known = known.1; half = run.begun s ∙ run.paired.0; going = run.going s }
-may_run origin core done left (Turn m) run short known = record { seat = known; free = run.free m (is_not (half_done (Mover m) done) run.paired.0) }
-may_run origin core done left (Claiming m) run short known = record { seat = known; free = run.free m (is_not (half_done (Mover m) done) run.paired.0) }
-may_run origin core done left (Installing m) run short known = known
+may_run : (origin : Ground) (core : CoreValue) (done left : List Step) (step : Step) → Running origin core done (step ∷ left) → length (text_of step) ≤ 65536 → IsServed core.sessions (taken_by step) → MayRun core step
+may_run origin core done left (Whole s text) run short served =
+    (record { served = served; half = run.begun s ∙ is_not (half_done (Session s) done) run.paired.0; going = run.going s }, short)
+may_run origin core done left (Begun s text) run short served =
+    (record { served = served; half = run.begun s ∙ is_not (half_done (Session s) done) run.paired.0; going = run.going s }, short)
+may_run origin core done left (Finished s) run short served = record { served = served; half = run.begun s ∙ run.paired.0; going = run.going s }
+may_run origin core done left (Turn m) run short served = record { served = served; free = run.free m (is_not (half_done (Mover m) done) run.paired.0) }
+may_run origin core done left (Claiming m) run short served = record { served = served; free = run.free m (is_not (half_done (Mover m) done) run.paired.0) }
+may_run origin core done left (Installing m) run short served = served
 
 module _ (origin : Ground) (lines : List Step) (i : ℕ) (step : Step) (within : i < length lines) (is : step ≡ get_or lines i step) (core : CoreValue)
     (run : Running origin core (take i lines) (drop i lines)) where
@@ -114,7 +115,7 @@ module _ (origin : Ground) (lines : List Step) (i : ℕ) (step : Step) (within :
   pub next_at : (sessions : List ℕ) → core.sessions ≡ sessions → AreRunnable sessions lines → MayRun core step
   next_at sessions same can =
       may_run origin core (take i lines) (drop (i + 1) lines) step comes (subst (λ x. length (text_of x) ≤ 65536) (sym is) (can.short i step within))
-      (subst (λ served. IsKnown served (taken_by step)) (sym same) (subst (λ x. IsKnown sessions (taken_by x)) (sym is) (can.known i step within)))
+      (subst (λ known. IsServed known (taken_by step)) (sym same) (subst (λ x. IsServed sessions (taken_by x)) (sym is) (can.served i step within)))
 
   pub step_more : (now : Ground) (new : CoreValue) → now ≡ origin → (piece : List Entry) × IsPiece now core.log step piece × (new.log ≡ core.log ++ piece) → LeavesClaims step core.claims new.claims
       → Running origin new (take (i + 1) lines) (drop (i + 1) lines)
@@ -132,16 +133,16 @@ all_rest origin core done run s = run.begun s ∙ run.paired (Session s)
 pub all_free : (origin : Ground) (core : CoreValue) (done : List Step) (claims : List (Actor × Claim)) → Running origin core done [] → claims ≡ core.claims → AreFree claims
 all_free origin core done claims run is = λ m. ap (held_by (Mover m)) is ∙ run.free m (run.paired (Mover m))
 
--- an actor of the script is known to a core with its sessions
-known_of : (own sessions : List ℕ) (by : Actor) → All (λ session. Contains sessions session) own → IsServed own by → IsKnown sessions by
-known_of own sessions (Session n) known served = (let high = served.1 in omega (arith, high), All-contains (λ session. Contains sessions session) own n known served.2)
-known_of own sessions (Mover n) known served = let high = served.1 in omega (arith, high)
+-- an actor of the script is served by a core with its sessions
+served_of : (own sessions : List ℕ) (by : Actor) → All (λ session. Contains sessions session) own → IsServed own by → IsServed sessions by
+served_of own sessions (Session n) known served = (served.0, served.1, All-contains (λ session. Contains sessions session) own n known served.2)
+served_of own sessions (Mover n) known served = served
 
 -- a script's steps can be run by a core with its sessions
 pub runnable_of : (script : Script) (sessions : List ℕ) → All (λ session. Contains sessions session) script.sessions → IsRunnable script → AreRunnable sessions script.lines
 runnable_of script sessions known can = record {
   short = can.short;
-  known = λ k d lt. known_of script.sessions sessions (taken_by (get_or script.lines k d)) known (can.range k d lt);
+  served = λ k d lt. served_of script.sessions sessions (taken_by (get_or script.lines k d)) known (can.range k d lt);
   paired = can.paired;
 }
 
@@ -163,30 +164,34 @@ front_of script first sizes steps log of_first of_steps x = (
 -- ---- the log
 
 pub log_of : (sizes : Sizes) (script : Script) (schema : Schema) (now : Sizes) (log : List Entry) → IsRunnable script → schema ≡ script.schema → now ≡ sizes
-    → (m : State) × (book : Book) × Followed (ground_of schema now) log m book → Scheduled (ground_of script.schema sizes) script log → IsLogOf (ground_of script.schema sizes) script log
-log_of sizes script schema now log can same sized legal x = record {
+    → (m : State) × (book : Book) × Followed (ground_of schema now) log m book → IsCounted (ground_of schema now) log → Scheduled (ground_of script.schema sizes) script log → IsLogOf (ground_of script.schema sizes) script log
+log_of sizes script schema now log can same sized legal counted x = record {
   history = record {
     state = legal.0;
     book = legal.1;
     followed = subst (λ s. Followed (ground_of s sizes) log legal.0 legal.1) same (subst (λ z. Followed (ground_of schema z) log legal.0 legal.1) sized legal.2);
+    counted = subst (λ s. IsCounted (ground_of s sizes) log) same (subst (λ z. IsCounted (ground_of schema z) log) sized counted);
     turns = has_turns sizes script log x.0 can x.1 x.2;
   };
   scheduled = x;
 }
 
 pub front_log_of : (sizes : Sizes) (script : Script) (schema : Schema) (now : Sizes) (log : List Entry) → IsRunnable script → schema ≡ script.schema → now ≡ sizes
-    → (m : State) × (book : Book) × Followed (ground_of schema now) log m book → IsFrontRun (ground_of script.schema sizes) script.lines log → IsFrontLogOf (ground_of script.schema sizes) script log
-front_log_of sizes script schema now log can same sized legal x = record {
-  state = legal.0;
-  book = legal.1;
-  followed = subst (λ s. Followed (ground_of s sizes) log legal.0 legal.1) same (subst (λ z. Followed (ground_of schema z) log legal.0 legal.1) sized legal.2);
+    → (m : State) × (book : Book) × Followed (ground_of schema now) log m book → IsCounted (ground_of schema now) log → IsFrontRun (ground_of script.schema sizes) script.lines log → IsFrontLogOf (ground_of script.schema sizes) script log
+front_log_of sizes script schema now log can same sized legal counted x = record {
   lines = x.0;
   ended = 0;
+  history = record {
+    state = legal.0;
+    book = legal.1;
+    followed = subst (λ s. Followed (ground_of s sizes) log legal.0 legal.1) same (subst (λ z. Followed (ground_of schema z) log legal.0 legal.1) sized legal.2);
+    counted = subst (λ s. IsCounted (ground_of s sizes) log) same (subst (λ z. IsCounted (ground_of schema z) log) sized counted);
+    turns = has_front_turns sizes script x.0 log can x.1;
+  };
   last = λ some. absurd (omega (arith, some));
   events = log;
   pieces = x.1;
   ends = sym (append-nil log);
-  turns = has_front_turns sizes script x.0 log can x.1;
 }
 
 pub on_ok : {T E : Type 0} (P Q : Type 0) (r : Result T E) → (P → Q) → OnOk r P → OnOk r Q

@@ -19,24 +19,20 @@ use Rattle.script_reader.specs.declared.script.Script.{Script}
 use Rattle.script_reader.specs.declared.script.Step.{Step}
 use Rattle.script_reader.specs.declared.script.Step.TheVariants.{Whole, Begun, Finished, Turn, Claiming, Installing}
 use Rattle.script_reader.specs.Scripts.{taken_by, half_done, may_follow, ArePaired, IsServed, IsRunnable}
-use Rattle.script_runner.specs.Schedule.{IsStart, IsStartIn, IsFinishOf, ArePieces, texts_of, AreTurns, AreMeant, Turns, FrontTurns}
+use Rattle.script_turns.specs.Turns.{IsStartIn, IsFinishOf, texts_of, AreTurns, AreMeant, Turns, FrontTurns}
+use Rattle.script_runner.specs.Schedule.{ArePieces}
 use Rattle.script_reader.proofs.Halves.{half_same, half_other, half_empty}
 use Rattle.script_runner.specs.Logs.{first_lines}
-use Rattle.script_runner.proofs.Pieces.{Does, AreWorks, IsPlain, start_does, finish_does, is_not, plain}
+use Rattle.script_turns.proofs.Entries.{Does, start_does, start_in, finish_does}
+use Rattle.script_runner.proofs.Pieces.{AreWorks, IsPlain, is_not, plain}
 use Rattle.script_runner.proofs.Meanings.{all_meant, whole_meant}
-use Rattle.script_runner.proofs.Sessions.{sessions_distinct}
+use Rattle.script_turns.proofs.Sessions.{sessions_distinct}
 use Rattle.script_runner.proofs.Endings.{ends_one, ends_none, apart_all}
 
 -- these are the turns of so many statements of a session; where it has one half done, the Finish of that comes first
 abbrev Turned : ℕ → ℕ → List Entry → Bool → Type 0
 Turned session n turns false = AreTurns session n turns
 Turned session n turns true = (b : Entry) × (others : List Entry) × (turns ≡ b ∷ others) × IsFinishOf session b × AreTurns session n others
-
-start_in : (begin : Begin) (before : List Entry) (session : ℕ) (text : List ℕ) (e : Entry) → IsStart begin before session text e → IsStartIn session e
-start_in begin before session text (Start s b short) h = h.0
-start_in begin before session text (Finish s r) h = absurd h
-start_in begin before session text (End s) h = absurd h
-start_in begin before session text (Mover actor work) h = absurd h
 
 -- each of the steps may follow those before it
 abbrev Follow : List Step → List Step → Type 0

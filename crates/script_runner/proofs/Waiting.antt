@@ -11,17 +11,13 @@ use Rattle.cs_types.specs.declared.Schema.{Schema}
 use Rattle.cs_model.specs.State.{Begin, begin_of, with}
 use Rattle.cs_model.specs.Actors.{actor_of, is_turn, entries_of, begun_by, is_begun}
 use Rattle.group_book.specs.Commits.{Sizes}
-use Rattle.log_laws.specs.Started.{Begun}
-use Rattle.log_laws.proofs.StartedOn.{started_on}
 use Rattle.statement_core.specs.declared.started.Started.{Started}
-use Rattle.statement_core.specs.declared.started.Outcome.{Outcome}
-use Rattle.statement_core.specs.Begun.{Hands, MayWork}
-use Rattle.statement_core.specs.Outcomes.{GivesOn}
-use Rattle.statement_core.specs.Terms.{sizes_of}
-use Rattle.statement_core.specs.Cores.{IsDone, IsStartOf}
-use Rattle.script_runner.specs.Schedule.{IsBound, IsStart, IsFinishOf}
-use Rattle.script_runner.specs.Running.{Awaits, IsWaiting, Waits}
-use Rattle.script_runner.proofs.Pieces.{Does, IsWork, AreWorks, begun_after, finish_does, work_begun}
+use Rattle.statement_core.specs.Cores.{IsStartOf}
+use Rattle.script_turns.specs.Awaiting.{Awaits}
+use Rattle.script_runner.specs.Running.{IsWaiting, Waits}
+use Rattle.script_turns.proofs.Awaiting.{awaits_on}
+use Rattle.script_turns.proofs.Entries.{Does, begun_after, finish_does, start_of_does}
+use Rattle.script_runner.proofs.Pieces.{IsWork, AreWorks, work_begun}
 
 and_false : (b : Bool) → (b && false) ≡ false
 and_false true = refl
@@ -30,15 +26,7 @@ and_false false = refl
 -- a statement waits as before where the entry is no turn of its session
 waiting_on : (sizes : Sizes) (begin : Begin) (log : List Entry) (e : Entry) (s : ℕ) (o : Option Started) → (is_turn e && (actor_of e == s)) ≡ false → IsWaiting sizes begin log s o → IsWaiting sizes begin (log ++ e ∷ []) s o
 waiting_on sizes begin log e s None other k = k
-waiting_on sizes begin log e s (Some started) other k =
-    record {
-      terms = k.terms;
-      sized = k.sized;
-      begun = k.begun;
-      hands = k.hands;
-      works = k.works;
-      is = started_on begin log e s k.begun other k.is;
-    }
+waiting_on sizes begin log e s (Some started) other k = awaits_on sizes begin log e s started other k
 
 -- another session's statement waits as before
 others_wait : (sizes : Sizes) (begin : Begin) (log : List Entry) (e : Entry) (n s : ℕ) (o o' : Option Started) (waiting : ℕ → Option Started) → (n == s) ≡ false → actor_of e ≡ n → waiting s ≡ o → o' ≡ o
@@ -78,24 +66,7 @@ waits_finish sizes begin log e n waiting after waits d put = λ s begun. at s (s
         let has : after s ≡ waiting s = (λ i. put i s) ∙ ap (λ b. cond b None (waiting s)) t in
         others_wait sizes begin log e n s (waiting s) (after s) waiting other d.actor refl has waits begun
 
--- ---- a Start
-
-start_of_does : (session : ℕ) (b : Bound) (short : Bool) (e : Entry) → IsStartOf session b short e → Does session true e
-start_of_does session b short (Start s bound why) h = record { actor = h.0; turn = refl; begun = λ before. refl; going = refl }
-start_of_does session b short (Finish s r) h = absurd h
-start_of_does session b short (End s) h = absurd h
-start_of_does session b short (Mover actor work) h = absurd h
-
-start_is : (begin : Begin) (log : List Entry) (session : ℕ) (text : List ℕ) (b : Bound) (short : Bool) (e : Entry) → IsStartOf session b short e → IsBound begin.schema text b → IsStart begin log session text e
-start_is begin log session text b short (Start s bound why) h means = (h.0, λ m l. subst (IsBound begin.schema text) (sym h.1) means)
-start_is begin log session text b short (Finish s r) h means = absurd h
-start_is begin log session text b short (End s) h means = absurd h
-start_is begin log session text b short (Mover actor work) h means = absurd h
-
--- the Start of a statement that is bound to what its text means
-pub begun_is : (begin : Begin) (log new : List Entry) (session : ℕ) (text : List ℕ) (b : Bound) (short : Bool) → (e : Entry) × (new ≡ log ++ e ∷ []) × IsStartOf session b short e → IsBound begin.schema text b
-    → (e : Entry) × (new ≡ log ++ e ∷ []) × IsStart begin log session text e
-begun_is begin log new session text b short x means = (x.0, x.1, start_is begin log session text b short x.0 x.2 means)
+-- ---- a Start, a Finish
 
 pub waits_begun : (sizes : Sizes) (schema : Schema) (log new : List Entry) (n : ℕ) (b : Bound) (waiting after : ℕ → Option Started) (started : Started) → Waits sizes (begin_of schema) log waiting
     → (e : Entry) × (new ≡ log ++ e ∷ []) × IsStartOf n b started.short e → Awaits sizes (begin_of schema) new n started → after ≡ with waiting n (Some started) → Waits sizes (begin_of schema) new after
@@ -103,11 +74,6 @@ waits_begun sizes schema log new n b waiting after started waits x is put =
     subst (λ es. Waits sizes (begin_of schema) es after) (sym x.1)
     (waits_start sizes (begin_of schema) log x.0 n waiting after started waits (start_of_does n b started.short x.0 x.2)
     (subst (λ es. Awaits sizes (begin_of schema) es n started) x.1 is) put)
-
--- ---- a Finish
-
-pub finished_is : (log new : List Entry) (session : ℕ) → (r : Reply) × (new ≡ log ++ Finish session r ∷ []) → (e : Entry) × (new ≡ log ++ e ∷ []) × IsFinishOf session e
-finished_is log new session x = (Finish session x.0, x.1, refl)
 
 pub waits_finished : (sizes : Sizes) (begin : Begin) (log new : List Entry) (n : ℕ) (waiting after : ℕ → Option Started) → Waits sizes begin log waiting → (r : Reply) × (new ≡ log ++ Finish n r ∷ [])
     → after ≡ with waiting n None → Waits sizes begin new after
@@ -118,10 +84,6 @@ waits_finished sizes begin log new n waiting after waits x put =
 pub waits_there : (sizes : Sizes) (begin : Begin) (log : List Entry) (waiting : ℕ → Option Started) (s : ℕ) (started : Started) → Waits sizes begin log waiting → is_begun (entries_of s log) ≡ true → waiting s ≡ Some started
     → IsWaiting sizes begin log s (Some started)
 waits_there sizes begin log waiting s started waits begun e = subst (λ o. IsWaiting sizes begin log s o) e (waits s begun)
-
-pub waiting_done : (sizes : Sizes) (begin : Begin) (log : List Entry) (s : ℕ) (started : Started) (o : Outcome) → IsWaiting sizes begin log s (Some started)
-    → ((begun : Begun) → Hands begun started → MayWork begun → GivesOn (sizes_of started.terms.value) begun o) → IsDone begin sizes log s o
-waiting_done sizes begin log s started o w g = record { begun = w.begun; started = w.is; gives = subst (λ z. GivesOn z w.begun o) w.sized (g w.begun w.hands w.works) }
 
 -- ---- no statement half done, and an End
 

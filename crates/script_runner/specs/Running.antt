@@ -1,5 +1,5 @@
 -- A run of a script's steps so far.
-use Rattle.std.specs.Prelude.{◌≡◌, ◌≤◌, ◌<◌, ℕ, List, [], ◌++◌, ◌==◌, length, map, take, All, Contains, Bool, true, false, Option, None, Some}
+use Rattle.std.specs.Prelude.{◌≡◌, ◌≤◌, ◌<◌, ℕ, List, [], ◌++◌, ◌==◌, length, map, take, All, Bool, true, false, Option, None, Some}
 use Rattle.cs_model.specs.declared.entry.Entry.{Entry}
 use Rattle.cs_model.specs.declared.entry.Entry.TheVariants.{End}
 use Rattle.cs_model.specs.declared.work.Actor.{Actor}
@@ -13,24 +13,14 @@ use Rattle.group_view.specs.Claims.{IsMendable}
 use Rattle.group_directory.specs.Claiming.{IsShareOf}
 use Rattle.group_directory.specs.Installing.{held_by}
 use Rattle.log_laws.specs.Laws.{AreDistinct}
-use Rattle.log_laws.specs.Started.{Begun, IsStarted}
+use Rattle.log_laws.specs.Started.{Begun}
 use Rattle.script_reader.specs.declared.script.Step.{Step}
 use Rattle.script_reader.specs.declared.script.Step.TheVariants as step
-use Rattle.script_reader.specs.Scripts.{taken_by, text_of, half_done, ArePaired}
+use Rattle.script_reader.specs.Scripts.{taken_by, text_of, half_done, ArePaired, IsServed}
+use Rattle.script_turns.specs.Awaiting.{Awaits}
 use Rattle.script_runner.specs.Schedule.{ArePieces}
 use Rattle.statement_core.specs.declared.started.Started.{Started}
-use Rattle.statement_core.specs.Begun.{Hands, MayWork}
 use Rattle.statement_core.specs.CoreValue.{CoreValue}
-use Rattle.statement_core.specs.Terms.{sizes_of, AreTerms}
-
--- a session has begun a statement, and what was started is handed what its work stands on
-pub record Awaits (sizes : Sizes) (begin : Begin) (log : List Entry) (session : ℕ) (started : Started) : Type 0 where
-  pub terms : AreTerms started.terms.value
-  pub sized : sizes_of started.terms.value ≡ sizes
-  pub begun : Begun
-  pub hands : Hands begun started
-  pub works : MayWork begun
-  pub is : IsStarted begin log session begun
 
 -- what a session has started is known to be so
 abbrev pub IsWaiting : Sizes → Begin → List Entry → ℕ → Option Started → Type 0
@@ -43,14 +33,13 @@ Waits sizes begin log waiting = (session : ℕ) → is_begun (entries_of session
 
 -- the core serves this session, which goes on, and has a statement half done or none
 pub record IsGoing (core : CoreValue) (session : ℕ) (begun : Bool) : Type 0 where
-  pub seat : session < 65
-  pub known : Contains core.sessions session
+  pub served : IsServed core.sessions (Session session)
   pub half : is_begun (entries_of session core.log) ≡ begun
   pub going : has_ended (entries_of session core.log) ≡ false
 
--- a mover of this number has a seat, and holds no claim
+-- it is a mover, and holds no claim
 pub record IsFree (core : CoreValue) (mover : ℕ) : Type 0 where
-  pub seat : mover < 65
+  pub served : IsServed core.sessions (Mover mover)
   pub free : held_by (Mover mover) core.claims ≡ None
 
 -- the step can be run
@@ -60,7 +49,7 @@ MayRun core (step.Begun session text) = IsGoing core session false × (length te
 MayRun core (step.Finished session) = IsGoing core session true
 MayRun core (step.Turn mover) = IsFree core mover
 MayRun core (step.Claiming mover) = IsFree core mover
-MayRun core (step.Installing mover) = mover < 65
+MayRun core (step.Installing mover) = IsServed core.sessions (Mover mover)
 
 -- ---- claims
 
@@ -92,15 +81,10 @@ AreFree claims = (mover : ℕ) → held_by (Mover mover) claims ≡ None
 
 -- ---- steps
 
--- the actor has a seat, and a session is one of these
-abbrev pub IsKnown : List ℕ → Actor → Type 0
-IsKnown sessions (Session n) = (n < 65) × Contains sessions n
-IsKnown sessions (Mover n) = n < 65
-
 -- these steps can be run by a core that serves these sessions
 pub record AreRunnable (sessions : List ℕ) (steps : List Step) : Type 0 where
   pub short : All (λ step. length (text_of step) ≤ 65536) steps
-  pub known : All (λ step. IsKnown sessions (taken_by step)) steps
+  pub served : All (λ step. IsServed sessions (taken_by step)) steps
   pub paired : ArePaired [] steps
 
 -- the steps done have their pieces in the log, and those left may follow

@@ -5,7 +5,7 @@
 //! first event of its turn, the last one, or both, and at the end no mover holds a claim. Where memory gives out, the row model and
 //! the book follow the log too, and it is that of the lines before. It is a loop over a `Runner`, whose calls make the events of one
 //! step and the End of one session. It stands on `statement_core` for the events, on `script_reader` for the steps, and on
-//! `tsql_binder` for what their texts mean.
+//! `script_turns` for what their texts mean and whose turns they are.
 #![tactic(auto)]
 
 mod run;

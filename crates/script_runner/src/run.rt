@@ -14,9 +14,15 @@ use crate::runner::Runner;
 use cs_base::Memory;
 use script_reader::{Script, Step};
 use statement_core::Desk;
+use std::sync::Wait;
 
 /// Runs the steps, in order.
-fn run_steps<D: Desk>(runner: &mut Runner, steps: &[Step], desk: &D) -> Result<(), Memory>
+fn run_steps<R: Wait, D: Desk>(
+    rt: &R,
+    runner: &mut Runner,
+    steps: &[Step],
+    desk: &D,
+) -> Result<(), Memory>
     requires empty { runner.old.log ≡ [] }
     requires free { runner.old.claims ≡ [] }
     requires schema { IsSchema runner.old.schema }
@@ -28,7 +34,7 @@ fn run_steps<D: Desk>(runner: &mut Runner, steps: &[Step], desk: &D) -> Result<(
     ensures sessions { runner.new.sessions ≡ runner.old.sessions }
 {
     for step in steps {
-        runner.step(step, desk)?;
+        runner.step(rt, step, desk)?;
     }
     Ok(())
 }
@@ -51,7 +57,12 @@ fn end_sessions(runner: &mut Runner, sessions: &[u32])
 }
 
 /// Runs the steps of a script, and then ends its sessions.
-fn run_script<D: Desk>(runner: &mut Runner, script: &Script, desk: &D) -> Result<(), Memory>
+fn run_script<R: Wait, D: Desk>(
+    rt: &R,
+    runner: &mut Runner,
+    script: &Script,
+    desk: &D,
+) -> Result<(), Memory>
     requires runnable { IsRunnable script.now }
     requires empty { runner.old.log ≡ [] }
     requires free { runner.old.claims ≡ [] }
@@ -64,15 +75,20 @@ fn run_script<D: Desk>(runner: &mut Runner, script: &Script, desk: &D) -> Result
     ensures sizes { runner.new.sizes ≡ runner.old.sizes }
     ensures sessions { runner.new.sessions ≡ runner.old.sessions }
 {
-    run_steps(runner, script.lines.as_slice(), desk)?;
+    run_steps(rt, runner, script.lines.as_slice(), desk)?;
     end_sessions(runner, script.sessions.as_slice());
     Ok(())
 }
 
 /// Runs the steps of a script, and then ends its sessions in the order of their numbers. `Memory` comes where there is no room
-/// for a Start; the log has the events of the lines before it then. Conditions: the runner is new, its core was made with the
+/// for a Start or a mover's claim; the log has the events of the lines before it then. Conditions: the runner is new, its core was made with the
 /// script's table and serves its sessions, and the script can be run, as one that `read_script` gives.
-pub fn run_schedule<D: Desk>(runner: &mut Runner, script: &Script, desk: &D) -> Result<(), Memory>
+pub fn run_schedule<R: Wait, D: Desk>(
+    rt: &R,
+    runner: &mut Runner,
+    script: &Script,
+    desk: &D,
+) -> Result<(), Memory>
     requires runnable { IsRunnable script.now }
     requires empty { runner.old.log ≡ [] }
     requires free { runner.old.claims ≡ [] }
@@ -86,7 +102,7 @@ pub fn run_schedule<D: Desk>(runner: &mut Runner, script: &Script, desk: &D) -> 
     ensures sizes { runner.new.sizes ≡ runner.old.sizes }
     ensures sessions { runner.new.sessions ≡ runner.old.sessions }
 {
-    let result = run_script(runner, script, desk);
+    let result = run_script(rt, runner, script, desk);
     // The log is legal whether or not all was run.
     let _log = runner.log();
     result

@@ -4,42 +4,35 @@ ghost use Rattle.cs_types.specs.Schemas.{IsSchema};
 ghost use Rattle.cs_model.specs.declared.entry.Entry.{Entry};
 ghost use Rattle.cs_model.specs.declared.entry.Entry.TheVariants.{End};
 ghost use Rattle.cs_model.specs.Actors.{entries_of, is_begun, has_ended};
-ghost use Rattle.cs_model.specs.Ready.{IsReady};
+ghost use Rattle.cs_model.specs.Changes.{table};
 ghost use Rattle.cs_model.specs.State.{State, begin_of};
+ghost use Rattle.cs_model.specs.Steps.{Legal};
 ghost use Rattle.group_book.specs.Book.{Book};
 ghost use Rattle.group_book.specs.Choices.{install_work, release_work};
 ghost use Rattle.group_book.specs.Turns.{same_actor};
+ghost use Rattle.group_log.specs.Counted.{IsCounted};
 ghost use Rattle.group_log.specs.Followed.{ground_of, Followed};
 ghost use Rattle.cs_model.specs.Text.{IsPrintableEntry};
 ghost use Rattle.group_directory.specs.Installing.{held_by};
 ghost use Rattle.cs_model.specs.declared.work.Actor.TheVariants as Actor;
+ghost use Rattle.script_reader.specs.Scripts.{IsServed};
 ghost use Rattle.statement_core.specs.Seats.{seat};
 ghost use Rattle.statement_core.specs.Movers.{IsMended};
 ghost use Rattle.statement_core.specs.Turns.{BeginsTurn, EndsBy, EndsTurn};
 ghost use Rattle.script_runner.specs.Running.{AreReady, IsFree, LeavesClaims, MayRun, OthersKeep, Waits};
-ghost use Rattle.script_runner.specs.Schedule.{IsBound, IsStart, IsFinishOf, IsPiece};
+ghost use Rattle.script_runner.specs.Schedule.{IsPiece};
+ghost use Rattle.script_turns.specs.Turns.{IsStart, IsFinishOf};
 
 use cs_base::Memory;
-use cs_model::{Actor, Bound, Entry, Refusal};
+use cs_model::{Actor, Entry};
 use cs_types::Schema;
 use group_view::{Claim, Product};
 use script_reader::Step;
+use script_turns::bound_of;
 use statement_core::{Core, Desk, Seats, Started, Turned};
 use std::alloc::Global;
 use std::marker::Model;
-use tsql_binder::bind_text;
-
-/// What a text is bound to; a refusal where there is no memory for it.
-fn bound_of(alloc: Global, schema: &Schema, text: &[u8]) -> Bound
-    requires { length text.now ≤ 65_536 }
-    ensures bound { IsBound schema.now text.now result }
-    ensures ready { IsReady schema.now result }
-{
-    match bind_text(alloc, schema, text) {
-        Ok(bound) => bound,
-        Err(_) => Bound::Refused(Refusal::Memory),
-    }
-}
+use std::sync::Wait;
 
 /// Starts a statement; it waits in its session's seat for the Finish.
 fn begin(
@@ -70,7 +63,8 @@ fn begin(
 }
 
 /// Finishes the statement that waits in its session's seat.
-fn finish<D: Desk>(
+fn finish<R: Wait, D: Desk>(
+    rt: &R,
     alloc: Global,
     core: &mut Core,
     waiting: &mut Seats<Started>,
@@ -91,7 +85,7 @@ fn finish<D: Desk>(
 {
     match waiting.set(session, None) {
         Some(started) => {
-            let outcome = desk.work(alloc, &started);
+            let outcome = desk.work(rt, alloc, &started);
             // What was started shares the own writes and the groups, which else would be copied.
             drop(started);
             core.finish(session, outcome);
@@ -138,7 +132,7 @@ fn end_turn(core: &mut Core, mover: u32, product: Result<Product, Memory>)
 
 /// Makes the last event of a mover's turn, by what waits in its seat; none where nothing waits.
 fn install<D: Desk>(alloc: Global, core: &mut Core, lent: &mut Seats<Claim>, mover: u32, desk: &D)
-    requires seat { mover < 65 }
+    requires served { IsServed core.old.sessions (Actor.Mover mover) }
     requires ready { AreReady core.old.claims (seat lent.old) }
     ensures ends { (piece : List Entry) × (core.new.log ≡ core.old.log ++ piece) × EndsTurn (ground_of core.old.schema core.old.sizes) core.old.log (Actor.Mover mover) piece }
     ensures ready { AreReady core.new.claims (seat lent.new) }
@@ -166,7 +160,8 @@ struct Waiting {
 }
 
 /// Makes the events of one step.
-fn run_step<D: Desk>(
+fn run_step<R: Wait, D: Desk>(
+    rt: &R,
     alloc: Global,
     core: &mut Core,
     waiting: &mut Waiting,
@@ -190,10 +185,10 @@ fn run_step<D: Desk>(
     match step {
         Step::Whole { session, text } => {
             begin(alloc, core, started, *session, text.as_slice())?;
-            finish(alloc, core, started, *session, desk);
+            finish(rt, alloc, core, started, *session, desk);
         }
         Step::Begun { session, text } => begin(alloc, core, started, *session, text.as_slice())?,
-        Step::Finished { session } => finish(alloc, core, started, *session, desk),
+        Step::Finished { session } => finish(rt, alloc, core, started, *session, desk),
         Step::Turn { mover } => {
             claim(core, lent, *mover)?;
             install(alloc, core, lent, *mover, desk);
@@ -255,8 +250,8 @@ impl Runner {
     /// Runs one step: the Start of a statement, the Finish of the one that its session has half done, or both; or the first event
     /// of a mover's turn, the last one, or both. `Memory`: no event was made. Conditions: a session is one that the core serves,
     /// has not ended, and has a statement half done exactly where the step is a Finish alone; a text has at most 65,536 bytes; and
-    /// a mover holds no claim where its turn begins.
-    pub fn step<D: Desk>(&mut self, step: &Step, desk: &D) -> Result<(), Memory>
+    /// a mover is 1 to 8, and holds no claim where its turn begins.
+    pub fn step<R: Wait, D: Desk>(&mut self, rt: &R, step: &Step, desk: &D) -> Result<(), Memory>
         requires schema { IsSchema self.old.schema }
         requires may { MayRun self.old step.now }
         ensures piece { OnOk result ((piece : List Entry) × IsPiece (ground_of self.old.schema self.old.sizes) self.old.log step.now piece × (self.new.log ≡ self.old.log ++ piece)) }
@@ -266,7 +261,14 @@ impl Runner {
         ensures sessions { self.new.sessions ≡ self.old.sessions }
         ensures err { OnErr result (self.new ≡ self.old) }
     {
-        run_step(self.alloc, &mut self.core, &mut self.waiting, step, desk)
+        run_step(
+            rt,
+            self.alloc,
+            &mut self.core,
+            &mut self.waiting,
+            step,
+            desk,
+        )
     }
 
     /// The End of a session. It takes no memory.
@@ -290,10 +292,19 @@ impl Runner {
         self.core.schema()
     }
 
+    /// How many rows the table has at the clock, after the log so far. No row is read.
+    pub fn rows(&self) -> u128
+        ensures { (m : State) → Legal (begin_of self.now.schema) self.now.log m → result ≡ length (table m.changes m.clock) }
+    {
+        self.core.rows()
+    }
+
     /// The log of the events, which the row model and the book of groups follow, and which can be printed.
     pub fn log(&self) -> &[Entry]
         ensures log { result.now ≡ self.now.log }
         ensures followed { (m : State) × (book : Book) × Followed (ground_of self.now.schema self.now.sizes) self.now.log m book }
+        // Counts of segments in an answer are those of the groups at its statement's Start.
+        ensures counted { IsCounted (ground_of self.now.schema self.now.sizes) self.now.log }
         ensures printable { All (IsPrintableEntry self.now.schema) self.now.log }
     {
         self.core.log()

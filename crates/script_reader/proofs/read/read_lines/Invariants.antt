@@ -9,7 +9,7 @@ invariant-loop-line l = record {
   before : List (List ℕ);
   cut : before ++ lines l.rest ≡ lines l.bytes;
   number : l.number ≡ length before + 1;
-  read : IsRead before l.reading;
+  read : IsRead l.fn.mode before l.reading;
   small : l.number + length l.rest ≤ 1 + length l.bytes;
 }
 

@@ -3,17 +3,16 @@ use Rattle.cs_types.specs.Schemas.{IsSchema}
 use Rattle.group_log.specs.Followed.{ground_of}
 use Rattle.log_laws.specs.Laws.{AreDistinct}
 use Rattle.script_runner.specs.Running.{AreRunnable, IsFrontRun}
-use Rattle.script_runner.proofs.Sessions.{sessions_distinct}
+use Rattle.script_turns.proofs.Sessions.{sessions_distinct}
 use Rattle.script_runner.proofs.Steps.{all_rest, all_free, runnable_of, scheduled_of, front_of, at_err}
 use Rattle.script_runner.proofs.run.run_script.Goals as goal
 
-pub run_steps-requires : goal.run_steps-requires
-run_steps-requires g c = record {
-  empty = c.requires.empty;
-  free = c.requires.free;
-  schema = subst IsSchema (sym c.requires.schema) c.requires.runnable.schema;
-  steps = subst (AreRunnable c.args.runner.now.sessions) (sym c.as_slice.ensures) (runnable_of c.args.script.now c.args.runner.now.sessions c.requires.known c.requires.runnable);
-}
+pub run_steps-requires-clause-schema : goal.run_steps-requires-clause-schema
+run_steps-requires-clause-schema g c κs within = subst IsSchema (sym c.requires.schema) c.requires.runnable.schema
+
+pub run_steps-requires-clause-steps : goal.run_steps-requires-clause-steps
+run_steps-requires-clause-steps g c κs within =
+    subst (AreRunnable c.args.runner.now.sessions) (sym c.as_slice.ensures) (runnable_of c.args.script.now c.args.runner.now.sessions c.requires.known c.requires.runnable)
 
 pub end_sessions-requires : goal.end_sessions-requires
 end_sessions-requires g c = record {

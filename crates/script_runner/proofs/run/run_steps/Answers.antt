@@ -15,13 +15,13 @@ loop-step-init g c = record {
   running = running_first (ground_of c.args.runner.now.schema c.args.runner.now.sizes) c.args.runner.now c.args.steps.now c.requires.empty c.requires.free c.requires.steps.paired;
 }
 
-pub step-requires : goal.step-requires
-step-requires g c =
+pub step-requires-clause-schema : goal.step-requires-clause-schema
+step-requires-clause-schema g c κs within = let kept = c.loop-step.invariant in subst IsSchema (sym kept.schema) c.requires.schema
+
+pub step-requires-clause-may : goal.step-requires-clause-may
+step-requires-clause-may g c κs within =
     let kept = c.loop-step.invariant in
-    record {
-      schema = subst IsSchema (sym kept.schema) c.requires.schema;
-      may = next_at (ground_of c.args.runner.now.schema c.args.runner.now.sizes) c.args.steps.now c.loop-step.step-index c.step-item.result c.loop-step-test.true c.step-item.is c.loop-step.runner kept.running c.args.runner.now.sessions kept.sessions c.requires.steps;
-    }
+    next_at (ground_of c.args.runner.now.schema c.args.runner.now.sizes) c.args.steps.now c.loop-step.step-index c.step-item.result c.loop-step-test.true c.step-item.is c.loop-step.runner kept.running c.args.runner.now.sessions kept.sessions c.requires.steps
 
 pub loop-step-preserved : goal.loop-step-preserved
 loop-step-preserved g c =

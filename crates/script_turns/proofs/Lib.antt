@@ -1,0 +1,4 @@
+pub mod Entries
+pub mod Awaiting
+pub mod Meanings
+pub mod Sessions

@@ -1,0 +1,11 @@
+//! The turns of sessions: what the texts of a script are bound to, and which Starts, Finishes and End each session has in a log,
+//! in whatever order the sessions take them.
+//!
+//! Its one contract: `bound_of` gives what a text means, or its refusal for want of memory. Beside that stand the definitions of a
+//! history of a script (`IsHistory`, `IsFrontHistory`), which name no order of the sessions, and the laws of one Start and one
+//! Finish. It stands on `tsql_binder` for what texts mean, on `script_reader` for the steps, and on `statement_core` for the events.
+#![tactic(auto)]
+
+mod binding;
+
+pub use binding::bound_of;
