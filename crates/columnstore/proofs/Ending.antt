@@ -1,64 +1,114 @@
 -- What the status says, from what was asked for and what was written of it.
-use Rattle.std.proofs.Common.{◌≡◌, ◌≢◌, ℕ, List, [], take, drop, refl, sym, ap, subst, inl, inr}
-use Rattle.std.specs.Prelude.{Option, None, Some, Result, Ok, Err, IfErr, String}
+use Rattle.std.proofs.Common.{◌≡◌, ◌≢◌, ℕ, List, [], take, drop, codes, refl, sym, ap, subst, inl, inr, ◌∙◌, IfOk}
+use Rattle.std.specs.Prelude.{Option, None, Some, Result, Ok, Err, IfErr, MatchResult, String}
 use Rattle.std.specs.declared.alloc.Global.{Global}
 use Rattle.std.specs.declared.io.Error.{Error}
 use Rattle.std.specs.declared.io.ErrorKind.TheVariants.{OutOfMemory}
 use Rattle.std.specs.IoError.{error_kind}
 use Rattle.std.proofs.lemmas.List.{take-append-drop, append-nil}
+use Rattle.cs_base.specs.Counts.{Rose}
 use Rattle.cs_outside.specs.Outside.{Takes, Adds}
 use Rattle.cs_outside.specs.Words.{AreWords}
+use Rattle.command_words.specs.declared.order.Order.{Order}
+use Rattle.command_words.specs.declared.order.Order.TheVariants.{Replay, Run, Generate, Load}
+use Rattle.group_book.specs.Commits.{Sizes}
 use Rattle.columnstore.specs.declared.status.Status.{Status}
 use Rattle.columnstore.specs.declared.status.Status.TheVariants as status
-use Rattle.columnstore.specs.Outcome.{Asks, answered, Ends, Replays}
+use Rattle.columnstore.specs.Outcome.{sizes_in, AsksReplay, answered, Asks, EndsFor, RefusesWords, IsCarriedOut, IsWrittenOrStopped, EndsForWords, refused, served}
 use Rattle.columnstore.specs.Written.{IsWritten}
 
 pub none_taken : (left : Option (List ℕ)) → Takes left left []
 none_taken None = refl
 none_taken (Some bytes) = refl
 
-module _ (words : List (List ℕ)) (came : List ℕ) (left : Option (List ℕ)) where
-  no_read_fault : (whole : List ℕ) → Asks words came left status.ReadFault whole → ⊥
-  no_read_fault whole (answered sizes w l e h) = h
+module _ (sizes : Sizes) (came : List ℕ) (left : Option (List ℕ)) where
+  no_usage : (whole : List ℕ) → AsksReplay sizes came left status.Usage whole → ⊥
+  no_usage whole (answered l e h) = h
 
-  no_write_fault : (whole : List ℕ) → Asks words came left status.WriteFault whole → ⊥
-  no_write_fault whole (answered sizes w l e h) = h
+  no_read_fault : (whole : List ℕ) → AsksReplay sizes came left status.ReadFault whole → ⊥
+  no_read_fault whole (answered l e h) = h
 
-  no_memory : (whole : List ℕ) → Asks words came left status.Memory whole → ⊥
-  no_memory whole (answered sizes w l e h) = h
+  no_write_fault : (whole : List ℕ) → AsksReplay sizes came left status.WriteFault whole → ⊥
+  no_write_fault whole (answered l e h) = h
 
-  asked : (s : Status) (whole : List ℕ) → Asks words came left s whole → Ends words came left whole s
-  asked status.Done whole a = a
-  asked status.Usage whole a = a
-  asked status.Script whole a = a
-  asked status.ReadFault whole a = absurd (no_read_fault whole a)
-  asked status.WriteFault whole a = absurd (no_write_fault whole a)
-  asked status.Memory whole a = absurd (no_memory whole a)
+  no_memory : (whole : List ℕ) → AsksReplay sizes came left status.Memory whole → ⊥
+  no_memory whole (answered l e h) = h
 
-  pub ending : (s result : Status) (whole : List ℕ) (before_left : Option (List ℕ)) (old new : Option (List ℕ)) (before now : ℕ) → Takes before_left left came
-      → Asks words came left s whole → IsWritten old new before now whole s result
-      → (c : List ℕ) × (added : List ℕ) × Takes before_left left c × Adds old new added × Ends words c left added result
-  ending s result whole before_left old new before now t a (inl w) =
-      (came, whole, t, w.1, subst (λ r. Ends words came left whole r) (sym w.0) (asked s whole a))
-  ending s result whole before_left old new before now t a (inr w) = (
-    came,
-    take w.1.0 whole,
-    t,
-    w.1.2,
-    subst (λ r. Ends words came left (take w.1.0 whole) r) (sym w.0) (s, whole, a, (drop w.1.0 whole, sym (take-append-drop w.1.0 whole))),
-  )
+-- where the whole text is written, the order ends with the status that goes with it
+asked : (order : Order) (came : List ℕ) (left : Option (List ℕ)) (s : Status) (whole : List ℕ) → Asks order came left s whole → EndsFor order came left whole s
+asked (Replay options) came left status.Done whole a = a
+asked (Replay options) came left status.Usage whole a = no_usage (sizes_in options) came left whole a
+asked (Replay options) came left status.Script whole a = a
+asked (Replay options) came left status.ReadFault whole a = absurd (no_read_fault (sizes_in options) came left whole a)
+asked (Replay options) came left status.WriteFault whole a = absurd (no_write_fault (sizes_in options) came left whole a)
+asked (Replay options) came left status.Memory whole a = absurd (no_memory (sizes_in options) came left whole a)
+asked (Run options movers) came left s whole a = absurd a
+asked (Generate drawn) came left s whole a = subst (λ z. EndsFor (Generate drawn) came left whole z) (sym a.0) (refl, a.1)
+asked (Load drawn options) came left s whole a = subst (λ z. EndsFor (Load drawn options) came left whole z) (sym a.0) (refl, a.1)
+
+-- how an order ends, from what it asks to be written and what was written of it
+pub ending : (order : Order) (came : List ℕ) (left : Option (List ℕ)) (s result : Status) (whole : List ℕ) (old new : Option (List ℕ)) (before now : ℕ)
+    → Asks order came left s whole → IsWritten old new before now whole s result → (added : List ℕ) × Adds old new added × EndsFor order came left added result
+ending order came left s result whole old new before now a (inl w) =
+    (whole, w.1, subst (λ r. EndsFor order came left whole r) (sym w.0) (asked order came left s whole a))
+ending order came left s result whole old new before now a (inr w) = (
+  take w.1.0 whole,
+  w.1.2,
+  subst (λ r. EndsFor order came left (take w.1.0 whole) r) (sym w.0) (s, whole, a, (drop w.1.0 whole, sym (take-append-drop w.1.0 whole))),
+)
+
+-- the refusal of words, from what was written of it
+pub refusing : (result : Status) (old new : Option (List ℕ)) (before now : ℕ) → IsWritten old new before now (codes "usage refused\n") status.Usage result
+    → (added : List ℕ) × Adds old new added × RefusesWords added result
+refusing result old new before now (inl w) = (codes "usage refused\n", w.1, inl (w.0, refl))
+refusing result old new before now (inr w) =
+    (take w.1.0 (codes "usage refused\n"), w.1.2, inr (w.0, (drop w.1.0 (codes "usage refused\n"), sym (take-append-drop w.1.0 (codes "usage refused\n")))))
 
 pub none_added : (held : Option (List ℕ)) → Adds held held []
 none_added None = refl
 none_added (Some bytes) = ap Some (sym (append-nil bytes))
 
+-- ---- draws
+
+module _ {O E : Type 0} (held : O → Option (List ℕ)) (faults : O → ℕ) (old new : O) where
+  -- a text that was made was written, or there was no memory for one
+  abbrev IsDrawnBy : Result (List ℕ) E → Status → Type 0
+  IsDrawnBy text result =
+      MatchResult text (λ line. IsWritten (held old) (held new) (faults old) (faults new) line status.Done result) (λ _. (result ≡ status.Memory) × (new ≡ old))
+
+  pub drawing : (order : Order) (left : Option (List ℕ)) (text : Result (List ℕ) E) (result : Status) → IsCarriedOut order → IfOk text (λ line. Asks order [] left status.Done line) → IsDrawnBy text result
+      → (added : List ℕ) × Adds (held old) (held new) added × EndsFor order [] left added result
+  drawing order left (Ok line) result is asks w = ending order [] left status.Done result line (held old) (held new) (faults old) (faults new) asks w
+  drawing order left (Err e) result is asks w =
+      ([], subst (λ z. Adds (held old) (held z) []) (sym w.1) (none_added (held old)), subst (λ z. EndsFor order [] left [] z) (sym w.0) (is, refl))
+
+  -- what is made without the input is written with Done
+  pub with_done : (P : List ℕ → Type 0) (text : Result (List ℕ) E) → IfOk text P → IfOk text (λ line. (status.Done ≡ status.Done) × P line)
+  with_done P (Ok line) is = (refl, is)
+  with_done P (Err e) is = tt
+
+  pub drawn_stops : (text : Result (List ℕ) E) (result : Status) → IsDrawnBy text result → IsWrittenOrStopped result
+  drawn_stops (Ok line) result (inl w) = subst IsWrittenOrStopped (sym w.0) tt
+  drawn_stops (Ok line) result (inr w) = subst IsWrittenOrStopped (sym w.0) tt
+  drawn_stops (Err e) result w = subst IsWrittenOrStopped (sym w.0) tt
+
+  pub drawn_rose : (text : Result (List ℕ) E) (result : Status) → IsDrawnBy text result → result ≡ status.WriteFault → Rose (faults old) (faults new)
+  drawn_rose (Ok line) result (inl w) is = let done : status.Done ≡ status.WriteFault = sym w.0 ∙ is in absurd (cc)
+  drawn_rose (Ok line) result (inr w) is = w.2
+  drawn_rose (Err e) result w is = let memory : status.Memory ≡ status.WriteFault = sym w.0 ∙ is in absurd (cc)
+
+pub no_read : (result : Status) → IsWrittenOrStopped result → result ≡ status.ReadFault → ⊥
+no_read result stops is = subst IsWrittenOrStopped is stops
+
 -- where there are no words, memory does not give out
-no_words : (came : List ℕ) (left : Option (List ℕ)) (added : List ℕ) → Ends [] came left added status.Memory → ⊥
-no_words came left added ends = let replays : Replays [] ends.0.0 = ends.0.1 in let said = replays.said in cc
+no_words : (came : List ℕ) (left : Option (List ℕ)) (added : List ℕ) → EndsForWords [] came left added status.Memory → ⊥
+no_words came left added (refused none nothing (inl w)) = cc
+no_words came left added (refused none nothing (inr w)) = cc
+no_words came left added (served order is drawn ends) = let said = is.said in cc
 
 -- nor does it where the arguments are none for another cause than want of memory
 pub no_text : {S : Type 0} (steps : S → Option (String Global) → S → Type 0) (args : Result S Error) (words : List (List ℕ)) (came : List ℕ) (left : Option (List ℕ)) (added : List ℕ) (s : Status) → AreWords steps args words
-    → Ends words came left added s → IfErr args (λ error. error_kind error ≢ OutOfMemory → s ≢ status.Memory)
+    → EndsForWords words came left added s → IfErr args (λ error. error_kind error ≢ OutOfMemory → s ≢ status.Memory)
 no_text steps (Ok args) words came left added s are ends = tt
 no_text steps (Err error) words came left added s are ends =
-    λ other is. no_words came left added (subst (λ ws. Ends ws came left added status.Memory) are.1 (subst (Ends words came left added) is ends))
+    λ other is. no_words came left added (subst (λ ws. EndsForWords ws came left added status.Memory) are.1 (subst (EndsForWords words came left added) is ends))

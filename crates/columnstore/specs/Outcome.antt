@@ -1,12 +1,19 @@
 -- What the program does: for which words and input it ends with which status, and what it has written then.
-use Rattle.std.specs.Prelude.{◌≡◌, ℕ, ◌<◌, ◌≤◌, List, [], ◌∷◌, ◌++◌, length, codes, decimal, Option, ◌==◌, if◌then◌else◌}
+use Rattle.std.specs.Prelude.{◌≡◌, ◌⊎◌, ℕ, ◌<◌, ◌≤◌, List, [], ◌∷◌, ◌++◌, length, codes, decimal, Option, ◌==◌, if◌then◌else◌}
 use Rattle.cs_outside.specs.Outside.{IsAtEnd}
-use Rattle.command_words.specs.declared.order.GroupSizes.{GroupSizes}
-use Rattle.command_words.specs.declared.order.Order.TheVariants.{Replay}
+use Rattle.command_words.specs.declared.order.Order.{Order}
+use Rattle.command_words.specs.declared.order.Order.TheVariants.{Replay, Run, Generate, Load}
+use Rattle.command_words.specs.declared.order.RunOptions.{RunOptions}
+use Rattle.command_words.specs.declared.order.Workload.{Workload}
 use Rattle.command_words.specs.Orders.{Words, IsOrder}
+use Rattle.script_workload.specs.Workload.{workload}
 use Rattle.cs_model.specs.declared.entry.Entry.{Entry}
-use Rattle.cs_model.specs.State.{begin_of}
+use Rattle.cs_model.specs.Changes.{table}
+use Rattle.cs_model.specs.State.{State, begin_of}
+use Rattle.cs_model.specs.Steps.{Legal}
 use Rattle.cs_model.specs.Text.{text}
+use Rattle.script_reader.specs.declared.script.Mode.TheVariants as mode
+use Rattle.log_summary.specs.Summary.{summary}
 use Rattle.script_reader.specs.declared.script.Script.{Script}
 use Rattle.script_reader.specs.Scripts.{IsScript, IsBadLine}
 use Rattle.group_book.specs.Commits.{Sizes}
@@ -15,25 +22,65 @@ use Rattle.script_runner.specs.Logs.{IsLogOf}
 use Rattle.columnstore.specs.declared.status.Status.{Status}
 use Rattle.columnstore.specs.declared.status.Status.TheVariants as status
 
--- the sizes of groups that an order names
-abbrev pub sizes_in : GroupSizes → Sizes
-sizes_in sizes = record { group_rows = sizes.group_rows; direct_rows = sizes.direct_rows }
+-- ---- orders
 
--- the words are the order to replay a script, with row groups so large
-abbrev pub Replays : Words → Sizes → Type 0
-Replays words sizes = IsOrder words (Replay (record { group_rows = sizes.group_rows; direct_rows = sizes.direct_rows }))
+-- how large row groups are by the options of a run; its workers have no effect so far
+abbrev pub sizes_in : RunOptions → Sizes
+sizes_in options = record { group_rows = options.group_rows; direct_rows = options.direct_rows }
+
+-- the words are the order to replay a script, with these options
+abbrev pub Replays : Words → RunOptions → Type 0
+Replays words options = IsOrder words (Replay options)
+
+-- the program does what the order says: every order but to run sessions on threads, which it does not do so far
+abbrev pub IsCarriedOut : Order → Type 0
+IsCarriedOut (Replay options) = Unit {0}
+IsCarriedOut (Run options movers) = ⊥
+IsCarriedOut (Generate drawn) = Unit {0}
+IsCarriedOut (Load drawn options) = Unit {0}
+
+-- the order reads the input
+abbrev pub ReadsInput : Order → Type 0
+ReadsInput (Replay options) = Unit {0}
+ReadsInput (Run options movers) = ⊥
+ReadsInput (Generate drawn) = ⊥
+ReadsInput (Load drawn options) = ⊥
+
+-- the order reads nothing: the script is drawn
+abbrev pub DrawsScript : Order → Type 0
+DrawsScript (Replay options) = ⊥
+DrawsScript (Run options movers) = ⊥
+DrawsScript (Generate drawn) = Unit {0}
+DrawsScript (Load drawn options) = Unit {0}
+
+-- the script of a workload
+abbrev pub drawn_script : Workload → List ℕ
+drawn_script drawn = workload drawn.number drawn.sessions drawn.statements
+
+-- ---- texts
 
 -- the longest script, 16 MiB
 abbrev pub limit : ℕ
 limit = 16777216
 
--- the script was run, with row groups so large, and this is the text of the log of its run
+-- the script was replayed, with row groups so large, and this is the text of the log of its run
 pub record Performed (sizes : Sizes) (bytes whole : List ℕ) : Type 0 where
   pub script : Script
   pub log : List Entry
-  pub reads : IsScript bytes script
+  pub reads : IsScript mode.Replay bytes script
   pub run : IsLogOf (ground_of script.schema sizes) script log
   pub is : whole ≡ text (begin_of script.schema) log
+
+-- the script was run, with row groups so large, and this is the summary of the log of its run: the rows are those of the table at
+-- the clock of the state that the log leads to
+pub record Summed (sizes : Sizes) (bytes whole : List ℕ) : Type 0 where
+  pub script : Script
+  pub log : List Entry
+  pub state : State
+  pub reads : IsScript mode.Replay bytes script
+  pub run : IsLogOf (ground_of script.schema sizes) script log
+  pub leads : Legal (begin_of script.schema) log state
+  pub is : whole ≡ summary log (length (table state.changes state.clock))
 
 -- ` error <number>`, for a refused setup statement
 abbrev pub setup_error_text : ℕ → List ℕ
@@ -42,13 +89,13 @@ setup_error_text number = if number == 0 then [] else codes " error " ++ decimal
 abbrev pub bad_line_text : ℕ → ℕ → ℕ → List ℕ
 bad_line_text line reason number = codes "refused line " ++ decimal line ++ codes " reason " ++ decimal reason ++ setup_error_text number ++ codes "\n"
 
--- the bytes are no script: they have a first bad line, and this is the refusal that names it
+-- the bytes are no script to be replayed: they have a first bad line, and this is the refusal that names it
 pub record HasBadLine (bytes whole : List ℕ) : Type 0 where
-  pub none : (script : Script) → IsScript bytes script → ⊥
+  pub none : (script : Script) → IsScript mode.Replay bytes script → ⊥
   pub line : ℕ
   pub reason : ℕ
   pub number : ℕ
-  pub reads : IsBadLine bytes line reason number
+  pub reads : IsBadLine mode.Replay bytes line reason number
   pub is : whole ≡ bad_line_text line reason number
 
 -- the whole text that is to be written for an input that was read, with the status that goes with it and row groups so large
@@ -60,27 +107,44 @@ IsAnswered sizes bytes status.ReadFault whole = ⊥
 IsAnswered sizes bytes status.WriteFault whole = ⊥
 IsAnswered sizes bytes status.Memory whole = ⊥
 
--- the whole text that is to be written, with the status that goes with it: came are the bytes that were read, and left
--- those that are left then, where that is told. Usage is for words that are no order to replay a script: words that are no order,
--- and those that are the order to draw a workload, which the program does not do
-pub data Asks (words : Words) (came : List ℕ) (left : Option (List ℕ)) : Status → List ℕ → Type 0 where
-  usage : ((sizes : Sizes) → Replays words sizes → ⊥) → came ≡ [] → Asks words came left status.Usage (codes "usage refused\n")
-  too_long : (sizes : Sizes) → Replays words sizes → limit < length came → Asks words came left status.Script (codes "refused too long\n")
-  answered : {s : Status} {whole : List ℕ} (sizes : Sizes) → Replays words sizes → length came ≤ limit → IsAtEnd left → IsAnswered sizes came s whole → Asks words came left s whole
+-- what a replay of an input writes, whole, with the status that goes with it: came are the bytes that were read, and left those that
+-- are left then, where that is told
+pub data AsksReplay (sizes : Sizes) (came : List ℕ) (left : Option (List ℕ)) : Status → List ℕ → Type 0 where
+  too_long : limit < length came → AsksReplay sizes came left status.Script (codes "refused too long\n")
+  answered : {s : Status} {whole : List ℕ} → length came ≤ limit → IsAtEnd left → IsAnswered sizes came s whole → AsksReplay sizes came left s whole
+
+-- what an order asks to be written, whole, with the status that goes with it
+abbrev pub Asks : Order → List ℕ → Option (List ℕ) → Status → List ℕ → Type 0
+Asks (Replay options) came left s whole = AsksReplay (sizes_in options) came left s whole
+Asks (Run options movers) came left s whole = ⊥
+Asks (Generate drawn) came left s whole = (s ≡ status.Done) × (whole ≡ drawn_script drawn)
+Asks (Load drawn options) came left s whole = (s ≡ status.Done) × Summed (sizes_in options) (drawn_script drawn) whole
+
+-- ---- statuses
 
 -- added is a front of whole
 abbrev pub IsFront : List ℕ → List ℕ → Type 0
 IsFront added whole = (rest : List ℕ) × (whole ≡ added ++ rest)
 
--- what a status says of the bytes that were read and of those that were added to the output; that a fault has its cause
+-- what a status says of the bytes that were read for an order and of those that were added to the output; that a fault has its cause
 -- is said by the counts of the source and the sink. Where memory gives out nothing was added, no part of a text
-abbrev pub Ends : Words → List ℕ → Option (List ℕ) → List ℕ → Status → Type 0
-Ends words came left added status.Done = Asks words came left status.Done added
-Ends words came left added status.Usage = Asks words came left status.Usage added
-Ends words came left added status.Script = Asks words came left status.Script added
-Ends words came left added status.ReadFault = ((sizes : Sizes) × Replays words sizes) × (added ≡ [])
-Ends words came left added status.WriteFault = (s : Status) × (whole : List ℕ) × Asks words came left s whole × IsFront added whole
-Ends words came left added status.Memory = ((sizes : Sizes) × Replays words sizes) × (added ≡ [])
+abbrev pub EndsFor : Order → List ℕ → Option (List ℕ) → List ℕ → Status → Type 0
+EndsFor order came left added status.Done = Asks order came left status.Done added
+EndsFor order came left added status.Usage = ⊥
+EndsFor order came left added status.Script = Asks order came left status.Script added
+EndsFor order came left added status.ReadFault = ReadsInput order × (added ≡ [])
+EndsFor order came left added status.WriteFault = (s : Status) × (whole : List ℕ) × Asks order came left s whole × IsFront added whole
+EndsFor order came left added status.Memory = IsCarriedOut order × (added ≡ [])
+
+-- the words were refused, and all of that or a front of it was added
+abbrev pub RefusesWords : List ℕ → Status → Type 0
+RefusesWords added s = ((s ≡ status.Usage) × (added ≡ codes "usage refused\n")) ⊎ ((s ≡ status.WriteFault) × IsFront added (codes "usage refused\n"))
+
+-- how the program ends for these words: they are no order that it serves, and it read nothing; or they are an order, and it ends as
+-- that says, and read nothing for one whose script is drawn
+pub data EndsForWords (words : Words) (came : List ℕ) (left : Option (List ℕ)) (added : List ℕ) (s : Status) : Type 0 where
+  refused : ((order : Order) → IsOrder words order → IsCarriedOut order → ⊥) → came ≡ [] → RefusesWords added s → EndsForWords words came left added s
+  served : (order : Order) → IsOrder words order → (DrawsScript order → came ≡ []) → EndsFor order came left added s → EndsForWords words came left added s
 
 -- the run was done, or memory or a stream gave out
 abbrev pub IsDoneOrStopped : Status → Type 0
@@ -90,6 +154,15 @@ IsDoneOrStopped status.Script = ⊥
 IsDoneOrStopped status.ReadFault = Unit {0}
 IsDoneOrStopped status.WriteFault = Unit {0}
 IsDoneOrStopped status.Memory = Unit {0}
+
+-- all was written, or memory or the output gave out
+abbrev pub IsWrittenOrStopped : Status → Type 0
+IsWrittenOrStopped status.Done = Unit {0}
+IsWrittenOrStopped status.Usage = ⊥
+IsWrittenOrStopped status.Script = ⊥
+IsWrittenOrStopped status.ReadFault = ⊥
+IsWrittenOrStopped status.WriteFault = Unit {0}
+IsWrittenOrStopped status.Memory = Unit {0}
 
 -- the exit status
 abbrev pub code_of : Status → ℕ

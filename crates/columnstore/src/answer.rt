@@ -11,15 +11,16 @@ ghost use Rattle.script_runner.specs.Logs.{IsLogOf, IsMadeOf};
 ghost use Rattle.columnstore.specs.Outcome.{sizes_in, IsAnswered, setup_error_text, bad_line_text};
 
 use crate::status::Status;
-use command_words::GroupSizes;
+use command_words::RunOptions;
 use cs_base::Memory;
 use cs_model::print_log;
 use cs_types::Line;
-use script_reader::{Script, ScriptRefusal, read_script};
+use script_reader::{Mode, Script, ScriptRefusal, read_script};
 use script_runner::{Runner, run_schedule};
 use statement_core::{Core, Desk};
 use statement_work::Clerk;
 use std::alloc::Global;
+use std::sync::Wait;
 
 /// Adds the number of a refused setup statement.
 fn append_setup_error(number: u32, line: &mut Line) -> Result<(), Memory>
@@ -49,13 +50,13 @@ fn bad_line(alloc: Global, line: u64, reason: u32, number: u32) -> Result<Line, 
 /// A runner over a new core for the table and the sessions of a script, with row groups so large.
 pub(crate) fn runner_for(
     alloc: Global,
-    sizes: GroupSizes,
+    options: RunOptions,
     script: &Script,
 ) -> Result<Runner, Memory>
     requires runnable { IsRunnable script.now }
-    requires sizes { AreTermsOf sizes.group_rows sizes.direct_rows }
+    requires sizes { AreTermsOf options.group_rows options.direct_rows }
     ensures schema { IfOk result (λ runner. runner.schema ≡ script.now.schema) }
-    ensures sizes { IfOk result (λ runner. runner.sizes ≡ sizes_in sizes) }
+    ensures sizes { IfOk result (λ runner. runner.sizes ≡ sizes_in options) }
     ensures log { IfOk result (λ runner. runner.log ≡ []) }
     ensures sessions { IfOk result (λ runner. runner.sessions ≡ script.now.sessions) }
     ensures claims { IfOk result (λ runner. runner.claims ≡ []) }
@@ -64,8 +65,8 @@ pub(crate) fn runner_for(
     let core = Core::new(
         alloc,
         schema,
-        sizes.group_rows as u64,
-        sizes.direct_rows as u64,
+        options.group_rows as u64,
+        options.direct_rows as u64,
         script.sessions.as_slice(),
     )?;
     Runner::new(alloc, core)
@@ -73,7 +74,8 @@ pub(crate) fn runner_for(
 
 /// Runs a script with a runner that was made for it, the work done at this desk, and gives the text of the log. Where memory gives
 /// out, in the run or for the text, the runner still has the log of the steps that were made.
-pub(crate) fn run<D: Desk>(
+pub(crate) fn run<R: Wait, D: Desk>(
+    rt: &R,
     alloc: Global,
     runner: &mut Runner,
     script: &Script,
@@ -88,42 +90,52 @@ pub(crate) fn run<D: Desk>(
     ensures text { IfOk result (λ line. line ≡ text (begin_of script.now.schema) runner.new.log) }
     ensures made { IsMadeOf (ground_of script.now.schema runner.old.sizes) script.now runner.new.log }
 {
-    run_schedule(runner, script, desk)?;
+    run_schedule(rt, runner, script, desk)?;
     print_log(alloc, runner.schema(), runner.log())
 }
 
 /// The text of the log of a run of a script, with row groups so large.
-fn replay(alloc: Global, sizes: GroupSizes, script: &Script) -> Result<Line, Memory>
+fn replay<R: Wait>(
+    rt: &R,
+    alloc: Global,
+    options: RunOptions,
+    script: &Script,
+) -> Result<Line, Memory>
     requires runnable { IsRunnable script.now }
-    requires sizes { AreTermsOf sizes.group_rows sizes.direct_rows }
-    ensures text { IfOk result (λ line. (log : List Entry) × IsLogOf (ground_of script.now.schema (sizes_in sizes)) script.now log × (line ≡ text (begin_of script.now.schema) log)) }
+    requires sizes { AreTermsOf options.group_rows options.direct_rows }
+    ensures text { IfOk result (λ line. (log : List Entry) × IsLogOf (ground_of script.now.schema (sizes_in options)) script.now log × (line ≡ text (begin_of script.now.schema) log)) }
 {
-    let mut runner = runner_for(alloc, sizes, script)?;
-    run(alloc, &mut runner, script, &Clerk)
+    let mut runner = runner_for(alloc, options, script)?;
+    run(rt, alloc, &mut runner, script, &Clerk::new())
 }
 
 /// The script that the bytes are, or why they are none. The bytes are let go: a script has its own copies of the texts, so that a long
 /// run keeps no second one.
-fn script_of(alloc: Global, bytes: Vec<u8>) -> Result<Script, ScriptRefusal>
-    ensures found { IfOk result (λ script. IsScript bytes.items script) }
-    ensures only { (other : Script) → IsScript bytes.items other → MatchResult result (λ script. script ≡ other) (λ e. e ≡ ScriptRefusal.Memory) }
-    ensures refused { IfErr result (λ e. RefusesScript bytes.items e) }
+pub(crate) fn script_of(alloc: Global, bytes: Vec<u8>) -> Result<Script, ScriptRefusal>
+    ensures found { IfOk result (λ script. IsScript Mode.Replay bytes.items script) }
+    ensures only { (other : Script) → IsScript Mode.Replay bytes.items other → MatchResult result (λ script. script ≡ other) (λ e. e ≡ ScriptRefusal.Memory) }
+    ensures refused { IfErr result (λ e. RefusesScript Mode.Replay bytes.items e) }
     ensures runs { IfOk result (λ script. IsRunnable script) }
 {
-    read_script(alloc, bytes.as_slice())
+    read_script(alloc, bytes.as_slice(), Mode::Replay)
 }
 
 /// The whole text that is to be written for an input, with row groups so large, and the status that goes with it. `Memory` where
 /// there is no room for the script, its run or the text.
-pub fn answer(alloc: Global, sizes: GroupSizes, bytes: Vec<u8>) -> Result<(Status, Line), Memory>
-    requires sizes { AreTermsOf sizes.group_rows sizes.direct_rows }
-    ensures answered { IfOk result (λ a. IsAnswered (sizes_in sizes) bytes.items a.0 a.1) }
+pub fn answer<R: Wait>(
+    rt: &R,
+    alloc: Global,
+    options: RunOptions,
+    bytes: Vec<u8>,
+) -> Result<(Status, Line), Memory>
+    requires sizes { AreTermsOf options.group_rows options.direct_rows }
+    ensures answered { IfOk result (λ a. IsAnswered (sizes_in options) bytes.items a.0 a.1) }
     // A script is run.
-    ensures runs { (script : Script) → IsScript bytes.items script → IfOk result (λ a. a.0 ≡ Status.Done) }
+    ensures runs { (script : Script) → IsScript Mode.Replay bytes.items script → IfOk result (λ a. a.0 ≡ Status.Done) }
 {
     match script_of(alloc, bytes) {
         Ok(script) => {
-            let text = replay(alloc, sizes, &script)?;
+            let text = replay(rt, alloc, options, &script)?;
             Ok((Status::Done, text))
         }
         Err(

@@ -1,11 +1,14 @@
-//! The columnstore as a program: it reads its words and a script, runs the script, and writes the log of its events.
+//! The columnstore as a program: it reads its words and does what they order. It runs a script and writes the log of its events, or
+//! draws a workload and writes it, or the summary of its run.
 //!
-//! The one contract, on the top call: what is written is the text of a log that is legal from the empty state, follows the
-//! script line by line and has each session's statements once and in order; and every other status has its cause. It
-//! stands on `cs_outside`, `script_reader`, `script_runner`, `statement_work` and `cs_model`.
+//! The one contract, on the top call: what is written is the text, or the summary, of a log that is legal from the empty state, that
+//! the row groups follow, that goes by the script line by line and has each session's statements once and in order, or it is the
+//! script that was drawn; and every other status has its cause. It stands on `cs_outside`, `command_words`, `script_workload` with its
+//! law, `script_reader`, `script_runner`, `statement_work`, `log_summary` and `cs_model`.
 #![tactic(auto)]
 
 mod answer;
+mod drawn;
 mod status;
 #[cfg(test)]
 mod tests;
@@ -20,5 +23,5 @@ use top::program;
 fn main(rt: HostRuntime) -> ExitCode {
     let mut input = StdSource::new(rt.stdin());
     let mut output = StdSink::new(rt.stdout());
-    exit_code(program(rt.alloc(), env::args(&rt), &mut input, &mut output))
+    exit_code(program(&rt, rt.alloc(), env::args(&rt), &mut input, &mut output))
 }

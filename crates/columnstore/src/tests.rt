@@ -8,6 +8,7 @@ use crate::top::columnstore;
 use cs_outside::{MemorySink, MemorySource};
 use std::alloc::Global;
 use std::process::Abort;
+use std::sync::Wait;
 use std::test::Fail;
 
 /// A first script.
@@ -43,7 +44,7 @@ fn words_of(alloc: Global, text: &str) -> Result<Vec<String>, Fail> {
 
 /// Runs the program for these words, where the calls with these numbers fail, and compares its status and the bytes held.
 fn check(
-    rt: &impl Abort,
+    rt: &(impl Abort + Wait),
     alloc: Global,
     words: &str,
     input: &[u8],
@@ -54,7 +55,7 @@ fn check(
     let words = words_of(alloc, words)?;
     let mut source = MemorySource::new(input.to_vec(alloc)?, vec![in alloc; failing.0]?);
     let mut sink = MemorySink::new(alloc, 40_000, vec![in alloc; failing.1]?)?;
-    let ended = columnstore(alloc, words.as_slice(), &mut source, &mut sink);
+    let ended = columnstore(rt, alloc, words.as_slice(), &mut source, &mut sink);
     assert_eq!(rt; ended, status, "{text}");
     assert_eq!(rt; sink.held(), text.as_bytes());
     Ok(())
@@ -87,6 +88,7 @@ fn reads_its_words(rt: HostRuntime) -> Result<(), Fail> {
         "replay --direct-rows 1048576",
         "replay --group-rows 2 --direct-rows 2",
         "replay --direct-rows 2 --group-rows 2",
+        "replay --workers 16",
     ];
     for words in done {
         let script = FIRST.as_bytes();
@@ -119,10 +121,15 @@ fn refuses_other_words(rt: HostRuntime) -> Result<(), Fail> {
         "replay --direct-rows 0",
         "replay --direct-rows 1048577",
         "replay --group-rows 2 --direct-rows",
-        "replay --workers 1",
+        "replay --workers 17",
+        "replay --number 1",
         "--group-rows 2 replay",
-        "generate",
-        "generate --number 1",
+        "run",
+        "run --movers 0 --workers 2",
+        "generate --group-rows 2",
+        "generate --sessions 0",
+        "load --movers 1",
+        "load --statements 200001",
     ];
     for words in refused {
         let (script, text) = (FIRST.as_bytes(), "usage refused\n");
@@ -187,15 +194,80 @@ fn names_the_cause(rt: HostRuntime) -> Result<(), Fail> {
 }
 
 #[test]
+fn draws_scripts_without_its_input(rt: HostRuntime) -> Result<(), Fail> {
+    let three = "setup CREATE TABLE t (k int NOT NULL PRIMARY KEY, v int NULL, w varchar(8) NULL)
+s1 INSERT INTO t VALUES (758, 13, 'w5')
+s1 SELECT COUNT(*), SUM(v) FROM t WHERE k >= 627
+s1 ROLLBACK
+";
+    // (words, failing write, status, text)
+    let cases = [
+        (
+            "generate --number 1 --sessions 1 --statements 3",
+            0,
+            Status::Done,
+            three,
+        ),
+        (
+            "generate --number 1 --sessions 1 --statements 3",
+            1,
+            Status::WriteFault,
+            "",
+        ),
+        (
+            "load --number 1 --sessions 1 --statements 3",
+            0,
+            Status::Done,
+            "events 7\nok 2\nrefused 1\nends 1\nrows 1\n",
+        ),
+        (
+            "load --number 1 --sessions 1 --statements 3",
+            1,
+            Status::WriteFault,
+            "",
+        ),
+        (
+            "load --number 3 --sessions 2 --statements 0",
+            0,
+            Status::Done,
+            "events 0\nok 0\nrefused 0\nends 0\nrows 0\n",
+        ),
+        (
+            "load --number 5 --sessions 64 --statements 10",
+            0,
+            Status::Done,
+            "events 24\nok 7\nrefused 1\nends 8\nrows 3\n",
+        ),
+        (
+            "load --number 7 --sessions 4 --statements 40 --group-rows 2",
+            0,
+            Status::Done,
+            "events 84\nok 34\nrefused 5\nends 4\nrows 10\n",
+        ),
+        (
+            "load --number 11 --sessions 3 --statements 200 --group-rows 3 --direct-rows 1",
+            0,
+            Status::Done,
+            "events 403\nok 174\nrefused 19\nends 3\nrows 49\n",
+        ),
+    ];
+    for (words, write, status, text) in cases {
+        // Each read of the input would fail.
+        check(&rt, rt.alloc(), words, b"", (1, write), status, text)?;
+    }
+    Ok(())
+}
+
+#[test]
 fn fills_the_sink(rt: HostRuntime) -> Result<(), Fail> {
     let none = Vec::new(rt.alloc());
     let mut source = MemorySource::new(FIRST.as_bytes().to_vec(rt.alloc())?, Vec::new(rt.alloc()));
     // A sink with room for half the text takes that and then fails.
     let mut sink = MemorySink::new(rt.alloc(), 40, Vec::new(rt.alloc()))?;
-    let status = columnstore(rt.alloc(), none.as_slice(), &mut source, &mut sink);
+    let status = columnstore(&rt, rt.alloc(), none.as_slice(), &mut source, &mut sink);
     assert_eq!(rt; status, Status::Usage);
     let words = vec![in rt.alloc(); String::from_str(rt.alloc(), "replay")?]?;
-    let status = columnstore(rt.alloc(), words.as_slice(), &mut source, &mut sink);
+    let status = columnstore(&rt, rt.alloc(), words.as_slice(), &mut source, &mut sink);
     assert_eq!(rt; status, Status::WriteFault);
     assert_eq!(rt;
         sink.held(),

@@ -1,42 +1,36 @@
 // The top call.
-ghost use Rattle.std.specs.Prelude.{◌≡◌, ◌≢◌, ◌⊎◌, ◌≤◌, List, ℕ, map, length, string_bytes, IfErr, IfSome, Some};
+ghost use Rattle.std.specs.Prelude.{◌≡◌, ◌≢◌, ◌⊎◌, ◌≤◌, List, ℕ, map, length, codes, string_bytes, IfErr, MatchResult, Some};
 ghost use Rattle.std.specs.IoError.{error_kind};
 ghost use Rattle.std.specs.declared.io.ErrorKind.TheVariants as ErrorKind;
 ghost use Rattle.std.specs.Result.{ForOk};
 ghost use Rattle.std.specs.Iterator.{IsFinite};
-ghost use Rattle.command_words.specs.declared.order.GroupSizes.{GroupSizes};
-ghost use Rattle.command_words.specs.Orders.{Words};
+ghost use Rattle.command_words.specs.declared.order.Order.{Order};
+ghost use Rattle.command_words.specs.declared.order.Order.TheVariants.{Replay};
+ghost use Rattle.command_words.specs.declared.order.RunOptions.{RunOptions};
+ghost use Rattle.command_words.specs.Orders.{Words, IsOrder};
 ghost use Rattle.cs_base.specs.Counts.{Rose};
 ghost use Rattle.cs_outside.specs.Outside.{Takes, Adds};
 ghost use Rattle.cs_outside.specs.Words.{AreWords};
+ghost use Rattle.script_reader.specs.declared.script.Mode.TheVariants as Mode;
 ghost use Rattle.script_reader.specs.declared.script.Script.{Script};
 ghost use Rattle.script_reader.specs.Scripts.{IsScript};
-ghost use Rattle.group_book.specs.Commits.{Sizes};
 ghost use Rattle.statement_core.specs.Terms.{AreTermsOf};
-ghost use Rattle.columnstore.specs.Outcome.{limit, sizes_in, Replays, Ends, IsDoneOrStopped};
+ghost use Rattle.columnstore.specs.Outcome.{limit, Replays, DrawsScript, EndsFor, EndsForWords, IsDoneOrStopped, IsWrittenOrStopped};
 ghost use Rattle.columnstore.specs.Written.{IsWritten};
 
 use crate::answer::answer;
+use crate::drawn::{generate, load};
 use crate::status::Status;
-use command_words::{GroupSizes, Order};
+use command_words::{Order, RunOptions};
+use cs_base::Memory;
 use cs_outside::{InputRefusal, Sink, Source, read_all, words, write_whole};
+use cs_types::Line;
 use std::alloc::Global;
 use std::io;
+use std::sync::Wait;
 
 /// The longest script in bytes, 16 MiB.
 const LIMIT: usize = 16_777_216;
-
-/// How large row groups are by the words' order to replay a script. None where they are no such order.
-fn replay_sizes(words: &[String]) -> Option<GroupSizes>
-    ensures found { IfSome result (λ sizes. Replays (map string_bytes words.now) (sizes_in sizes)) }
-    ensures only { (sizes : GroupSizes) → Replays (map string_bytes words.now) (sizes_in sizes) → result ≡ Some sizes }
-    ensures terms { IfSome result (λ sizes. AreTermsOf sizes.group_rows sizes.direct_rows) }
-{
-    match Order::of_words(words)? {
-        Order::Replay(sizes) => Some(sizes),
-        Order::Generate(_) => None,
-    }
-}
 
 /// Writes a whole text, and answers the status that goes with it, or the write fault.
 fn finish<O: Sink>(output: &mut O, text: &[u8], status: Status) -> Status
@@ -48,29 +42,40 @@ fn finish<O: Sink>(output: &mut O, text: &[u8], status: Status) -> Status
     }
 }
 
-/// Runs the program for these words over an input and an output, and answers how it ended. The words are `replay` and its options,
-/// `--group-rows` and `--direct-rows`: the input is a script, its statements are run, and the text of the log of its events is
-/// written. Nothing is written before the whole text is there. Where several causes stand together, the order is words, reading,
-/// script, memory, writing.
-pub fn columnstore<I: Source, O: Sink>(
+/// Writes the refusal of the words.
+fn refuse<O: Sink>(output: &mut O) -> Status
+    ensures { IsWritten (O.held output.old) (O.held output.new) (O.faults output.old) (O.faults output.new) (codes "usage refused\n") Status.Usage result }
+{
+    finish(output, b"usage refused\n", Status::Usage)
+}
+
+/// Writes a text that was made without the input, if there was memory for it.
+fn write_drawn<O: Sink>(output: &mut O, text: Result<Line, Memory>) -> Status
+    ensures { MatchResult text (λ line. IsWritten (O.held output.old) (O.held output.new) (O.faults output.old) (O.faults output.new) line Status.Done result)
+        (λ _. (result ≡ Status.Memory) × (output.new ≡ output.old)) }
+{
+    match text {
+        Ok(text) => finish(output, text.as_slice(), Status::Done),
+        Err(_) => Status::Memory,
+    }
+}
+
+/// Replays the script of an input, and writes the text of the log of its events.
+fn replay<R: Wait, I: Source, O: Sink>(
+    rt: &R,
     alloc: Global,
-    words: &[String],
+    options: RunOptions,
     input: &mut I,
     output: &mut O,
 ) -> Status
-    // Some bytes were read and some were added, and the status says which.
+    requires sizes { AreTermsOf options.group_rows options.direct_rows }
     ensures ends { (came : List ℕ) × (added : List ℕ) × Takes (I.left input.old) (I.left input.new) came
         × Adds (O.held output.old) (O.held output.new) added
-        × Ends (map string_bytes words.now) came (I.left input.new) added result }
-    // The words and a script are answered, unless memory or a stream gives out.
-    ensures complete { (bytes : List ℕ) (sizes : Sizes) (script : Script) → I.left input.old ≡ Some bytes
-        → Replays (map string_bytes words.now) sizes → length bytes ≤ limit → IsScript bytes script → IsDoneOrStopped result }
+        × EndsFor (Replay options) came (I.left input.new) added result }
+    ensures complete { (bytes : List ℕ) (script : Script) → I.left input.old ≡ Some bytes → length bytes ≤ limit → IsScript Mode.Replay bytes script → IsDoneOrStopped result }
     ensures read_fault { result ≡ Status.ReadFault → Rose (I.faults input.old) (I.faults input.new) }
     ensures write_fault { result ≡ Status.WriteFault → Rose (O.faults output.old) (O.faults output.new) }
 {
-    let Some(sizes) = replay_sizes(words) else {
-        return finish(output, b"usage refused\n", Status::Usage);
-    };
     let bytes = match read_all(alloc, input, LIMIT) {
         Ok(bytes) => bytes,
         Err(InputRefusal::Fault) => return Status::ReadFault,
@@ -79,16 +84,55 @@ pub fn columnstore<I: Source, O: Sink>(
         }
         Err(InputRefusal::Memory) => return Status::Memory,
     };
-    match answer(alloc, sizes, bytes) {
+    match answer(rt, alloc, options, bytes) {
         Ok((status, text)) => finish(output, text.as_slice(), status),
         Err(_) => Status::Memory,
+    }
+}
+
+/// Runs the program for these words over an input and an output, and answers how it ended. The words are a mode and its options.
+/// `replay`: the input is a script, its statements are run, and the text of the log of its events is written. `generate`: the script
+/// of a workload is written. `load`: that script is run as by `replay`, and the summary of the log of its events is written. For both
+/// of these the input is let alone. Nothing is written before the whole text is there. Where several causes stand together, the order
+/// is words, reading, script, memory, writing.
+pub fn columnstore<R: Wait, I: Source, O: Sink>(
+    rt: &R,
+    alloc: Global,
+    words: &[String],
+    input: &mut I,
+    output: &mut O,
+) -> Status
+    // Some bytes were read and some were added, and the status says which.
+    ensures ends { (came : List ℕ) × (added : List ℕ) × Takes (I.left input.old) (I.left input.new) came
+        × Adds (O.held output.old) (O.held output.new) added
+        × EndsForWords (map string_bytes words.now) came (I.left input.new) added result }
+    // The words and a script are answered, unless memory or a stream gives out.
+    ensures complete { (bytes : List ℕ) (options : RunOptions) (script : Script) → I.left input.old ≡ Some bytes
+        → Replays (map string_bytes words.now) options → length bytes ≤ limit → IsScript Mode.Replay bytes script → IsDoneOrStopped result }
+    // So are words for which a script is drawn, whatever the input.
+    ensures drawn { (order : Order) → IsOrder (map string_bytes words.now) order → DrawsScript order → IsWrittenOrStopped result }
+    // No call of the input is made for these, nor for words that are refused.
+    ensures untouched { ((options : RunOptions) → Replays (map string_bytes words.now) options → ⊥) → input.new ≡ input.old }
+    ensures read_fault { result ≡ Status.ReadFault → Rose (I.faults input.old) (I.faults input.new) }
+    ensures write_fault { result ≡ Status.WriteFault → Rose (O.faults output.old) (O.faults output.new) }
+{
+    match Order::of_words(words) {
+        Some(Order::Replay(options)) => replay(rt, alloc, options, input, output),
+        Some(Order::Generate(workload)) => write_drawn(output, generate(alloc, workload)),
+        Some(Order::Load { workload, options }) => {
+            write_drawn(output, load(rt, alloc, options, workload))
+        }
+        // The program does not run sessions on threads so far.
+        Some(Order::Run { .. }) => refuse(output),
+        None => refuse(output),
     }
 }
 
 /// Runs the program for its arguments, as the system gave them, over an input and an output: `columnstore` for the words
 /// after the program's name. Arguments of which one is no text are no words. Where there is no memory for the words the
 /// status is `Memory`, and nothing was read or written.
-pub fn program<A: Iterator<Item = String> + Drop, I: Source, O: Sink>(
+pub fn program<R: Wait, A: Iterator<Item = String> + Drop, I: Source, O: Sink>(
+    rt: &R,
     alloc: Global,
     args: io::Result<A>,
     input: &mut I,
@@ -100,7 +144,7 @@ pub fn program<A: Iterator<Item = String> + Drop, I: Source, O: Sink>(
     ensures ran { ((words : Words) × (came : List ℕ) × (added : List ℕ) × AreWords A.next_gives args words
         × Takes (I.left input.old) (I.left input.new) came
         × Adds (O.held output.old) (O.held output.new) added
-        × Ends words came (I.left input.new) added result)
+        × EndsForWords words came (I.left input.new) added result)
         ⊎ ((result ≡ Status.Memory) × (input.new ≡ input.old) × (output.new ≡ output.old)) }
     // An argument that is no text is no want of memory.
     ensures no_text { IfErr args (λ error. error_kind error ≢ ErrorKind.OutOfMemory → result ≢ Status.Memory) }
@@ -108,7 +152,7 @@ pub fn program<A: Iterator<Item = String> + Drop, I: Source, O: Sink>(
     ensures write_fault { result ≡ Status.WriteFault → Rose (O.faults output.old) (O.faults output.new) }
 {
     match words(alloc, args) {
-        Ok(words) => columnstore(alloc, words.as_slice(), input, output),
+        Ok(words) => columnstore(rt, alloc, words.as_slice(), input, output),
         Err(_) => Status::Memory,
     }
 }

@@ -1,38 +1,102 @@
-// Turns whose work finds no memory: what they log, and what they leave.
+// Work that finds no memory, of statements and of turns: what is logged, and what it leaves.
 use crate::answer::{run, runner_for};
-use command_words::GroupSizes;
+use command_words::RunOptions;
 use cs_base::Memory;
 use group_view::{Claim, Product};
-use script_reader::read_script;
+use script_reader::{Mode, read_script};
 use statement_core::{Desk, Outcome, Started};
 use statement_work::Clerk;
 use std::alloc::Global;
-use std::cell::Cell;
 use std::process::Abort;
+use std::sync::Wait;
+use std::sync::atomic::{AtomicU64, Ordering};
 use std::test::Fail;
 
-/// A clerk for whose work on claims there is no memory at some calls.
+/// A desk that finds no memory at some calls, and else does what the desk in it does.
 #[derive(Drop)]
-struct Wanting<'a> {
-    /// Whether a call of that number finds none; behind these each finds it.
-    calls: &'a [bool],
-    made: Cell<usize>,
+struct ShortDesk<'a, D> {
+    desk: D,
+    /// The numbers, from 1 on, of the calls of `work` and of `mend` that find none.
+    work: &'a [u64],
+    mend: &'a [u64],
+    /// How many calls of each there were.
+    worked: AtomicU64,
+    mended: AtomicU64,
 }
 
-impl Desk for Wanting<'_> {
-    fn work(&self, alloc: Global, started: &Started) -> Outcome {
-        Clerk.work(alloc, started)
-    }
-
-    fn mend(&self, alloc: Global, claim: &Claim) -> Result<Product, Memory> {
-        let made = self.made.get();
-        self.made.set(made.saturating_add(1));
-        match self.calls.get(made) {
-            Some(true) => Err(Memory),
-            Some(false) | None => Clerk.mend(alloc, claim),
+impl<'a, D: Desk> ShortDesk<'a, D> {
+    fn new(desk: D, work: &'a [u64], mend: &'a [u64]) -> ShortDesk<'a, D> {
+        ShortDesk {
+            desk,
+            work,
+            mend,
+            worked: AtomicU64::new(0),
+            mended: AtomicU64::new(0),
         }
     }
 }
+
+/// Counts a call, and answers whether it is one of these.
+fn is_next(calls: &[u64], counted: &AtomicU64) -> bool {
+    let before = counted.fetch_add(1, Ordering::SeqCst);
+    calls.contains(&before.wrapping_add(1))
+}
+
+impl<D: Desk> Desk for ShortDesk<'_, D> {
+    fn work<R: Wait>(&self, rt: &R, alloc: Global, started: &Started) -> Outcome {
+        if is_next(self.work, &self.worked) {
+            return Outcome::Short;
+        }
+        self.desk.work(rt, alloc, started)
+    }
+
+    fn mend(&self, alloc: Global, claim: &Claim) -> Result<Product, Memory> {
+        if is_next(self.mend, &self.mended) {
+            return Err(Memory);
+        }
+        self.desk.mend(alloc, claim)
+    }
+}
+
+/// A transaction with two INSERTs, and what is there behind its COMMIT.
+const INSERTS: &str = "setup CREATE TABLE t (k int NOT NULL PRIMARY KEY, v int NULL)
+s1 BEGIN TRAN
+s1 INSERT INTO t VALUES (1, 10)
+s1 INSERT INTO t VALUES (2, 20)
+s1 COMMIT
+s1 SELECT * FROM t
+";
+
+/// Where the second INSERT finds no memory: the transaction goes on without it.
+const INSERTS_SECOND: &str = "1 s1.1 >
+2 s1.1 < ok
+3 s1.2 >
+4 s1.2 < ok 1 affected
+5 s1.3 >
+6 s1.3 < error 701
+7 s1.4 >
+8 s1.4 < ok
+9 s1.5 >
+10 s1.5 < ok 1 rows
+  1, 10
+11 s1 end
+";
+
+/// Where BEGIN and COMMIT find none: no transaction was opened, and each INSERT committed by itself.
+const INSERTS_BOUNDS: &str = "1 s1.1 >
+2 s1.1 < error 701
+3 s1.2 >
+4 s1.2 < ok 1 affected
+5 s1.3 >
+6 s1.3 < ok 1 affected
+7 s1.4 >
+8 s1.4 < error 701
+9 s1.5 >
+10 s1.5 < ok 2 rows
+  1, 10
+  2, 20
+11 s1 end
+";
 
 /// Two rows that fill a store, and three turns on it: the first one half done beside a report, and a report behind each.
 const COMPRESS: &str = "setup CREATE TABLE t (k int NOT NULL PRIMARY KEY, v int NULL)
@@ -158,34 +222,33 @@ const PACKED_SECOND: &str = "1 s1.1 >
 33 s1 end
 ";
 
-/// Runs a script at such a desk, where groups have at most four versions and two rows are loaded directly, or two versions and
+/// Runs a script at a desk that finds no memory at these calls of `work` and of `mend`, where groups have at most four versions and two rows are loaded directly, or two versions and
 /// none are, and compares the text of the log.
 fn check(
-    rt: &impl Abort,
+    rt: &(impl Abort + Wait),
     alloc: Global,
     packed: bool,
-    calls: &[bool],
+    calls: (&[u64], &[u64]),
     script: &str,
     text: &str,
 ) -> Result<(), Fail> {
     let sizes = if packed {
-        GroupSizes {
+        RunOptions {
             group_rows: 4,
             direct_rows: 2,
+            workers: 1,
         }
     } else {
-        GroupSizes {
+        RunOptions {
             group_rows: 2,
             direct_rows: 102_400,
+            workers: 1,
         }
     };
-    let script = read_script(alloc, script.as_bytes())?;
+    let script = read_script(alloc, script.as_bytes(), Mode::Replay)?;
     let mut runner = runner_for(alloc, sizes, &script)?;
-    let desk = Wanting {
-        calls,
-        made: Cell::new(0),
-    };
-    let log = run(alloc, &mut runner, &script, &desk)?;
+    let desk = ShortDesk::new(Clerk::new(), calls.0, calls.1);
+    let log = run(rt, alloc, &mut runner, &script, &desk)?;
     assert_eq!(rt; log.as_slice(), text.as_bytes());
     Ok(())
 }
@@ -193,9 +256,16 @@ fn check(
 #[test]
 fn releases_what_found_no_memory(rt: HostRuntime) -> Result<(), Fail> {
     let alloc = rt.alloc();
-    check(&rt, alloc, false, &[true, true], COMPRESS, COMPRESS_NEVER)?;
-    check(&rt, alloc, false, &[true], COMPRESS, COMPRESS_SECOND)?;
-    let first_of_each = [true, false, true, false, true, false];
-    check(&rt, alloc, true, &first_of_each, PACKED, PACKED_SECOND)?;
+    check(&rt, alloc, false, (&[], &[1, 2]), COMPRESS, COMPRESS_NEVER)?;
+    check(&rt, alloc, false, (&[], &[1]), COMPRESS, COMPRESS_SECOND)?;
+    check(&rt, alloc, true, (&[], &[1, 3, 5]), PACKED, PACKED_SECOND)?;
+    Ok(())
+}
+
+#[test]
+fn refuses_what_found_no_memory(rt: HostRuntime) -> Result<(), Fail> {
+    let alloc = rt.alloc();
+    check(&rt, alloc, false, (&[3], &[]), INSERTS, INSERTS_SECOND)?;
+    check(&rt, alloc, false, (&[1, 4], &[]), INSERTS, INSERTS_BOUNDS)?;
     Ok(())
 }

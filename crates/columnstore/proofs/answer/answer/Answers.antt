@@ -1,7 +1,7 @@
 use Rattle.columnstore.proofs.answer.answer.Goals as goal
 
 pub returns-in_ok-text-in-Err-Bad-clause-answered : goal.returns-in_ok-text-in-Err-Bad-clause-answered
-returns-in_ok-text-in-Err-Bad-clause-answered c = record {
+returns-in_ok-text-in-Err-Bad-clause-answered g c = record {
   none = λ script is. let none = c.in-Err-Bad.ensures.only script is in absurd (cc);
   line = c.in-Err-Bad.line;
   reason = c.in-Err-Bad.reason;
@@ -11,4 +11,4 @@ returns-in_ok-text-in-Err-Bad-clause-answered c = record {
 }
 
 pub returns-in_ok-text-in-Err-Bad-clause-runs : goal.returns-in_ok-text-in-Err-Bad-clause-runs
-returns-in_ok-text-in-Err-Bad-clause-runs c = λ script is. let none = c.in-Err-Bad.ensures.only script is in absurd (cc)
+returns-in_ok-text-in-Err-Bad-clause-runs g c = λ script is. let none = c.in-Err-Bad.ensures.only script is in absurd (cc)

@@ -3,6 +3,6 @@ use Rattle.columnstore.proofs.Replayed.{replayed}
 use Rattle.columnstore.proofs.answer.replay.Goals as goal
 
 pub returns : goal.returns
-returns c = record {
-  text = replayed (sizes_in c.args.sizes) c.in_ok-runner.runner.sizes c.args.script.now c.run.new.runner.log c.run.result c.in_ok-runner.ensures.sizes c.run.ensures.whole c.run.ensures.text;
+returns g c = record {
+  text = replayed (sizes_in c.args.options) c.in_ok-runner.runner.sizes c.args.script.now c.run.new.runner.log c.run.result c.in_ok-runner.ensures.sizes c.run.ensures.whole c.run.ensures.text;
 }

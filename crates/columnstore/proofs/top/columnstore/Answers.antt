@@ -1,65 +1,91 @@
-use Rattle.std.proofs.Common.{subst, map, string_bytes, refl, [], codes}
-use Rattle.cs_outside.specs.Outside.{Takes}
-use Rattle.columnstore.specs.declared.status.Status.TheVariants as status
-use Rattle.columnstore.specs.Outcome.{usage, too_long, answered, sizes_in}
-use Rattle.script_reader.specs.Scripts.{IsScript}
-use Rattle.columnstore.proofs.Sizes.{not_given}
-use Rattle.columnstore.proofs.Complete.{came_short, all_came, finished}
-use Rattle.columnstore.proofs.Ending.{ending, none_taken, none_added}
+use Rattle.std.proofs.Common.{◌≡◌, map, string_bytes, [], refl, subst}
+use Rattle.command_words.specs.declared.order.Order.TheVariants.{Replay, Generate, Load}
+use Rattle.command_words.proofs.WordPairs.{in_range}
+use Rattle.columnstore.specs.Outcome.{sizes_in, drawn_script, Summed, IsCarriedOut, refused, served}
+use Rattle.columnstore.proofs.Serving.{none_served, not_served, drawn_served, terms_of}
+use Rattle.columnstore.proofs.Ending.{drawing, with_done, refusing, none_taken}
 use Rattle.columnstore.proofs.top.columnstore.Goals as goal
 
-pub returns-in_default-clause-ends : goal.returns-in_default-clause-ends
-returns-in_default-clause-ends g c =
+pub replay-requires : goal.replay-requires
+replay-requires g c =
+    let found = rw c.in-Some-Replay.field-0-is at c.in-Some-Replay.ensures.found in
+    record { sizes = terms_of c.in-Some-Replay.options (in_range (map string_bytes c.args.words.now) (Replay c.in-Some-Replay.options) found) }
+
+pub generate-requires : goal.generate-requires
+generate-requires g c =
+    let found = rw c.in-Some-Generate.field-0-is at c.in-Some-Generate.ensures.found in
+    in_range (map string_bytes c.args.words.now) (Generate c.in-Some-Generate.workload) found
+
+pub load-requires-clause-sizes : goal.load-requires-clause-sizes
+load-requires-clause-sizes g c =
+    let found = rw c.in-Some-Load.field-0-is at c.in-Some-Load.ensures.found in
+    let range = in_range (map string_bytes c.args.words.now) (Load c.in-Some-Load.workload c.in-Some-Load.options) found in
+    terms_of c.in-Some-Load.options range.1
+
+pub load-requires-clause-drawn : goal.load-requires-clause-drawn
+load-requires-clause-drawn g c =
+    let found = rw c.in-Some-Load.field-0-is at c.in-Some-Load.ensures.found in
+    let range = in_range (map string_bytes c.args.words.now) (Load c.in-Some-Load.workload c.in-Some-Load.options) found in
+    range.0
+
+pub returns-in-Some-Replay-clause-ends : goal.returns-in-Some-Replay-clause-ends
+returns-in-Some-Replay-clause-ends g c =
+    let found = rw c.in-Some-Replay.field-0-is at c.in-Some-Replay.ensures.found in
+    let ends = c.replay.ensures.ends in
+    (ends.0, ends.1, ends.2, ends.3, served (Replay c.in-Some-Replay.options) found (λ drawn. absurd drawn) ends.4)
+
+pub returns-in-Some-Replay-clause-complete : goal.returns-in-Some-Replay-clause-complete
+returns-in-Some-Replay-clause-complete g c = λ bytes options script told replays small reads. c.replay.ensures.complete bytes script told small reads
+
+pub returns-in-Some-Generate-clause-ends : goal.returns-in-Some-Generate-clause-ends
+returns-in-Some-Generate-clause-ends g c =
+    let found = rw c.in-Some-Generate.field-0-is at c.in-Some-Generate.ensures.found in
+    let drawn = c.in-Some-Generate.workload in
+    let left = g.I.Source.left c.args.input.now in
+    let made = with_done g.O.Sink.held g.O.Sink.faults c.args.output.now c.write_drawn.new.output (λ line. line ≡ drawn_script drawn) c.generate.result c.generate.ensures in
+    let ends = drawing g.O.Sink.held g.O.Sink.faults c.args.output.now c.write_drawn.new.output (Generate drawn) left c.generate.result c.write_drawn.result tt made c.write_drawn.ensures in
+    ([], ends.0, none_taken left, ends.1, served (Generate drawn) found (λ _. refl) ends.2)
+
+pub returns-in-Some-Load-clause-ends : goal.returns-in-Some-Load-clause-ends
+returns-in-Some-Load-clause-ends g c =
+    let found = rw c.in-Some-Load.field-0-is at c.in-Some-Load.ensures.found in
+    let drawn = c.in-Some-Load.workload in
+    let options = c.in-Some-Load.options in
+    let left = g.I.Source.left c.args.input.now in
+    let output = c.write_drawn-in-Some-Load.new.output in
+    let made = with_done g.O.Sink.held g.O.Sink.faults c.args.output.now output (Summed (sizes_in options) (drawn_script drawn)) c.load.result c.load.ensures in
+    let ends = drawing g.O.Sink.held g.O.Sink.faults c.args.output.now output (Load drawn options) left c.load.result c.write_drawn-in-Some-Load.result tt made c.write_drawn-in-Some-Load.ensures in
+    ([], ends.0, none_taken left, ends.1, served (Load drawn options) found (λ _. refl) ends.2)
+
+pub returns-in-Some-Run-clause-ends : goal.returns-in-Some-Run-clause-ends
+returns-in-Some-Run-clause-ends g c =
     let words = map string_bytes c.args.words.now in
     let left = g.I.Source.left c.args.input.now in
-    ending words [] left status.Usage c.finish.result (codes "usage refused\n") left
-    (g.O.Sink.held c.args.output.now) (g.O.Sink.held c.finish.new.output) (g.O.Sink.faults c.args.output.now) (g.O.Sink.faults c.finish.new.output)
-    (none_taken left) (usage (not_given words c.replay_sizes.result c.replay_sizes.ensures.only c.in_default.is) refl) c.finish.ensures
+    let ends = refusing c.refuse.result (g.O.Sink.held c.args.output.now) (g.O.Sink.held c.refuse.new.output) (g.O.Sink.faults c.args.output.now) (g.O.Sink.faults c.refuse.new.output) c.refuse.ensures in
+    let none = not_served words c.of_words.result c.of_words.ensures.only c.in-Some-Run.field-0 c.in-Some-Run.is (λ is. subst IsCarriedOut c.in-Some-Run.field-0-is is) in
+    ([], ends.0, none_taken left, ends.1, refused none refl ends.2)
 
-pub returns-in_default-clause-complete : goal.returns-in_default-clause-complete
-returns-in_default-clause-complete g c = λ bytes sizes script told replays small reads.
-    absurd (not_given (map string_bytes c.args.words.now) c.replay_sizes.result c.replay_sizes.ensures.only c.in_default.is sizes replays)
-
-pub returns-in-Err-Fault-clause-ends : goal.returns-in-Err-Fault-clause-ends
-returns-in-Err-Fault-clause-ends g c =
-    let came = c.in-Err-Fault.ensures.came in
-    (came.0, [], came.1, none_added (g.O.Sink.held c.args.output.now), ((sizes_in c.in-Some.sizes, c.in-Some.ensures.found), refl))
-
-pub returns-in-Err-TooLong-clause-ends : goal.returns-in-Err-TooLong-clause-ends
-returns-in-Err-TooLong-clause-ends g c =
+pub returns-in-Some-Run-clause-complete : goal.returns-in-Some-Run-clause-complete
+returns-in-Some-Run-clause-complete g c = λ bytes options script told replays small reads.
     let words = map string_bytes c.args.words.now in
-    let came = c.in-Err-TooLong.ensures.came in
-    let long = came.2.0 (cc) in
-    ending words came.0 (g.I.Source.left c.read_all.new.source) status.Script c.finish-in-Err-TooLong.result (codes "refused too long\n") (g.I.Source.left c.args.input.now)
-    (g.O.Sink.held c.args.output.now) (g.O.Sink.held c.finish-in-Err-TooLong.new.output) (g.O.Sink.faults c.args.output.now) (g.O.Sink.faults c.finish-in-Err-TooLong.new.output)
-    came.1 (too_long (sizes_in c.in-Some.sizes) c.in-Some.ensures.found long) c.finish-in-Err-TooLong.ensures
+    absurd (not_served words c.of_words.result c.of_words.ensures.only c.in-Some-Run.field-0 c.in-Some-Run.is (λ is. subst IsCarriedOut c.in-Some-Run.field-0-is is) (Replay options) replays tt)
 
-pub returns-in-Ok-answer-clause-ends : goal.returns-in-Ok-answer-clause-ends
-returns-in-Ok-answer-clause-ends g c =
+pub returns-in-Some-Run-clause-drawn : goal.returns-in-Some-Run-clause-drawn
+returns-in-Some-Run-clause-drawn g c = λ order is drawn.
     let words = map string_bytes c.args.words.now in
-    ending words c.in-Ok.bytes.items (g.I.Source.left c.read_all.new.source) c.in-Ok-answer.status c.finish-in-Ok-answer.result c.in-Ok-answer.text (g.I.Source.left c.args.input.now)
-    (g.O.Sink.held c.args.output.now) (g.O.Sink.held c.finish-in-Ok-answer.new.output) (g.O.Sink.faults c.args.output.now) (g.O.Sink.faults c.finish-in-Ok-answer.new.output)
-    c.in-Ok.ensures.ok (answered (sizes_in c.in-Some.sizes) c.in-Some.ensures.found c.in-Ok.ensures.within c.in-Ok.ensures.end c.in-Ok-answer.ensures.answered) (rw c.as_slice.ensures at c.finish-in-Ok-answer.ensures)
+    absurd (not_served words c.of_words.result c.of_words.ensures.only c.in-Some-Run.field-0 c.in-Some-Run.is (λ is. subst IsCarriedOut c.in-Some-Run.field-0-is is) order is (drawn_served order drawn))
 
-pub returns-in-Err-TooLong-clause-complete : goal.returns-in-Err-TooLong-clause-complete
-returns-in-Err-TooLong-clause-complete g c = λ bytes sizes script told replays small reads.
-    let came = c.in-Err-TooLong.ensures.came in
-    absurd (came_short bytes came.0 (g.I.Source.left c.read_all.new.source) (subst (λ o. Takes o (g.I.Source.left c.read_all.new.source) came.0) told came.1) small (came.2.0 (cc)))
+pub returns-in-None-clause-ends : goal.returns-in-None-clause-ends
+returns-in-None-clause-ends g c =
+    let words = map string_bytes c.args.words.now in
+    let left = g.I.Source.left c.args.input.now in
+    let ends = refusing c.refuse-in-None.result (g.O.Sink.held c.args.output.now) (g.O.Sink.held c.refuse-in-None.new.output) (g.O.Sink.faults c.args.output.now) (g.O.Sink.faults c.refuse-in-None.new.output) c.refuse-in-None.ensures in
+    ([], ends.0, none_taken left, ends.1, refused (none_served words c.of_words.result c.of_words.ensures.only c.in-None.is) refl ends.2)
 
-pub returns-in-Ok-answer-clause-complete : goal.returns-in-Ok-answer-clause-complete
-returns-in-Ok-answer-clause-complete g c = λ bytes sizes script told replays small reads.
-    let came = c.in-Ok.bytes.items in
-    let left = g.I.Source.left c.read_all.new.source in
-    let all = all_came bytes came left (subst (λ o. Takes o left came) told c.in-Ok.ensures.ok) c.in-Ok.ensures.end in
-    finished (g.O.Sink.held c.args.output.now) (g.O.Sink.held c.finish-in-Ok-answer.new.output) (g.O.Sink.faults c.args.output.now) (g.O.Sink.faults c.finish-in-Ok-answer.new.output)
-    c.as_slice.result.now c.in-Ok-answer.status c.finish-in-Ok-answer.result c.finish-in-Ok-answer.ensures
-    (c.in-Ok-answer.ensures.runs script (subst (λ bs. IsScript bs script) all reads))
+pub returns-in-None-clause-complete : goal.returns-in-None-clause-complete
+returns-in-None-clause-complete g c = λ bytes options script told replays small reads.
+    absurd (none_served (map string_bytes c.args.words.now) c.of_words.result c.of_words.ensures.only c.in-None.is (Replay options) replays tt)
 
-pub returns-in-Err-Memory-clause-ends : goal.returns-in-Err-Memory-clause-ends
-returns-in-Err-Memory-clause-ends g c =
-    let came = c.in-Err-Memory.ensures.came in
-    (came.0, [], came.1, none_added (g.O.Sink.held c.args.output.now), ((sizes_in c.in-Some.sizes, c.in-Some.ensures.found), refl))
-
-pub returns-in-Err-clause-ends : goal.returns-in-Err-clause-ends
-returns-in-Err-clause-ends g c =
-    (c.in-Ok.bytes.items, [], c.in-Ok.ensures.ok, none_added (g.O.Sink.held c.args.output.now), ((sizes_in c.in-Some.sizes, c.in-Some.ensures.found), refl))
+pub returns-in-None-clause-drawn : goal.returns-in-None-clause-drawn
+returns-in-None-clause-drawn g c = λ order is drawn.
+    absurd (none_served (map string_bytes c.args.words.now) c.of_words.result c.of_words.ensures.only c.in-None.is order is (drawn_served order drawn))
