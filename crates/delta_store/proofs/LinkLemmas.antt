@@ -1,20 +1,20 @@
--- Stored versions: their links, the number of those that have an end, and their live versions.
-use Rattle.std.proofs.Common.{◌≡◌, ℕ, zero, suc, ◌+◌, ◌/◌, ◌<◌, ◌≤◌, Bool, true, false, ◌&&◌, ◌||◌, cond, List, [], ◌∷◌, ◌++◌, map, length, take, get_or, set, slice_get, slice_index_or, Option, Some, None, is_none, is_some, IfNone, count_by, refl, sym, ap, ◌∙◌, inl, inr, arith}
+-- Stored versions: their links, by when those before had ended, the number of those that have an end, and their live versions.
+use Rattle.std.proofs.Common.{◌≡◌, ℕ, zero, suc, ◌+◌, ◌/◌, ◌<◌, ◌≤◌, Bool, true, false, ◌&&◌, ◌||◌, cond, List, [], ◌∷◌, ◌++◌, map, length, take, get_or, set, slice_get, slice_index_or, Option, Some, None, is_none, is_some, IfNone, IfSome, count_by, refl, sym, ap, ◌∙◌, subst, inl, inr, arith}
 use Rattle.std.specs.Option.{option_map}
 use Rattle.std.proofs.lemmas.Bool.{cases_eq, cases_lt}
 use Rattle.std.proofs.lemmas.List.{map-append, map-set, length-map, take-append-le, take_all, take-map}
 use Rattle.std.proofs.lemmas.List.Recursion.{is_count_by}
 use Rattle.std.proofs.lemmas.List.Sums.{count_by-le-length}
-use Rattle.std.proofs.lemmas.Option.{slice_get-map, get_or_from_slice_get}
+use Rattle.std.proofs.lemmas.Option.{slice_get-map, slice_get_within, get_or_from_slice_get}
 use Rattle.std.proofs.Math.Seq.{map-set_same}
 use Rattle.cs_types.specs.declared.Key.{Key}
 use Rattle.delta_store.specs.declared.version.KeyedVersion.{KeyedVersion}
 use Rattle.delta_store.specs.declared.version.LinkedVersion.{LinkedVersion}
 use Rattle.delta_store.specs.Chunks.{linked_ended}
 use Rattle.delta_store.specs.Index.{place_in, SetsOnly, HaveSamePlaces}
-use Rattle.delta_store.specs.Versions.{is_of, is_live, has_live, ended_at, is_ended, IsEarlier}
-use Rattle.delta_store.specs.Places.{last_place, one_on, AreEndedButLast, keyed_in, AreLinked, IsStored, IsLiveAt}
-use Rattle.delta_store.proofs.VersionLemmas.{key_is, last_place-map, IsIndexed-push, IsIndexed-map, IsIndexed-same, IsLastPlace-last_place, live_at, map_at, absent, dead_absent, last_place_below}
+use Rattle.delta_store.specs.Versions.{is_of, is_live, has_live, ended_at, is_ended, IsEarlier, IsEndedBy, IsLastPlace}
+use Rattle.delta_store.specs.Places.{last_place, one_on, AreEndedButLast, keyed_in, AreLinked, AreEndedInTurn, IsEndedAfter, IsStored, IsLiveAt}
+use Rattle.delta_store.proofs.VersionLemmas.{key_is, key_itself, last_place-map, IsIndexed-push, IsIndexed-map, IsIndexed-same, IsLastPlace-last_place, live_at, map_at, absent, dead_absent, last_place_below}
 
 -- ---- lists
 
@@ -101,29 +101,11 @@ linked-map links vs q e linked i =
 abbrev link : LinkedVersion → Option ℕ
 link v = v.previous
 
+abbrev ended_by : LinkedVersion → ℕ
+ended_by v = v.ended_by
+
 abbrev pub keyed : LinkedVersion → KeyedVersion
 keyed v = v.keyed
-
--- ---- a version more
-
-pub IsStored-push : (l : List LinkedVersion) (v : LinkedVersion) (old new : List (Key × ℕ)) (n : ℕ) → IsStored l old n → SetsOnly old new v.keyed.key (length l) → has_live v.keyed.key (keyed_in l) ≡ false → v.previous ≡ place_in old v.keyed.key → is_ended v.keyed ≡ false → IsStored (l ++ v ∷ []) new n
-IsStored-push l v old new n ok sets dead previous live = record {
-  indexed = rw (map-append keyed l (v ∷ [])) (IsIndexed-push (keyed_in l) v.keyed old new (rw (sym (length-map l keyed)) at sets) dead ok.indexed);
-  links = rw (map-append keyed l (v ∷ []), map-append link l (v ∷ [])) (linked-push (map link l) (keyed_in l) v.previous v.keyed (length-map l link ∙ sym (length-map l keyed)) ok.links (previous ∙ ok.indexed.places v.keyed.key));
-  counted = ok.counted ∙ sym (counts is_ended (keyed_in l)) ∙ sym (how_many-push is_ended (keyed_in l) v.keyed live) ∙ counts is_ended (keyed_in l ++ v.keyed ∷ []) ∙ ap (count_by is_ended) (sym (map-append keyed l (v ∷ [])));
-}
-
--- a place at which a key may be live is that of an own chunk, after a version more behind the others
-pub ready-push : (vs : List KeyedVersion) (v : KeyedVersion) (own : List Bool) (q : Key) → slice_index_or own (length vs / 1024) false ≡ true → ((place : ℕ) (w : KeyedVersion) → slice_get vs place ≡ Some w → is_live q w ≡ true → slice_index_or own (place / 1024) false ≡ true) → (place : ℕ) (w : KeyedVersion) → slice_get (vs ++ v ∷ []) place ≡ Some w → is_live q w ≡ true → slice_index_or own (place / 1024) false ≡ true
-ready-push vs v own q here ready place w is live = elim (cases_lt place (length vs)) [
-  | inl below ↦ ready place w (sym (get_front vs (v ∷ []) place below) ∙ is) live
-  | inr from ↦ elim (cases_eq place (length vs)) [
-    | inl same ↦ ap (λ n. slice_index_or own (n / 1024) false) same ∙ here
-    | inr apart ↦ absurd (let none = get_beyond vs v place (omega (arith, from, apart)) in cc)
-  ]
-]
-
--- ---- the live version of a key
 
 -- a version of a key without a live version is not live
 pub not_live : (vs : List KeyedVersion) (q : Key) (i : ℕ) (v : KeyedVersion) → has_live q vs ≡ false → slice_get vs i ≡ Some v → is_live q v ≡ true → ⊥
@@ -138,6 +120,129 @@ not_live (w ∷ vs) q (suc i) v dead is live = not_live vs q i v (step (is_live 
     step : (t : Bool) → (t || has_live q vs) ≡ false → has_live q vs ≡ false
     step true h = absurd (cc)
     step false h = h
+
+-- ---- by when the versions before had ended
+
+-- an end by a commit is one by each later commit
+by_later : (v : KeyedVersion) (early late : ℕ) → early ≤ late → IsEndedBy early v → IsEndedBy late v
+by_later v early late le ended = record { end = ended.end; has = ended.has; within = let within = ended.within in omega (arith, le, within) }
+
+-- where a key has no live version, each of its versions has ended by a commit by which the last one and those before it have
+ended_up_to : (l : List LinkedVersion) (q : Key) (commit : ℕ) (o : Option ℕ) → AreEndedInTurn l → has_live q (keyed_in l) ≡ false → last_place (keyed_in l) q ≡ o → IsEndedAfter l o commit
+    → (j : ℕ) (w : KeyedVersion) → slice_get (keyed_in l) j ≡ Some w → w.key ≡ q → IsEndedBy commit w
+ended_up_to l q commit None turns dead last ended j w w_is of_q =
+    let none = subst (IsLastPlace (keyed_in l) q) last (IsLastPlace-last_place (keyed_in l) q) in
+    absurd (none j w (slice_get_within (keyed_in l) j w w_is) (ap (λ (x : KeyedVersion). x.key) (get_or_from_slice_get (keyed_in l) j w w w_is) ∙ of_q))
+ended_up_to l q commit (Some p) turns dead last ended j w w_is of_q = with_last (element l p (let below = last_place_below (keyed_in l) q p last in omega (arith, below, length-map l keyed)))
+  where
+    place : IsLastPlace (keyed_in l) q (Some p)
+    place = subst (IsLastPlace (keyed_in l) q) last (IsLastPlace-last_place (keyed_in l) q)
+
+    with_last : ((u : LinkedVersion) × (slice_get l p ≡ Some u)) → IsEndedBy commit w
+    with_last (u, is) = elim (cases_lt p j) [
+      | inl behind ↦ absurd (place.2 j w (omega (arith, behind)) (slice_get_within (keyed_in l) j w w_is) (ap (λ (x : KeyedVersion). x.key) (get_or_from_slice_get (keyed_in l) j w w w_is) ∙ of_q))
+      | inr upto ↦ elim (cases_eq j p) [
+        | inl same ↦ here w.version.end refl (some_is (sym w_is ∙ ap (slice_get (keyed_in l)) same ∙ keyed_is))
+        | inr apart ↦ by_later w u.ended_by commit (ended p u refl is).before (turns p u is j u.keyed w (omega (arith, upto, apart)) keyed_is w_is (of_q ∙ sym own_key))
+      ]
+    ]
+      where
+        keyed_is : slice_get (keyed_in l) p ≡ Some u.keyed
+        keyed_is = slice_get-map keyed l p ∙ ap (option_map keyed) is
+
+        own_key : u.keyed.key ≡ q
+        own_key = ap (λ (x : KeyedVersion). x.key) (sym (get_or_from_slice_get (keyed_in l) p u.keyed u.keyed keyed_is)) ∙ place.1 u.keyed
+
+        some_is : Some w ≡ Some u.keyed → w ≡ u.keyed
+        some_is e = cc
+
+        here : (o : Option ℕ) → w.version.end ≡ o → w ≡ u.keyed → IsEndedBy commit w
+        here None open' same = absurd (not_live (keyed_in l) q j w dead w_is (rw (key_itself q w.key (sym of_q), open') refl))
+        here (Some e) closed same = record { end = e; has = closed; within = (ended p u refl is).own e (ap (λ (x : KeyedVersion). x.version.end) (sym same) ∙ closed) }
+
+turns-push : (l : List LinkedVersion) (v : LinkedVersion) → AreEndedInTurn l → has_live v.keyed.key (keyed_in l) ≡ false → IsEndedAfter l (last_place (keyed_in l) v.keyed.key) v.ended_by → AreEndedInTurn (l ++ v ∷ [])
+turns-push l v turns dead ended i u u_is j x w below x_is w_is same_key = elim (cases_lt i (length l)) [
+  | inl inside ↦ turns i u (sym (get_front l (v ∷ []) i inside) ∙ u_is) j x w below (front i x inside x_is) (front j w (omega (arith, below, inside)) w_is) same_key
+  | inr from ↦ elim (cases_eq i (length l)) [
+    | inl last ↦ at_end (some_is (sym (get_last l v) ∙ ap (slice_get (l ++ v ∷ [])) (sym last) ∙ u_is)) last
+    | inr apart ↦ absurd (let none = get_beyond l v i (omega (arith, from, apart)) in cc)
+  ]
+]
+  where
+    some_is : Some v ≡ Some u → v ≡ u
+    some_is e = cc
+
+    joined : keyed_in (l ++ v ∷ []) ≡ keyed_in l ++ v.keyed ∷ []
+    joined = map-append keyed l (v ∷ [])
+
+    front : (k : ℕ) (y : KeyedVersion) → k < length l → slice_get (keyed_in (l ++ v ∷ [])) k ≡ Some y → slice_get (keyed_in l) k ≡ Some y
+    front k y inside is = sym (get_front (keyed_in l) (v.keyed ∷ []) k (omega (arith, inside, length-map l keyed))) ∙ ap (λ (ys : List KeyedVersion). slice_get ys k) (sym joined) ∙ is
+
+    at_end : v ≡ u → i ≡ length l → IsEndedBy u.ended_by w
+    at_end new last =
+        let own : v.keyed ≡ x = keyed_is (sym (get_last (keyed_in l) v.keyed) ∙ ap (slice_get (keyed_in l ++ v.keyed ∷ [])) (length-map l keyed ∙ sym last) ∙ ap (λ (ys : List KeyedVersion). slice_get ys i) (sym joined) ∙ x_is) in
+        rw (sym new) (ended_up_to l v.keyed.key v.ended_by (last_place (keyed_in l) v.keyed.key) turns dead refl ended j w (front j w (omega (arith, below, last)) w_is) (same_key ∙ ap (λ (y : KeyedVersion). y.key) (sym own)))
+      where
+        keyed_is : Some v.keyed ≡ Some x → v.keyed ≡ x
+        keyed_is e = cc
+
+-- a version that has ended stays so where another is ended
+turns-end : (old new : List LinkedVersion) (q : Key) (e : ℕ) → AreEndedInTurn old → keyed_in new ≡ map (ended_at q e) (keyed_in old) → map ended_by new ≡ map ended_by old → AreEndedInTurn new
+turns-end old new q e turns versions same i u u_is j x w below x_is w_is same_key = with_old (back i x x_is) (back j w w_is) (before i u u_is)
+  where
+    back : (k : ℕ) (y : KeyedVersion) → slice_get (keyed_in new) k ≡ Some y → (z : KeyedVersion) × (slice_get (keyed_in old) k ≡ Some z) × (ended_at q e z ≡ y)
+    back k y is = step (slice_get (keyed_in old) k) refl (sym (slice_get-map (ended_at q e) (keyed_in old) k) ∙ ap (λ (ys : List KeyedVersion). slice_get ys k) (sym versions) ∙ is)
+      where
+        step : (o : Option KeyedVersion) → slice_get (keyed_in old) k ≡ o → option_map (ended_at q e) o ≡ Some y → (z : KeyedVersion) × (slice_get (keyed_in old) k ≡ Some z) × (ended_at q e z ≡ y)
+        step None at has = absurd (cc)
+        step (Some z) at has = (z, at, some_is has)
+          where
+            some_is : Some (ended_at q e z) ≡ Some y → ended_at q e z ≡ y
+            some_is eq = cc
+
+    before : (k : ℕ) (y : LinkedVersion) → slice_get new k ≡ Some y → (z : LinkedVersion) × (slice_get old k ≡ Some z) × (z.ended_by ≡ y.ended_by)
+    before k y is = step (slice_get old k) refl (sym (slice_get-map ended_by old k) ∙ ap (λ (ys : List ℕ). slice_get ys k) (sym same) ∙ slice_get-map ended_by new k ∙ ap (option_map ended_by) is)
+      where
+        step : (o : Option LinkedVersion) → slice_get old k ≡ o → option_map ended_by o ≡ Some y.ended_by → (z : LinkedVersion) × (slice_get old k ≡ Some z) × (z.ended_by ≡ y.ended_by)
+        step None at has = absurd (cc)
+        step (Some z) at has = (z, at, some_is has)
+          where
+            some_is : Some z.ended_by ≡ Some y.ended_by → z.ended_by ≡ y.ended_by
+            some_is eq = cc
+
+    with_old : ((y : KeyedVersion) × (slice_get (keyed_in old) i ≡ Some y) × (ended_at q e y ≡ x)) → ((y : KeyedVersion) × (slice_get (keyed_in old) j ≡ Some y) × (ended_at q e y ≡ w)) → ((y : LinkedVersion) × (slice_get old i ≡ Some y) × (y.ended_by ≡ u.ended_by)) → IsEndedBy u.ended_by w
+    with_old (y, y_is, y_ends) (z, z_is, z_ends) (t, t_is, t_by) =
+        let ended = turns i t t_is j y z below y_is z_is (ap (λ (v : KeyedVersion). v.key) z_ends ∙ same_key ∙ ap (λ (v : KeyedVersion). v.key) (sym y_ends)) in
+        subst (λ (n : ℕ). IsEndedBy n w) t_by record { end = ended.end; has = ap (λ (v : KeyedVersion). v.version.end) (sym z_ends) ∙ kept ended.end ended.has; within = ended.within }
+      where
+        kept : (n : ℕ) → z.version.end ≡ Some n → (ended_at q e z).version.end ≡ Some n
+        kept n has = rw has (dead (is_of q z))
+          where
+            dead : (b : Bool) → cond (b && is_none (Some n)) (Some e) (Some n) ≡ Some n
+            dead true = refl
+            dead false = refl
+
+-- ---- a version more
+
+pub IsStored-push : (l : List LinkedVersion) (v : LinkedVersion) (old new : List (Key × ℕ)) (n : ℕ) → IsStored l old n → SetsOnly old new v.keyed.key (length l) → has_live v.keyed.key (keyed_in l) ≡ false → v.previous ≡ place_in old v.keyed.key → IsEndedAfter l v.previous v.ended_by → is_ended v.keyed ≡ false → IsStored (l ++ v ∷ []) new n
+IsStored-push l v old new n ok sets dead previous ended live = record {
+  indexed = rw (map-append keyed l (v ∷ [])) (IsIndexed-push (keyed_in l) v.keyed old new (rw (sym (length-map l keyed)) at sets) dead ok.indexed);
+  links = rw (map-append keyed l (v ∷ []), map-append link l (v ∷ [])) (linked-push (map link l) (keyed_in l) v.previous v.keyed (length-map l link ∙ sym (length-map l keyed)) ok.links (previous ∙ ok.indexed.places v.keyed.key));
+  turns = turns-push l v ok.turns dead (subst (λ (o : Option ℕ). IsEndedAfter l o v.ended_by) (previous ∙ ok.indexed.places v.keyed.key) ended);
+  counted = ok.counted ∙ sym (counts is_ended (keyed_in l)) ∙ sym (how_many-push is_ended (keyed_in l) v.keyed live) ∙ counts is_ended (keyed_in l ++ v.keyed ∷ []) ∙ ap (count_by is_ended) (sym (map-append keyed l (v ∷ [])));
+}
+
+-- a place at which a key may be live is that of an own chunk, after a version more behind the others
+pub ready-push : (vs : List KeyedVersion) (v : KeyedVersion) (own : List Bool) (q : Key) → slice_index_or own (length vs / 1024) false ≡ true → ((place : ℕ) (w : KeyedVersion) → slice_get vs place ≡ Some w → is_live q w ≡ true → slice_index_or own (place / 1024) false ≡ true) → (place : ℕ) (w : KeyedVersion) → slice_get (vs ++ v ∷ []) place ≡ Some w → is_live q w ≡ true → slice_index_or own (place / 1024) false ≡ true
+ready-push vs v own q here ready place w is live = elim (cases_lt place (length vs)) [
+  | inl below ↦ ready place w (sym (get_front vs (v ∷ []) place below) ∙ is) live
+  | inr from ↦ elim (cases_eq place (length vs)) [
+    | inl same ↦ ap (λ n. slice_index_or own (n / 1024) false) same ∙ here
+    | inr apart ↦ absurd (let none = get_beyond vs v place (omega (arith, from, apart)) in cc)
+  ]
+]
+
+-- ---- the live version of a key
 
 -- the last version of a key is of the key
 last_is_of : (vs : List KeyedVersion) (q : Key) (p : ℕ) (v : KeyedVersion) → last_place vs q ≡ Some p → slice_get vs p ≡ Some v → is_of q v ≡ true
@@ -193,12 +298,16 @@ live_is_last (w ∷ vs) q (suc i) p v ended last is live = step (last_place vs q
 
 -- what is stored stays so where every key keeps its place
 pub IsStored-same : (l : List LinkedVersion) (old new : List (Key × ℕ)) (n : ℕ) → HaveSamePlaces old new → IsStored l old n → IsStored l new n
-IsStored-same l old new n same ok = record { indexed = IsIndexed-same (keyed_in l) old new same ok.indexed; links = ok.links; counted = ok.counted }
+IsStored-same l old new n same ok = record { indexed = IsIndexed-same (keyed_in l) old new same ok.indexed; links = ok.links; turns = ok.turns; counted = ok.counted }
 
 -- what the index finds for a key
 module _ (l : List LinkedVersion) (pairs : List (Key × ℕ)) (n : ℕ) (ok : IsStored l pairs n) (q : Key) where
   pub none_found : place_in pairs q ≡ None → has_live q (keyed_in l) ≡ false
   none_found none = dead_absent (keyed_in l) q (absent (keyed_in l) pairs q ok.indexed none)
+
+  pub last_there : (o : Option ℕ) → o ≡ place_in pairs q → IfSome o (λ (p : ℕ). p < length l)
+  last_there None is = tt
+  last_there (Some p) is = let below = last_place_below (keyed_in l) q p (sym (ok.indexed.places q) ∙ sym is) in omega (arith, below, length-map l keyed)
 
   module _ (p : ℕ) (found : place_in pairs q ≡ Some p) where
     last : last_place (keyed_in l) q ≡ Some p
@@ -271,6 +380,9 @@ ending old new pairs n q e p ok at there written = with_version (element old p t
         same_links : map link new ≡ map link old
         same_links = ap (map link) new_is ∙ map-set_same link old p (linked_ended e v) v (ap link (sym (get_or_from_slice_get old p v v is)))
 
+        same_ends : map ended_by new ≡ map ended_by old
+        same_ends = ap (map ended_by) new_is ∙ map-set_same ended_by old p (linked_ended e v) v (ap ended_by (sym (get_or_from_slice_get old p v v is)))
+
         unended : is_ended v.keyed ≡ false
         unended = open' v.keyed.version.end (back (is_of q v.keyed) (is_none v.keyed.version.end) live)
           where
@@ -293,6 +405,7 @@ ending old new pairs n q e p ok at there written = with_version (element old p t
         stored = record {
           indexed = rw versions (IsIndexed-map (keyed_in old) pairs q e ok.indexed);
           links = rw (versions, same_links) (linked-map (map link old) (keyed_in old) q e ok.links);
+          turns = turns-end old new q e ok.turns versions same_ends;
           counted = ap (λ k. k + 1) ok.counted ∙ sym more;
         }
 

@@ -62,6 +62,17 @@ IsLastPlace versions key (Some place) =
 abbrev pub IsEarlier : List KeyedVersion → ℕ → Option ℕ → Type 0
 IsEarlier versions i place = (v : KeyedVersion) → slice_get versions i ≡ Some v → IsLastPlace (take i versions) v.key place
 
+-- the version has an end, at most this commit
+pub record IsEndedBy (commit : ℕ) (v : KeyedVersion) : Type 0 where
+  pub end : ℕ
+  pub has : v.version.end ≡ Some end
+  pub within : end ≤ commit
+
+-- each version before that at place i, of the same key, has ended by this commit
+abbrev pub AreEndedBefore : List KeyedVersion → ℕ → ℕ → Type 0
+AreEndedBefore versions i commit =
+    (j : ℕ) (v w : KeyedVersion) → j < i → slice_get versions i ≡ Some v → slice_get versions j ≡ Some w → w.key ≡ v.key → IsEndedBy commit w
+
 -- begins don't fall along the versions
 abbrev pub AreByBegin : List KeyedVersion → Type 0
 AreByBegin versions = IsNonDecreasingBy (λ v. v.version.begin) versions

@@ -33,7 +33,7 @@ impl Model for Frozen {
 impl Frozen {
     ghost use Rattle.std.specs.Option.{option_map};
     ghost use Rattle.delta_store.specs.Places.{AreNewest};
-    ghost use Rattle.delta_store.specs.Versions.{is_ended, IsLastPlace, IsEarlier, AreByBegin, IsFirstAfter};
+    ghost use Rattle.delta_store.specs.Versions.{is_ended, AreEndedBefore, IsLastPlace, IsEarlier, AreByBegin, IsFirstAfter};
 
     /// The store of these versions with their index. It takes no memory.
     pub(crate) fn new(chunks: Chunks, index: KeyIndex, ended: usize) -> Frozen
@@ -113,6 +113,14 @@ impl Frozen {
         ensures { IsEarlier self.now i result }
     {
         self.chunks.get(i).previous
+    }
+
+    /// A commit by which each version before that at `i`, of the same key, has ended. A snapshot at or after it sees none of them.
+    pub fn ended_by(&self, i: usize) -> u64
+        requires { i < length self.now }
+        ensures { AreEndedBefore self.now i result }
+    {
+        self.chunks.get(i).ended_by
     }
 
     /// The first place of a version whose begin is above `begin`, and the number of versions where there is none, if

@@ -1,5 +1,5 @@
 ghost use Rattle.std.specs.Prelude.{◌≡◌, ◌+◌, ◌<◌, ◌≤◌, ◌↔◌, [], ◌∷◌, ◌++◌, length, map, count_by, All, IsTrue, OnOk, IfOk, IfSome, IfNone, false, true};
-ghost use Rattle.delta_store.specs.Places.{keyed_in, IsStored, IsLiveAt};
+ghost use Rattle.delta_store.specs.Places.{keyed_in, IsStored, IsLiveAt, IsEndedAfter};
 ghost use Rattle.delta_store.specs.Versions.{has_live};
 
 use crate::chunks::Chunks;
@@ -49,6 +49,17 @@ fn live_place(chunks: &Chunks, index: &KeyIndex, ended: usize, key: Key) -> Opti
         return Some(place);
     }
     None
+}
+
+/// A commit by which all versions of a key have ended, if the last one has, by the place of this one. 0 where there is none.
+fn ended_after(chunks: &Chunks, last: Option<usize>) -> u64
+    requires { IfSome last (λ place. place < length chunks.now.versions) }
+    ensures { IsEndedAfter chunks.now.versions last result }
+{
+    match last {
+        Some(place) => chunks.get(place).ended_through(),
+        None => 0,
+    }
 }
 
 impl Delta {
@@ -115,6 +126,7 @@ impl Delta {
         ensures kept { (key : Key) → IsReady self.old key → IsReady self.new key }
     {
         let previous = self.index.get(key);
+        let ended_by = ended_after(&self.chunks, previous);
         self.index.set(key, self.chunks.len());
         let version = Version {
             row,
@@ -122,7 +134,11 @@ impl Delta {
             end: None,
         };
         let keyed = KeyedVersion { key, version };
-        self.chunks.push(LinkedVersion { keyed, previous });
+        self.chunks.push(LinkedVersion {
+            keyed,
+            previous,
+            ended_by,
+        });
     }
 
     /// Ends the live version of a key, the one without an end, at the commit of this number. False, with nothing

@@ -154,6 +154,24 @@ fn five_versions_of_a_key(rt: HostRuntime) -> Result<(), Fail> {
     Ok(())
 }
 
+#[test]
+fn versions_before_have_ended(rt: HostRuntime) -> Result<(), Fail> {
+    let puts = [
+        (7, 0, 5),
+        (-3, 0, 6),
+        (7, 0, 9),
+        (7, 0, 4),
+        (-3, 0, 8),
+        (7, 0, 6),
+    ];
+    let frozen = filled(rt.alloc(), &puts)?.freeze();
+    for (i, commit) in [0, 0, 9, 9, 8, 9].iter().enumerate() {
+        assert!(rt; i < frozen.len());
+        assert!(rt; frozen.ended_by(i) == *commit);
+    }
+    Ok(())
+}
+
 /// The version of a key of `of_keys` with this end.
 fn parts(key: u16, end: Option<u64>) -> Parts {
     (i64::from(key), i64::from(key), u64::from(key) + 1, end)

@@ -1,8 +1,8 @@
 -- Look-ups of a key among the versions of a group.
 use Rattle.std.proofs.Common.{◌≡◌, ℕ, suc, ◌<◌, ◌≤◌, ◌+◌, Bool, true, false, ◌&&◌, List, length, get_or, take, refl, sym, ap, ◌∙◌, subst, inl, inr, arith}
-use Rattle.std.specs.Prelude.{Option, None, Some, slice_get, slice_index}
+use Rattle.std.specs.Prelude.{Option, None, Some, nat_le, not, slice_get, slice_index}
 use Rattle.std.specs.Option.{option_map}
-use Rattle.std.proofs.lemmas.Bool.{and_parts, cases_lt}
+use Rattle.std.proofs.lemmas.Bool.{and_parts, cases_lt, le-leb}
 use Rattle.std.proofs.lemmas.List.{get_or-take, length-take-le, take_all}
 use Rattle.std.proofs.lemmas.Option.{get_or_from_slice_get, none-some, same_Some, slice_get-map, slice_get_past, slice_get_within}
 use Rattle.cs_types.specs.declared.Key.{Key}
@@ -10,9 +10,10 @@ use Rattle.cs_types.specs.Keys.{same_key}
 use Rattle.cs_types.specs.Rows.{key_in}
 use Rattle.delete_bitmap.specs.declared.MarkedEnd.{MarkedEnd}
 use Rattle.delta_store.specs.declared.version.KeyedVersion.{KeyedVersion}
-use Rattle.delta_store.specs.Versions.{IsLastPlace, IsEarlier}
+use Rattle.delta_store.specs.Versions.{IsLastPlace, IsEarlier, IsEndedBy, AreEndedBefore}
 use Rattle.row_group.specs.Groups.{Group, row_at, ArePlacesOf}
-use Rattle.group_book.specs.Book.{Version, Ending, is_visible, shows}
+use Rattle.group_book.specs.Book.{Version, Ending, has_ended, is_buffered, is_visible, shows}
+use Rattle.group_book.specs.Book.End.{At}
 use Rattle.group_book.proofs.Keys.{key_here, key_is}
 use Rattle.group_view.specs.declared.view.GroupView.{GroupView}
 use Rattle.group_view.specs.declared.view.Place.{Place}
@@ -149,6 +150,18 @@ module _ (store : List KeyedVersion) (buffer : List Ending) (key : Key) (s : ℕ
   held position version is =
       held_step position version (slice_get store position) refl (ap (option_map (λ (rowed : Rowed). rowed.version)) (sym (slice_get-map stored_version store position)) ∙ is)
 
+  version_held : (position : ℕ) (v : KeyedVersion) → slice_get store position ≡ Some v → version_in (stored_versions store) position ≡ Some (stored_version v).version
+  version_held position v at = ap (option_map (λ (rowed : Rowed). rowed.version)) (slice_get-map stored_version store position ∙ ap (option_map stored_version) at)
+
+  -- a snapshot does not see what had ended by then
+  ended_unseen : (v : KeyedVersion) (commit : ℕ) → commit ≤ s → IsEndedBy commit v → is_visible buffer s (stored_version v).version ≡ true → ⊥
+  ended_unseen v commit le ended seen =
+      let both = and_parts (nat_le v.version.begin s) (not (has_ended s (option_map At v.version.end)) && not (is_buffered buffer v.key v.version.begin s)) seen in
+      let live = and_parts (not (has_ended s (option_map At v.version.end))) (not (is_buffered buffer v.key v.version.begin s)) both.1 in
+      let gone : has_ended s (option_map At v.version.end) ≡ true = ap (λ (o : Option ℕ). has_ended s (option_map At o)) ended.has ∙ le-leb ended.end s (let within = ended.within in omega (arith, le, within)) in
+      let no : not true ≡ true = ap not (sym gone) ∙ live.0 in
+      cc
+
   module _ (place : ℕ) (version : Version) (walk : IsWalk (Some place)) (is : version_in (stored_versions store) place ≡ Some version) where
     pub walk_key : version.key ≡ key
     walk_key = let v = held place version is in sym v.2 ∙ walk.1 v.0 v.1
@@ -163,6 +176,25 @@ module _ (store : List KeyedVersion) (buffer : List Ending) (key : Key) (s : ℕ
           let here : position ≡ place = omega (arith, from, upto) in
           hides_here buffer key s (stored_versions store) place version is unseen (subst (ShowsAt buffer key s (stored_versions store)) here shown)
     ]) (before at earlier)
+
+    -- a walk ends where all versions before have ended by the snapshot
+    pub walk_ends : (commit : ℕ) → is_visible buffer s version ≡ false → AreEndedBefore store place commit → commit ≤ s → HidesAll buffer key s (stored_versions store)
+    walk_ends commit unseen ended le position shown = elim (cases_lt position place) [
+      | inl inside ↦ gone (shown_parts buffer key s (stored_versions store) position shown) inside
+      | inr from ↦ elim (cases_lt place position) [
+        | inl behind ↦ walk.2 position behind shown
+        | inr upto ↦
+            let here : position ≡ place = omega (arith, from, upto) in
+            hides_here buffer key s (stored_versions store) place version is unseen (subst (ShowsAt buffer key s (stored_versions store)) here shown)
+      ]
+    ]
+      where
+        gone : ((other : Version) × (version_in (stored_versions store) position ≡ Some other) × (other.key ≡ key) × (is_visible buffer s other ≡ true)) → position < place → ⊥
+        gone (other, at, own, seen) inside =
+            let v = held place version is in
+            let w = held position other at in
+            ended_unseen w.0 commit le (ended position v.0 w.0 inside v.1 w.1 (w.2 ∙ own ∙ sym (walk.1 v.0 v.1)))
+            (ap (λ (x : Version). is_visible buffer s x) (same_Some _ _ (sym (version_held position w.0 w.1) ∙ at)) ∙ seen)
 
     falls : (at : Option ℕ) → IsLastPlace (take place store) key at → steps_left at < suc place
     falls None last = omega arith

@@ -50,7 +50,7 @@ fn find_stored(store: &Frozen, buffer: &Ends, key: Key, s: u64) -> Option<usize>
 }
 
 /// The position of a version of the key that the snapshot `s` sees in a store, from the place of the key's last version back. None
-/// exactly where it sees none there.
+/// exactly where it sees none there. The walk stops where all versions before have ended by `s`.
 pub fn seen_from(
     store: &Frozen,
     buffer: &Ends,
@@ -66,6 +66,9 @@ pub fn seen_from(
     while let Some(position) = at {
         if stored_version(store, position).is_visible(buffer, s) {
             return Some(position);
+        }
+        if store.ended_by(position) <= s {
+            return None;
         }
         at = store.earlier(position);
     }

@@ -154,6 +154,40 @@ fn snapshots_see_their_versions(rt: HostRuntime) -> Result<(), Fail> {
     Ok(())
 }
 
+/// A store with three versions of a key, the last of them ended by an entry of the buffer.
+fn view_of_versions(alloc: Global) -> Result<GroupView, Memory>
+    ensures { IfOk result (λ view. All (λ group. IsFitting group.1) view.groups) }
+{
+    let mut groups = Items::new(alloc);
+    groups.push((1, stored(alloc, &[(1, 3), (1, 6), (2, 7), (1, 9)])?))?;
+    Ok(GroupView {
+        groups,
+        buffer: buffered(alloc, &[(1, 11)])?,
+        floor: 3,
+        clock: 12,
+    })
+}
+
+#[test]
+fn older_snapshots_see_older_versions(rt: HostRuntime) -> Result<(), Fail> {
+    let view = view_of_versions(rt.alloc())?;
+    for (s, found) in [
+        (2, None),
+        (3, Some(0)),
+        (5, Some(0)),
+        (6, Some(1)),
+        (8, Some(1)),
+        (9, Some(3)),
+        (10, Some(3)),
+        (11, None),
+        (12, None),
+    ] {
+        let place = found.map(|position| Place { group: 0, position });
+        assert_eq!(rt; view.lookup(Key(1), s), place, "at {s}");
+    }
+    Ok(())
+}
+
 /// That the view has these parts, and no others.
 fn expect_parts(rt: &impl Abort, view: GroupView) {
     let GroupView {

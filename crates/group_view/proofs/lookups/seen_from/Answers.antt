@@ -1,7 +1,7 @@
-use Rattle.std.proofs.Common.{◌<◌, sym, subst}
+use Rattle.std.proofs.Common.{◌<◌, sym, subst, arith}
 use Rattle.group_view.specs.Parts.{lived_version, stored_versions}
 use Rattle.group_view.specs.Views.{endings_of}
-use Rattle.group_view.proofs.Finds.{IsWalk, shows_here, steps_left, walk_begins, walk_falls, walk_goes_on, walk_key}
+use Rattle.group_view.proofs.Finds.{IsWalk, shows_here, steps_left, walk_begins, walk_ends, walk_falls, walk_goes_on, walk_key}
 use Rattle.group_view.proofs.lookups.seen_from.Goals as goal
 
 pub loop-at-init : goal.loop-at-init
@@ -29,3 +29,10 @@ loop-at-preserved c =
     let buffer = endings_of c.args.buffer.now in
     let walk = subst (IsWalk store buffer c.args.key c.args.s) c.in-Some.is c.loop-at.invariant in
     walk_goes_on store buffer c.args.key c.args.s c.in-Some.position (lived_version c.stored_version.result) walk c.stored_version.ensures c.earlier-at.result (sym c.if-is_visible.ensures) c.earlier-at.ensures
+
+pub returns-then-ended_by-s-clause-none : goal.returns-then-ended_by-s-clause-none
+returns-then-ended_by-s-clause-none c =
+    let store = c.args.store.now in
+    let buffer = endings_of c.args.buffer.now in
+    let walk = subst (IsWalk store buffer c.args.key c.args.s) c.in-Some.is c.loop-at.invariant in
+    walk_ends store buffer c.args.key c.args.s c.in-Some.position (lived_version c.stored_version.result) walk c.stored_version.ensures c.ended_by.result (sym c.if-is_visible.ensures) c.ended_by.ensures (omega arith)

@@ -1,13 +1,16 @@
 use Rattle.std.proofs.Common.{refl, sym, None}
 use Rattle.std.proofs.lemmas.List.{length-map, map-append}
 use Rattle.delta_store.specs.Places.{keyed_in}
-use Rattle.delta_store.proofs.LinkLemmas.{IsStored-push, ready-push, keyed, ready_dead}
+use Rattle.delta_store.proofs.LinkLemmas.{last_there, IsStored-push, ready-push, keyed, ready_dead}
 use Rattle.delta_store.proofs.store.Delta.insert.Goals as goal
+
+pub ended_after-ended_by-requires : goal.ended_after-ended_by-requires
+ended_after-ended_by-requires c = last_there c.self.inside.chunks.versions c.self.inside.index.pairs c.self.inside.ended c.self.invariant c.args.key c.get-previous.result c.get-previous.ensures
 
 pub invariant_of-self : goal.invariant_of-self
 invariant_of-self c =
     let dead = rw (← c.self.view_is) at c.requires.ended in
-    rw c.push.ensures.versions (IsStored-push c.self.inside.chunks.versions (record { keyed = record { key = c.args.key; version = record { row = c.args.row; begin = c.args.begin; end = None } }; previous = c.get-previous.result }) c.self.inside.index.pairs c.set.new.self.pairs c.self.inside.ended c.self.invariant (rw c.len.ensures at c.set.ensures.pairs) dead c.get-previous.ensures refl)
+    rw c.push.ensures.versions (IsStored-push c.self.inside.chunks.versions (record { keyed = record { key = c.args.key; version = record { row = c.args.row; begin = c.args.begin; end = None } }; previous = c.get-previous.result; ended_by = c.ended_after-ended_by.result }) c.self.inside.index.pairs c.set.new.self.pairs c.self.inside.ended c.self.invariant (rw c.len.ensures at c.set.ensures.pairs) dead c.get-previous.ensures c.ended_after-ended_by.ensures refl)
 
 pub returns-clause-ready : goal.returns-clause-ready
 returns-clause-ready c =
