@@ -114,7 +114,7 @@ placed : {X : Type 0} (entries : List X) (x : X) → Contains entries x → (k :
 placed entries x (k, l, e) = (k, slice_get-get_or entries k x l ∙ ap Some e)
 
 -- a cell that is seen so
-value_at : {X : Type 0} (of : Value → Option X) (cells : List Value) (o : Option X) → Contains (map of cells) o → (v : Value) × Contains cells v × (of v ≡ o)
+pub value_at : {X : Type 0} (of : Value → Option X) (cells : List Value) (o : Option X) → Contains (map of cells) o → (v : Value) × Contains cells v × (of v ≡ o)
 value_at of cells o (k, l, e) =
     let v : Value = get_or cells k Null in
     let there : k < length cells = omega (arith, l, length-map cells of) in

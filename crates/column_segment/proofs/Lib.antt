@@ -5,4 +5,5 @@ mod Kept
 mod Last
 mod Layouts
 mod Orders
+mod RankLemmas
 mod Readings

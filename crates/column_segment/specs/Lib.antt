@@ -4,3 +4,4 @@ pub mod Dicts
 pub mod Bodies
 pub mod Segments
 pub mod Choices
+pub mod Ranks

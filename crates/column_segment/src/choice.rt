@@ -159,19 +159,8 @@ fn number_body(
     dict_body(alloc, dict, codes.as_slice(), by_dict)
 }
 
-/// The best way to keep texts, whose dictionary this is.
-fn text_body(alloc: Global, cells: &[Value], dict: Dict) -> Result<SegmentBody, Memory>
-    requires some { 0 < length cells.now }
-    requires text { HasText cells.now }
-    requires dict { IsDictFor cells.now dict }
-    ensures { IfOk result (IsBest cells.now) }
-{
-    let codes = codes_in(alloc, &dict, cells)?;
-    unscaled_body(alloc, cells, dict, codes.as_slice())
-}
-
 /// The segment of numbers, or of NULLs alone.
-fn number_segment(alloc: Global, cells: &[Value]) -> Result<Segment, Memory>
+pub fn number_segment(alloc: Global, cells: &[Value]) -> Result<Segment, Memory>
     requires some { 0 < length cells.now }
     requires no_text { HasNoText cells.now }
     ensures { IfOk result (λ segment. IsSegmentOf cells.now segment.length segment.body segment.least segment.greatest segment.nulls) }
@@ -200,10 +189,27 @@ fn text_segment(alloc: Global, cells: &[Value]) -> Result<Segment, Memory>
 {
     let texts = texts_in(alloc, cells)?;
     let dict = Dict::Texts(texts_of(alloc, texts.as_slice())?);
+    let codes = codes_in(alloc, &dict, cells)?;
+    dict_segment(alloc, cells, dict, codes.as_slice())
+}
+
+/// The segment of texts, whose dictionary and codes these are.
+pub fn dict_segment(
+    alloc: Global,
+    cells: &[Value],
+    dict: Dict,
+    codes: &[u64],
+) -> Result<Segment, Memory>
+    requires some { 0 < length cells.now }
+    requires text { HasText cells.now }
+    requires dict { IsDictFor cells.now dict }
+    requires codes { AreDictCodes dict cells.now codes.now }
+    ensures { IfOk result (λ segment. IsSegmentOf cells.now segment.length segment.body segment.least segment.greatest segment.nulls) }
+{
     let least = least_in(alloc, &dict)?;
     let greatest = greatest_in(alloc, &dict)?;
     let nulls = has_null(&dict);
-    let body = text_body(alloc, cells, dict)?;
+    let body = unscaled_body(alloc, cells, dict, codes)?;
     Ok(Segment {
         length: cells.len(),
         body,
@@ -214,7 +220,7 @@ fn text_segment(alloc: Global, cells: &[Value]) -> Result<Segment, Memory>
 }
 
 /// Whether a cell of a column is a text. In a column of texts all may be NULL.
-fn holds_text(kind: ColumnType, cells: &[Value]) -> bool
+pub fn holds_text(kind: ColumnType, cells: &[Value]) -> bool
     requires { All (λ cell. IsTrue (is_of_type kind cell)) cells.now }
     ensures text { OnTrue result (HasText cells.now) }
     ensures no_number { OnTrue result (HasNoNumber cells.now) }

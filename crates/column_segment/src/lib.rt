@@ -14,12 +14,14 @@ mod choice;
 mod dict;
 mod laws;
 mod layout;
+mod ranked;
 mod segment;
 
 pub use body::SegmentBody;
 pub use cell::CellRef;
 pub use choice::encode;
 pub use laws::codes_in_order;
+pub use ranked::encode_ranked;
 pub use segment::{Batch, Segment};
 
 #[cfg(test)]

@@ -17,3 +17,4 @@ pub mod ApartLemmas
 pub mod FewLemmas
 pub mod KeyLemmas
 pub mod CellLemmas
+pub mod SegmentLemmas

@@ -1,42 +1,47 @@
-ghost use Rattle.std.specs.Prelude.{◌≡◌, ◌≢◌, ◌<◌, [], All, AllPairs, length, map, slice_index, slice_index_or, IfOk};
+ghost use Rattle.std.specs.Prelude.{◌≡◌, ◌<◌, [], All, length, map, slice_index, slice_index_or, IfOk, IsTrue, IsPermutation};
 ghost use Rattle.std.specs.Bool.{OnTrue};
-ghost use Rattle.cs_types.specs.declared.Column.{Column};
+ghost use Rattle.std.specs.List.{range_with_len};
 ghost use Rattle.cs_types.specs.Kinds.{is_of_type};
+ghost use Rattle.cs_types.specs.Rows.{cell_at};
+ghost use Rattle.cs_types.specs.Values.{value_cmp};
 ghost use Rattle.row_group.specs.Fields.{AreStamps};
-ghost use Rattle.row_group.specs.Arranged.{AreSegmentsOf, KeepColumns, AreKeyCodes, AreNumbers, IsArranged};
+ghost use Rattle.row_group.specs.Orders.{AreRanks};
+ghost use Rattle.row_group.specs.Arranged.{AreSegmentsOf, IsColumnSegment, KeepColumns, AreColumnRanks, AreNumbers, IsArranged};
 
-use crate::arrange::arranged;
+use crate::arrange::{arranged, picked};
 use crate::cells::Cells;
 use crate::order::code_order;
 use crate::packed::Packed;
-use column_segment::{Segment, encode};
+use crate::ranks::Ranks;
+use column_segment::{Segment, encode, encode_ranked};
 use cs_base::{Items, Memory};
-use cs_types::Schema;
+use cs_types::{ColumnType, Schema};
 use std::alloc::Global;
 
-/// The group of rows, at the places of an order in which these are codes of their keys.
+/// The group of rows, at the places of an order, where these are the codes of each column's cells.
 pub fn packed_by(
     alloc: Global,
     schema: &Schema,
     columns: Vec<Cells>,
+    ranks: &[Ranks],
     begins: &[u64],
     order: &[usize],
-    key_codes: &[u64],
     floor: u64,
 ) -> Result<Packed, Memory>
     requires columns { length columns.items ≡ length schema.now.columns }
     requires cells { KeepColumns schema.now columns.items }
     requires key { schema.now.key < length columns.items }
     requires numbers { AreNumbers (slice_index_or columns.items schema.now.key []) (length begins.now) }
-    requires codes { AreKeyCodes (slice_index_or columns.items schema.now.key []) order.now key_codes.now }
-    requires places { All (λ place. place < length begins.now) order.now }
+    requires even { All (λ cells. length cells ≡ length begins.now) columns.items }
+    requires ranks { AreColumnRanks columns.items ranks.now }
+    requires all { IsPermutation (range_with_len 0 (length begins.now)) order.now }
     requires some { 0 < length order.now }
-    requires apart { AllPairs (λ a b. a ≢ b) order.now }
     ensures { IfOk result (λ group. IsArranged columns.items begins.now order.now schema.now.key floor group) }
 {
-    let places = code_order(alloc, key_codes)?;
+    let key_codes = picked(alloc, &ranks[schema.key].codes, order)?;
+    let places = code_order(alloc, &key_codes)?;
     let late = late_of(alloc, begins, order, floor)?;
-    let segments = segments_of(alloc, schema, columns, order)?;
+    let segments = segments_of(alloc, schema, columns, ranks, order)?;
     Ok(Packed {
         segments,
         key: schema.key,
@@ -52,21 +57,46 @@ fn segments_of(
     alloc: Global,
     schema: &Schema,
     columns: Vec<Cells>,
+    ranks: &[Ranks],
     order: &[usize],
 ) -> Result<Items<Segment>, Memory>
     requires counted { length columns.items ≡ length schema.now.columns }
     requires kept { KeepColumns schema.now columns.items }
+    requires ranks { AreColumnRanks columns.items ranks.now }
+    requires all { All (λ cells. IsPermutation (range_with_len 0 (length cells)) order.now) columns.items }
     requires some { 0 < length order.now }
-    requires apart { AllPairs (λ a b. a ≢ b) order.now }
     ensures { IfOk result (λ segments. AreSegmentsOf columns.items order.now segments) }
 {
     let mut segments = Items::new(alloc);
     for cells in columns {
-        let kind = schema.columns.at(segments.len()).kind;
-        let cells = arranged(alloc, cells, order)?;
-        segments.push(encode(alloc, kind, &cells)?)?;
+        let place = segments.len();
+        let kind = schema.columns.at(place).kind;
+        segments.push(segment_of(alloc, kind, cells, &ranks[place], order)?)?;
     }
     Ok(segments)
+}
+
+/// The segment of a column whose cells are put in order: of texts by their codes.
+fn segment_of(
+    alloc: Global,
+    kind: ColumnType,
+    cells: Cells,
+    ranks: &Ranks,
+    order: &[usize],
+) -> Result<Segment, Memory>
+    requires of_type { All (λ cell. IsTrue (is_of_type kind cell)) cells }
+    requires ranks { AreRanks value_cmp cells ranks.now.codes.items ranks.now.count }
+    requires all { IsPermutation (range_with_len 0 (length cells)) order.now }
+    requires some { 0 < length order.now }
+    ensures { IfOk result (λ segment. IsColumnSegment (map (cell_at cells) order.now) segment) }
+{
+    let are_numbers = cells.numbers().is_some();
+    let moved = arranged(alloc, cells, order)?;
+    if are_numbers {
+        return encode(alloc, kind, &moved);
+    }
+    let codes = picked(alloc, &ranks.codes, order)?;
+    encode_ranked(alloc, kind, &moved, &codes, ranks.count)
 }
 
 /// The begins that are not the floor, with their positions in an order. Where all are the floor the order is not read.

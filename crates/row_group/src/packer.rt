@@ -153,8 +153,8 @@ impl Packer {
         }
         raise(&mut begins, floor);
         let alloc = *begins.allocator();
-        let (order, keys) = row_order(alloc, &columns, &begins, schema.key)?;
-        let packed = packed_by(alloc, schema, columns, &begins, &order, &keys, floor)?;
+        let (order, ranks) = row_order(alloc, &columns, &begins)?;
+        let packed = packed_by(alloc, schema, columns, &ranks, &begins, &order, floor)?;
         Ok(Some((packed, order)))
     }
 }

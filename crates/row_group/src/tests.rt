@@ -243,6 +243,80 @@ fn versions_are_kept_in_order(rt: HostRuntime) -> Result<(), Fail> {
     Ok(())
 }
 
+/// Groups with few, many and all different texts, NULL first, between and last among them.
+#[test]
+fn texts_few_many_and_different(rt: HostRuntime) -> Result<(), Fail> {
+    let alloc = rt.alloc();
+    let a = CellRef::Text(b"a");
+    let b = CellRef::Text(b"b");
+    let z = CellRef::Text(b"z");
+    let zz = CellRef::Text(b"zz");
+    check(
+        &rt,
+        alloc,
+        &[
+            ((1, ONE, NULL), 0, None),
+            ((2, ONE, b), 0, None),
+            ((3, ONE, a), 0, None),
+            ((4, ONE, b), 0, None),
+            ((5, ONE, NULL), 0, None),
+            ((6, ONE, a), 0, None),
+            ((7, ONE, b), 0, None),
+            ((8, ONE, a), 0, None),
+            ((9, ONE, NULL), 0, None),
+        ],
+        0,
+        &[
+            ((1, ONE, NULL), 0),
+            ((5, ONE, NULL), 0),
+            ((9, ONE, NULL), 0),
+            ((3, ONE, a), 0),
+            ((6, ONE, a), 0),
+            ((8, ONE, a), 0),
+            ((2, ONE, b), 0),
+            ((4, ONE, b), 0),
+            ((7, ONE, b), 0),
+        ],
+        &[0, 6, 3, 7, 1, 4, 8, 5, 2],
+    )?;
+    check(
+        &rt,
+        alloc,
+        &[
+            ((1, ONE, zz), 0, None),
+            ((2, ONE, a), 0, None),
+            ((3, ONE, z), 0, None),
+            ((4, ONE, a), 0, None),
+            ((5, ONE, b), 0, None),
+        ],
+        0,
+        &[
+            ((2, ONE, a), 0),
+            ((4, ONE, a), 0),
+            ((5, ONE, b), 0),
+            ((3, ONE, z), 0),
+            ((1, ONE, zz), 0),
+        ],
+        &[4, 0, 3, 1, 2],
+    )?;
+    let given = [
+        ((5, ONE, a), 0, None),
+        ((4, ONE, NULL), 0, None),
+        ((3, ONE, z), 0, None),
+        ((2, ONE, b), 0, None),
+        ((1, ONE, zz), 0, None),
+    ];
+    let wanted = [
+        ((1, ONE, zz), 0),
+        ((2, ONE, b), 0),
+        ((3, ONE, z), 0),
+        ((4, ONE, NULL), 0),
+        ((5, ONE, a), 0),
+    ];
+    check(&rt, alloc, &given, 0, &wanted, &[0, 1, 2, 3, 4])?;
+    Ok(())
+}
+
 /// The encoding and the words of a column's segment.
 fn check_segment(rt: &impl Abort, group: &Packed, column: usize, encoding: Encoding, words: u64) {
     assert!(rt; column < group.segments.len());

@@ -11,7 +11,7 @@ mod numbers;
 mod texts;
 
 pub use numbers::{NumberDict, numbers_of};
-pub use texts::{TextDict, texts_of};
+pub use texts::{TextDict, joined_texts, texts_of};
 
 /// The dictionary of a column: of numbers or of texts.
 #[derive(Debug, Drop)]

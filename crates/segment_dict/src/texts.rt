@@ -28,11 +28,11 @@ pub fn texts_of(alloc: Global, cells: &[Option<&[u8]>]) -> Result<TextDict, Memo
     ensures { IfOk result (λ dict. IsDictOf (slice_cmp nat_cmp) (map option_copied cells.now) (texts_in dict.ends dict.bytes) dict.nulls) }
 {
     let texts = distinct(alloc, cells)?;
-    joined(alloc, texts.as_slice(), has_null(cells))
+    joined_texts(alloc, texts.as_slice(), has_null(cells))
 }
 
-/// The dictionary of ascending texts.
-fn joined(alloc: Global, texts: &[&[u8]], nulls: bool) -> Result<TextDict, Memory>
+/// The dictionary of ascending texts, and of NULL too where `nulls`. `Memory` comes where there is no room for it.
+pub fn joined_texts(alloc: Global, texts: &[&[u8]], nulls: bool) -> Result<TextDict, Memory>
     requires { Ascends (slice_cmp nat_cmp) (map (λ text. text.now) texts.now) }
     ensures { IfOk result (λ dict. (texts_in dict.ends dict.bytes ≡ map (λ text. text.now) texts.now) × (dict.nulls ≡ nulls)) }
 {

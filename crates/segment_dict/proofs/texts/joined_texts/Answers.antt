@@ -1,6 +1,6 @@
 use Rattle.std.proofs.Common.{arith, refl, take_all}
 use Rattle.segment_dict.proofs.TextLemmas.{texts_in-more}
-use Rattle.segment_dict.proofs.texts.joined.Goals as goal
+use Rattle.segment_dict.proofs.texts.joined_texts.Goals as goal
 
 pub loop-text-preserved : goal.loop-text-preserved
 loop-text-preserved c =

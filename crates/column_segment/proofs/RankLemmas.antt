@@ -1,0 +1,255 @@
+-- The dictionary of texts by their ranks.
+use Rattle.std.proofs.Common.{◌≡◌, ◌≢◌, ℕ, ◌+◌, ◌-◌, ◌<◌, ◌≤◌, ◌↔◌, ◌⊎◌, inl, inr, List, [], length, map, drop, get_or, set, refl, sym, ◌∙◌, ap, subst, arith, below_more, Bool, true, false, IsTrue, Contains, Option, None, Some, slice_get}
+use Rattle.std.specs.declared.cmp.Ordering.{Ordering}
+use Rattle.std.specs.declared.cmp.Ordering.TheVariants.{Less, Equal, Greater}
+use Rattle.std.specs.Int.{from_bool}
+use Rattle.std.specs.Ordering.{nat_cmp}
+use Rattle.std.specs.Cmp.Lexicographic.{slice_cmp}
+use Rattle.std.proofs.lemmas.Bool.{cases_lt}
+use Rattle.std.proofs.lemmas.Cmp.{ranked, tied_itself, nat_cmp_total}
+use Rattle.std.proofs.lemmas.List.{get_or_default, get_or-drop, get_or-map, length-drop, length-map, length-set, get_or-set_same, get_or-set_other}
+use Rattle.std.proofs.lemmas.Option.{slice_get-get_or, slice_get_within, get_or_from_slice_get, unwrap_or-slice_get}
+use Rattle.cs_types.specs.declared.Value.{Value}
+use Rattle.cs_types.specs.declared.Value.TheVariants.{Null, Number, Text}
+use Rattle.cs_types.specs.Rows.{cell_at}
+use Rattle.cs_types.specs.Values.{value_cmp}
+use Rattle.segment_dict.specs.Dictionaries.{IsDictOf, cell_of, codes_of}
+use Rattle.segment_dict.proofs.Orders.{same_int, same_text}
+use Rattle.column_segment.specs.Cells.{text_of, text_cell, HasText, HasNoNumber}
+use Rattle.column_segment.specs.Ranks.{AreAllBelow, AreCellRanks, AreRankPlaces, text_in}
+use Rattle.column_segment.proofs.Dicts.{own-text}
+use Rattle.column_segment.proofs.Entries.{cell_of-null, cell_of-entry, one_at_most, value_at}
+use Rattle.segment_dict.proofs.Entries.{Contains-place}
+
+-- a rank stands at its place
+abbrev pub Stands : List ℕ → List ℕ → ℕ → Type 0
+Stands ranks places k = (get_or places k 0 < length ranks) × (get_or ranks (get_or places k 0) 0 ≡ k)
+
+-- each of the first n ranks has a place
+pub record ArePlacesBelow (ranks : List ℕ) (count n : ℕ) (places : List ℕ) : Type 0 where
+  pub counted : length places ≡ count
+  pub own : (q : ℕ) → q < n → Stands ranks places (get_or ranks q 0)
+
+cases_same : (a b : ℕ) → (a ≡ b) ⊎ (a ≢ b)
+cases_same a b = elim (cases_lt a b) [
+  | inl less ↦ inr (λ e. absurd (omega (arith, less, e)))
+  | inr high ↦ elim (cases_lt b a) [
+    | inl less ↦ inr (λ e. absurd (omega (arith, less, e)))
+    | inr low ↦ inl (omega (arith, high, low))
+  ]
+]
+
+pub places-more : (ranks places : List ℕ) (count n : ℕ) → AreAllBelow ranks count → n < length ranks → ArePlacesBelow ranks count n places → ArePlacesBelow ranks count (n + 1) (set places (get_or ranks n 0) n)
+places-more ranks places count n dense there are = record {
+  counted = length-set places (get_or ranks n 0) n ∙ are.counted;
+  own = below_more (λ q. Stands ranks (set places (get_or ranks n 0) n) (get_or ranks q 0)) n
+      (λ q l. elim (cases_same (get_or ranks q 0) (get_or ranks n 0)) [
+        | inl e ↦ subst (Stands ranks (set places (get_or ranks n 0) n)) (sym e) here
+        | inr other ↦
+            subst (λ (p : ℕ). (p < length ranks) × (get_or ranks p 0 ≡ get_or ranks q 0))
+            (sym (get_or-set_other places (get_or ranks n 0) (get_or ranks q 0) n 0 other)) (are.own q l)
+      ])
+      here;
+}
+  where
+    here : Stands ranks (set places (get_or ranks n 0) n) (get_or ranks n 0)
+    here =
+        let within : get_or ranks n 0 < length places = omega (arith, dense.below n 0 there, are.counted) in
+        let e = get_or-set_same places (get_or ranks n 0) n 0 within in
+        (omega (arith, e, there), ap (λ p. get_or ranks p 0) e)
+
+pub places-all : (ranks places : List ℕ) (count n : ℕ) → AreAllBelow ranks count → length ranks ≤ n → ArePlacesBelow ranks count n places → AreRankPlaces ranks count places
+places-all ranks places count n dense all are = (
+  are.counted,
+  λ k l.
+      let (i, m, e) = dense.taken k l in
+      subst (Stands ranks places) e (are.own i (omega (arith, m, all))),
+)
+
+same_value : (x y : Value) → value_cmp x y ≡ Equal → x ≡ y
+same_value Null Null e = refl
+same_value Null (Number n) e = cc
+same_value Null (Text u) e = cc
+same_value (Number m) Null e = cc
+same_value (Number m) (Number n) e = ap Number (same_int m n e)
+same_value (Number m) (Text u) e = cc
+same_value (Text t) Null e = cc
+same_value (Text t) (Number n) e = cc
+same_value (Text t) (Text u) e = ap Text (same_text t u e)
+
+nothing-below : (x : Value) → value_cmp x Null ≡ Less → ⊥
+nothing-below Null e = cc
+nothing-below (Number m) e = cc
+nothing-below (Text t) e = cc
+
+number-less : (a b : ℕ) → a < b → nat_cmp a b ≡ Less
+number-less a b l = go (nat_cmp a b) refl
+  where
+    go : (r : Ordering) → nat_cmp a b ≡ r → nat_cmp a b ≡ Less
+    go Less e = e
+    go Equal e = absurd (omega (arith, ranked a b Equal (sym e)))
+    go Greater e = absurd (omega (arith, ranked a b Greater (sym e)))
+
+module _ (cells : List Value) (ranks : List ℕ) (count : ℕ) (are : AreCellRanks cells ranks count) (places : List ℕ) (found : AreRankPlaces ranks count places) (none : HasNoNumber cells) (nulls : Bool) (first : IsTrue nulls ↔ (get_or cells (get_or places 0 0) Null ≡ Null)) (some : 0 < count) where
+  -- the cell of a rank
+  abbrev at : ℕ → Value
+  at k = get_or cells (get_or places k 0) Null
+
+  at-within : (k : ℕ) → k < count → get_or places k 0 < length cells
+  at-within k l = omega (arith, (found.1 k l).0, are.counted)
+
+  at-there : (k : ℕ) → k < count → Contains cells (at k)
+  at-there k l = (get_or places k 0, at-within k l, get_or_default cells (get_or places k 0) (at k) Null (at-within k l))
+
+  -- the cells of ranks stand as the ranks do
+  stand : (j k : ℕ) → j < count → k < count → value_cmp (at j) (at k) ≡ nat_cmp j k
+  stand j k l m =
+      sym (are.agree (get_or places j 0) (get_or places k 0) (at-within j l) (at-within k m))
+      ∙ ap (λ a. nat_cmp a (get_or ranks (get_or places k 0) 0)) (found.1 j l).1 ∙ ap (nat_cmp j) (found.1 k m).1
+
+  rank-below : (i : ℕ) → i < length cells → get_or ranks i 0 < count
+  rank-below i l = are.dense.below i 0 (omega (arith, l, are.counted))
+
+  -- each cell is that of its rank
+  own-cell : (i : ℕ) → i < length cells → get_or cells i Null ≡ at (get_or ranks i 0)
+  own-cell i l =
+      let k = get_or ranks i 0 in
+      let m = rank-below i l in
+      same_value (get_or cells i Null) (at k)
+      (sym (are.agree i (get_or places k 0) l (at-within k m)) ∙ ap (nat_cmp k) (found.1 k m).1 ∙ tied_itself nat_cmp_total k)
+
+  no_flag : from_bool nulls ≤ 0 → IsTrue nulls → ⊥
+  no_flag low t = go nulls low t
+    where
+      go : (b : Bool) → from_bool b ≤ 0 → IsTrue b → ⊥
+      go true l h = absurd (omega (arith, l))
+      go false l h = cc
+
+  flag : (k : ℕ) → k < from_bool nulls → IsTrue nulls × (k ≡ 0)
+  flag k l = go nulls l
+    where
+      go : (b : Bool) → k < from_bool b → IsTrue b × (k ≡ 0)
+      go true m = (refl, omega (arith, m))
+      go false m = absurd (omega (arith, m))
+
+  -- past NULL's rank there are texts alone
+  not_null : (k : ℕ) → k < count → from_bool nulls ≤ k → at k ≢ Null
+  not_null k l past e = elim (cases_lt 0 k) [
+    | inl later ↦ nothing-below (at 0) (ap (value_cmp (at 0)) (sym e) ∙ stand 0 k some l ∙ number-less 0 k later)
+    | inr zero_rank ↦
+        let is : k ≡ 0 = omega (arith, zero_rank) in
+        no_flag (omega (arith, past, is)) (first.1 (ap at (sym is) ∙ e))
+  ]
+
+  is_text : (k : ℕ) → k < count → from_bool nulls ≤ k → at k ≡ Text (text_in (at k))
+  is_text k l past = go (at k) (own-text cells none (at k) (at-there k l)) (not_null k l past)
+    where
+      go : (v : Value) → text_cell (text_of v) ≡ v → v ≢ Null → v ≡ Text (text_in v)
+      go Null own ne = absurd (ne refl)
+      go (Number n) own ne = cc
+      go (Text t) own ne = refl
+
+  null-at : (k : ℕ) → k < from_bool nulls → at k ≡ Null
+  null-at k l = let (t, z) = flag k l in ap at z ∙ first.0 t
+
+  -- the texts from NULL's rank on
+  abbrev entries : List (List ℕ)
+  entries = map (λ place. text_in (cell_at cells place)) (drop (from_bool nulls) places)
+
+  length-entries : length entries + from_bool nulls ≡ count
+  length-entries =
+      omega (arith, length-map (drop (from_bool nulls) places) (λ place. text_in (cell_at cells place)), length-drop (from_bool nulls) places, found.0, one_at_most nulls, some)
+
+  entry-at : (j : ℕ) → from_bool nulls + j < count → slice_get entries j ≡ Some (text_in (at (from_bool nulls + j)))
+  entry-at j l =
+      let low : j < length (drop (from_bool nulls) places) = omega (arith, l, length-drop (from_bool nulls) places, found.0) in
+      let here : j < length entries = omega (arith, l, length-entries) in
+      slice_get-get_or entries j [] here
+      ∙ ap Some (get_or-map (λ place. text_in (cell_at cells place)) (drop (from_bool nulls) places) j 0 [] low
+      ∙ ap (λ p. text_in (cell_at cells p)) (get_or-drop (from_bool nulls) places j 0)
+      ∙ ap text_in (unwrap_or-slice_get cells (get_or places (from_bool nulls + j) 0) Null))
+
+  -- the code of a text is its rank
+  coded : (k : ℕ) → k < count → cell_of entries nulls k ≡ text_of (at k)
+  coded k l = elim (cases_lt k (from_bool nulls)) [
+    | inl null ↦ cell_of-null entries nulls k null ∙ sym (ap text_of (null-at k null))
+    | inr past ↦
+        let back : from_bool nulls + (k - from_bool nulls) ≡ k = omega (arith, past) in
+        cell_of-entry entries nulls k past ∙ entry-at (k - from_bool nulls) (omega (arith, back, l)) ∙ ap (λ j. Some (text_in (at j))) back
+        ∙ sym (ap text_of (is_text k l past))
+  ]
+
+  pub codes-ranked : (length ranks ≡ length cells) × ((i : ℕ) (cell : Value) → slice_get cells i ≡ Some cell → (get_or ranks i 0 < codes_of entries nulls) × (text_cell (cell_of entries nulls (get_or ranks i 0)) ≡ cell))
+  codes-ranked = (
+    are.counted,
+    λ i cell e.
+        let l = slice_get_within cells i cell e in
+        let k = get_or ranks i 0 in
+        let m = rank-below i l in (
+          omega (arith, m, length-entries),
+          ap text_cell (coded k m) ∙ own-text cells none (at k) (at-there k m) ∙ sym (own-cell i l) ∙ get_or_from_slice_get cells i cell Null e,
+        ),
+  )
+
+  seen-text : (k : ℕ) → k < count → Contains (map text_of cells) (text_of (at k))
+  seen-text k l =
+      let p = get_or places k 0 in
+      (p, omega (arith, at-within k l, length-map cells text_of), get_or-map text_of cells p Null (text_of (at k)) (at-within k l))
+
+  -- the rank of a cell that is seen so
+  rank-of : (o : Option (List ℕ)) → Contains (map text_of cells) o → (k : ℕ) × (k < count) × (text_of (at k) ≡ o)
+  rank-of o has =
+      let (v, (i, l, e), f) = value_at text_of cells o has in
+      (get_or ranks i 0, rank-below i l, ap text_of (sym (own-cell i l) ∙ get_or_default cells i Null v l ∙ e) ∙ f)
+
+  pub dict-ranked : IsDictOf (slice_cmp nat_cmp) (map text_of cells) entries nulls
+  dict-ranked = record {
+    ascending = λ i j d less there.
+        let n = from_bool nulls in
+        let m : n + j < count = omega (arith, there, length-entries) in
+        let l : n + i < count = omega (arith, less, m) in
+        let a = text_in (at (n + i)) in
+        let b = text_in (at (n + j)) in
+        ap (λ x. slice_cmp nat_cmp x (get_or entries j d)) (get_or_from_slice_get entries i a d (entry-at i l))
+        ∙ ap (slice_cmp nat_cmp a) (get_or_from_slice_get entries j b d (entry-at j m))
+        ∙ sym (ap (λ x. value_cmp x (at (n + j))) (is_text (n + i) l (omega arith)) ∙ ap (value_cmp (Text a)) (is_text (n + j) m (omega arith)))
+        ∙ stand (n + i) (n + j) l m ∙ number-less (n + i) (n + j) (omega (arith, less));
+    same = λ x. (from_entry x, to_entry x);
+    null = (null_cell, null_flag);
+  }
+    where
+      from_entry : (x : List ℕ) → Contains entries x → Contains (map text_of cells) (Some x)
+      from_entry x (j, l, e) =
+          let k = from_bool nulls + j in
+          let m : k < count = omega (arith, l, length-entries) in
+          let is : text_in (at k) ≡ x = sym (get_or_from_slice_get entries j (text_in (at k)) x (entry-at j m)) ∙ e in
+          subst (Contains (map text_of cells)) (ap text_of (is_text k m (omega arith)) ∙ ap Some is) (seen-text k m)
+
+      to_entry : (x : List ℕ) → Contains (map text_of cells) (Some x) → Contains entries x
+      to_entry x has =
+          let (k, l, e) = rank-of (Some x) has in
+          elim (cases_lt k (from_bool nulls)) [
+            | inl null ↦ absurd (none_some (sym (ap text_of (null-at k null)) ∙ e))
+            | inr past ↦ Contains-place entries x (k - from_bool nulls) (sym (cell_of-entry entries nulls k past) ∙ coded k l ∙ e)
+          ]
+        where
+          none_some : None ≡ Some x → ⊥
+          none_some f = cc
+
+      null_cell : IsTrue nulls → Contains (map text_of cells) None
+      null_cell t = subst (Contains (map text_of cells)) (ap text_of (first.0 t)) (seen-text 0 some)
+
+      null_flag : Contains (map text_of cells) None → IsTrue nulls
+      null_flag has =
+          let (k, l, e) = rank-of None has in
+          elim (cases_lt k (from_bool nulls)) [
+            | inl null ↦ (flag k null).0
+            | inr past ↦ absurd (some_none (text_in (at k)) (sym (ap text_of (is_text k l past)) ∙ e))
+          ]
+        where
+          some_none : (t : List ℕ) → Some t ≡ None → ⊥
+          some_none t f = cc
+
+-- where a cell is a text, there is a rank
+pub some-rank : (cells : List Value) (ranks : List ℕ) (count : ℕ) → AreCellRanks cells ranks count → HasText cells → 0 < count
+some-rank cells ranks count are (k, v, l, e, text) = omega (arith, are.dense.below k 0 (omega (arith, l, are.counted)))
