@@ -7,3 +7,4 @@ pub mod VerdictLemmas
 pub mod SpanLemmas
 pub mod SieveLemmas
 pub mod CellLemmas
+pub mod AmongLemmas

@@ -146,3 +146,7 @@ batch_within xs from count start there i starts counts = ⊎_elim
     ∙ and_false (nat_lt i count)
     ∙ ap (λ b. nat_lt i count && b) (sym (get_or_past xs (from + i) false past)))
     (cases_lt (from + i) (length xs))
+
+-- places from one on are narrowed alike by another test that answers alike
+pub narrowed_at_alike : (from count : ℕ) (test other : ℕ → Bool) (old new : List Bool) → ((i : ℕ) → i < count → test i ≡ other i) → IsNarrowedAt from count test old new → IsNarrowedAt from count other old new
+narrowed_at_alike from count test other old new alike is = (is.0, (λ i l. is.1 i l ∙ ap (λ b. slice_index_or old (from + i) false && b) (alike i l)), is.2)

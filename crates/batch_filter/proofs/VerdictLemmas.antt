@@ -12,10 +12,10 @@ use Rattle.cs_model.specs.declared.pred.Relation.{Relation}
 use Rattle.cs_model.specs.declared.pred.Pred.{Pred}
 use Rattle.cs_model.specs.declared.pred.Pred.TheOpen.{Pred-F}
 use Rattle.cs_model.specs.declared.pred.Pred.TheFolds.{fold-roll-Pred}
-use Rattle.cs_model.specs.declared.pred.Pred.TheVariants.{AnyOf, AllOf, Not, Compare, Between, IsNull, rolls-AnyOf, rolls-AllOf, rolls-Not, rolls-Compare, rolls-Between, rolls-IsNull}
+use Rattle.cs_model.specs.declared.pred.Pred.TheVariants.{AnyOf, AllOf, Not, Compare, Between, Among, IsNull, rolls-AnyOf, rolls-AllOf, rolls-Not, rolls-Compare, rolls-Between, rolls-Among, rolls-IsNull}
 use Rattle.cs_model.specs.declared.truth.Truth.{Truth}
 use Rattle.cs_model.specs.declared.truth.Truth.TheVariants.{True, False, Unknown}
-use Rattle.cs_model.specs.Truths.{truth, truth_step, operand_of, and, or, not, not_if, any_of, all_of, compare, between, truth_if, is_null}
+use Rattle.cs_model.specs.Truths.{truth, truth_step, operand_of, and, or, not, not_if, any_of, all_of, compare, between, among, truth_if, is_null}
 use Rattle.row_group.specs.Groups.{Group, row_at}
 use Rattle.batch_filter.specs.Sieves.{is_asked, asks}
 
@@ -41,7 +41,7 @@ false-all (t ∷ ts) = one t (all_of ts) ∙ ap (λ b. is_asked false t || b) (f
     one Unknown False = refl
     one Unknown Unknown = refl
 
-true-any : (ts : List Truth) → is_asked true (any_of ts) ≡ list_any (is_asked true) ts
+pub true-any : (ts : List Truth) → is_asked true (any_of ts) ≡ list_any (is_asked true) ts
 true-any [] = refl
 true-any (t ∷ ts) = one t (any_of ts) ∙ ap (λ b. is_asked true t || b) (true-any ts)
   where
@@ -63,7 +63,7 @@ false-any (t ∷ ts) = one t (any_of ts) ∙ ap (λ b. is_asked false t && b) (f
     one Unknown False = refl
     one Unknown Unknown = refl
 
-list_any-map : {X Y : Type 0} (p : X → Bool) (h : Y → X) (ys : List Y) → list_any p (map h ys) ≡ list_any (λ y. p (h y)) ys
+pub list_any-map : {X Y : Type 0} (p : X → Bool) (h : Y → X) (ys : List Y) → list_any p (map h ys) ≡ list_any (λ y. p (h y)) ys
 list_any-map p h [] = refl
 list_any-map p h (y ∷ ys) = ap (λ b. p (h y) || b) (list_any-map p h ys)
 
@@ -100,6 +100,9 @@ module _ (schema : Schema) (row : List Value) where
 
   pub truth-between : (i : ℕ) (negated : Bool) (low high : Loose) → truth (Between i negated low high) row schema ≡ not_if negated (between low high (loose_at schema row i))
   truth-between i negated low high = ap (λ p. truth p row schema) (sym (rolls-Between i negated low high)) ∙ fold-roll-Pred Truth (truth_step schema row) (Pred-F.Between i negated low high)
+
+  pub truth-among : (i : ℕ) (negated : Bool) (list : List Loose) → truth (Among i negated list) row schema ≡ not_if negated (among (loose_at schema row i) list)
+  truth-among i negated list = ap (λ p. truth p row schema) (sym (rolls-Among i negated list)) ∙ fold-roll-Pred Truth (truth_step schema row) (Pred-F.Among i negated list)
 
   pub truth-null : (i : ℕ) (negated : Bool) → truth (IsNull i negated) row schema ≡ not_if negated (truth_if (is_null (loose_at schema row i)))
   truth-null i negated = ap (λ p. truth p row schema) (sym (rolls-IsNull i negated)) ∙ fold-roll-Pred Truth (truth_step schema row) (Pred-F.IsNull i negated)

@@ -15,6 +15,7 @@ ghost use Rattle.cs_model.specs.Truths as model;
 ghost use Rattle.std.specs.Bool.{OnTrue, OnFalse};
 ghost use Rattle.batch_filter.specs.Sieves.{asks};
 
+use crate::among::listed;
 use crate::choice::Choice;
 use crate::cut::Codes;
 use crate::named::lone_column;
@@ -125,15 +126,38 @@ fn table_of(
     Ok(table)
 }
 
-/// The codes of a column that a predicate takes which names no other one: a range, or a table where there are at most `most`
-/// codes. None where it is neither.
+/// The same. The constants of an IN are looked up among the codes; any other form is judged code by code.
+fn table_by_codes(
+    alloc: Global,
+    pred: &Pred,
+    column: usize,
+    holds: bool,
+    codes: Codes,
+    segment: &Segment,
+    schema: &Schema,
+) -> Result<Items<bool>, Memory>
+    requires room { codes.last + 1 < 2 ^ 64 }
+    requires codes { AreCodes segment.now.body codes.first codes.last }
+    requires kind { (value : Cell) → loose_in (slice_get schema.now.columns column) value ≡ loose_of codes.kind value }
+    requires lone { list_all (λ i. i == column) (named pred.now) ≡ true }
+    ensures length { IfOk result (λ table. length table ≡ codes.last + 1) }
+    ensures judges { IfOk result (λ table. Judges schema.now pred.now holds column segment.now.body codes.last (λ code. slice_index_or table code false)) }
+{
+    match listed(pred, column, holds) {
+        Some(list) => codes.among(alloc, segment, list),
+        None => table_of(alloc, pred, column, holds, codes.last, segment, schema),
+    }
+}
+
+/// The codes of a column that a predicate takes which names no other one: a range, or a table where there are at most as many codes
+/// as the mask chooses places. None where it is neither.
 fn choice_of(
     alloc: Global,
     pred: &Pred,
     column: usize,
     holds: bool,
     codes: Codes,
-    most: u64,
+    mask: &[bool],
     segment: &Segment,
     schema: &Schema,
 ) -> Result<Option<Choice>, Memory>
@@ -147,10 +171,10 @@ fn choice_of(
     if let Some(span) = span_of(pred, column, holds, codes, segment, schema) {
         return Ok(Some(Choice::Span(span)));
     }
-    if codes.last >= most {
+    if codes.last >= chosen(mask, mask.len()) {
         return Ok(None);
     }
-    let table = table_of(alloc, pred, column, holds, codes.last, segment, schema)?;
+    let table = table_by_codes(alloc, pred, column, holds, codes, segment, schema)?;
     Ok(Some(Choice::Table(table)))
 }
 
@@ -179,8 +203,7 @@ fn narrow_column(
         return Ok(false);
     }
     let codes = Codes::of(found.kind, segment);
-    let most = chosen(mask, mask.len());
-    match choice_of(alloc, pred, column, holds, codes, most, segment, schema)? {
+    match choice_of(alloc, pred, column, holds, codes, mask, segment, schema)? {
         Some(choice) => {
             choice.narrow(segment, mask);
             Ok(true)

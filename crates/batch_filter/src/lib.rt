@@ -8,6 +8,7 @@
 //! SIGMOD 2011, describe segment elimination and filters on encoded columns.
 #![tactic(auto)]
 
+mod among;
 mod bounds;
 mod choice;
 mod column;
@@ -15,6 +16,7 @@ mod cut;
 mod laws;
 mod named;
 mod narrow;
+mod sides;
 mod sieve;
 mod skip;
 

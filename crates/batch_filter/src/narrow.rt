@@ -6,10 +6,10 @@ ghost use Rattle.batch_kernels.specs.Masks.{IsNarrowed};
 ghost use Rattle.batch_filter.specs.Sieves.{asks};
 
 use crate::column::{is_asked, narrow_by_codes};
+use crate::sides::truth_at;
 use batch_kernels::{keep_where, put_found};
 use cs_base::Memory;
 use cs_model::Pred;
-use cs_predicate::truth;
 use cs_types::Schema;
 use row_group::Packed;
 use std::alloc::Global;
@@ -30,8 +30,8 @@ fn still_asked(
     if !wanted {
         return Ok(false);
     }
-    let row = packed.row(position)?;
-    Ok(is_asked(holds, truth(pred, &row, schema)))
+    let found = truth_at(pred, packed, schema, position)?;
+    Ok(is_asked(holds, found))
 }
 
 /// Keeps of the mask's places those where the row makes the predicate the truth that is asked for.

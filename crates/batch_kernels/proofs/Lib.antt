@@ -1,1 +1,4 @@
 pub mod OneMore
+pub mod Lone
+pub mod Batches
+pub mod Blocks

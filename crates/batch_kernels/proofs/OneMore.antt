@@ -71,9 +71,9 @@ fold-count n (x ∷ xs) =
 stepped : {A : Type 0} (mask : List Bool) (keys : List ℕ) (step : A → ℕ → A) (old now : List A) (n k : ℕ) (v d : A) (chosen is_key : Bool) →
     (slice_index keys n == k) ≡ is_key →
     slice_index keys n < length now → v ≡ cond chosen (step (slice_index_or now (slice_index keys n) d) n) (slice_index_or now (slice_index keys n) d) →
-    slice_index_or now k d ≡ fold step (slice_index_or old k d) (places_with mask keys k n) →
+    slice_index_or now k d ≡ fold step (slice_index_or old k d) (places_with mask (slice_index keys) k n) →
     slice_index_or (slice_set now (slice_index keys n) v) k d
-    ≡ cond (chosen && is_key) (step (fold step (slice_index_or old k d) (places_with mask keys k n)) n) (fold step (slice_index_or old k d) (places_with mask keys k n))
+    ≡ cond (chosen && is_key) (step (fold step (slice_index_or old k d) (places_with mask (slice_index keys) k n)) n) (fold step (slice_index_or old k d) (places_with mask (slice_index keys) k n))
 stepped mask keys step old now n k v d true true e within is before =
     let same : slice_index keys n ≡ k = eqb-true (slice_index keys n) k e in
     get_or-set_at now (slice_index keys n) k v d (sym same) within
@@ -91,8 +91,8 @@ stepped mask keys step old now n k v d false false e within is before =
 pub table-more : {A : Type 0} (mask : List Bool) (keys : List ℕ) (step : A → ℕ → A) (old now : List A) (n : ℕ) (v d : A) →
     slice_index keys n < length now →
     v ≡ cond (slice_index_or mask n false) (step (slice_index_or now (slice_index keys n) d) n) (slice_index_or now (slice_index keys n) d) →
-    ((k : ℕ) → k < length now → slice_index_or now k d ≡ fold step (slice_index_or old k d) (places_with mask keys k n)) →
-    (k : ℕ) → k < length now → slice_index_or (slice_set now (slice_index keys n) v) k d ≡ fold step (slice_index_or old k d) (places_with mask keys k (n + 1))
+    ((k : ℕ) → k < length now → slice_index_or now k d ≡ fold step (slice_index_or old k d) (places_with mask (slice_index keys) k n)) →
+    (k : ℕ) → k < length now → slice_index_or (slice_set now (slice_index keys n) v) k d ≡ fold step (slice_index_or old k d) (places_with mask (slice_index keys) k (n + 1))
 table-more mask keys step old now n v d within is before k there =
     stepped mask keys step old now n k v d (slice_index_or mask n false) (slice_index keys n == k) refl within is (before k there)
     ∙ sym (fold-more (λ i. slice_index_or mask i false && slice_index keys i == k) step (slice_index_or old k d) n)
@@ -156,11 +156,11 @@ sum_table_stepped mask keys now i sum k m false e within bound is =
 -- the sums of a table, with one written at the key of one place more
 pub sum-table-bound : (mask : List Bool) (keys : List ℕ) (now : List ℤ) (i : ℕ) (sum : ℤ) (k n : ℕ) →
     slice_index keys i < length now → ((n : ℕ) → IsSumOf n (slice_index_or now (slice_index keys i) (pos 0)) → IsSumOf (n + bool_byte (slice_index_or mask i false)) sum) →
-    IsSumOf (n + length (places_with mask keys k i)) (slice_index_or now k (pos 0)) →
-    IsSumOf (n + length (places_with mask keys k (i + 1))) (slice_index_or (slice_set now (slice_index keys i) sum) k (pos 0))
+    IsSumOf (n + length (places_with mask (slice_index keys) k i)) (slice_index_or now k (pos 0)) →
+    IsSumOf (n + length (places_with mask (slice_index keys) k (i + 1))) (slice_index_or (slice_set now (slice_index keys i) sum) k (pos 0))
 sum-table-bound mask keys now i sum k n within bound is =
-    let more : length (places_with mask keys k (i + 1)) ≡ length (places_with mask keys k i) + cond (slice_index_or mask i false && slice_index keys i == k) 1 0
+    let more : length (places_with mask (slice_index keys) k (i + 1)) ≡ length (places_with mask (slice_index keys) k i) + cond (slice_index_or mask i false && slice_index keys i == k) 1 0
     = count-more (λ j. slice_index_or mask j false && slice_index keys j == k) i in
-    IsSumOf-same (n + length (places_with mask keys k i) + cond (slice_index_or mask i false && slice_index keys i == k) 1 0) (n + length (places_with mask keys k (i + 1)))
+    IsSumOf-same (n + length (places_with mask (slice_index keys) k i) + cond (slice_index_or mask i false && slice_index keys i == k) 1 0) (n + length (places_with mask (slice_index keys) k (i + 1)))
     (slice_index_or (slice_set now (slice_index keys i) sum) k (pos 0)) (omega (arith, more))
-    (sum_table_stepped mask keys now i sum k (n + length (places_with mask keys k i)) (slice_index keys i == k) refl within bound is)
+    (sum_table_stepped mask keys now i sum k (n + length (places_with mask (slice_index keys) k i)) (slice_index keys i == k) refl within bound is)

@@ -1,5 +1,5 @@
 -- Masks: a bool for each place, true where the place is chosen.
-use Rattle.std.specs.Prelude.{◌≡◌, ◌⊎◌, ◌+◌, ◌<◌, ◌≤◌, ℕ, nat_le, nat_lt, Bool, true, not, ◌&&◌, ◌||◌, List, length, slice_index_or, false, if◌then◌else◌}
+use Rattle.std.specs.Prelude.{◌≡◌, ◌⊎◌, ◌+◌, ◌<◌, ◌≤◌, ℕ, nat_le, Bool, not, ◌&&◌, List, length, slice_index_or, false, if◌then◌else◌}
 use Rattle.batch_kernels.specs.declared.masks.Span.{Span}
 
 -- a bool, or turned round

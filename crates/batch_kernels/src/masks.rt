@@ -1,5 +1,5 @@
 // Masks: a bool for each place, true where the place is chosen.
-ghost use Rattle.std.specs.Prelude.{◌≡◌, ℕ, ◌+◌, ◌<◌, ◌≤◌, ◌^◌, ◌&&◌, ◌||◌, nat_le, nat_lt, length, slice_index, slice_index_or, false};
+ghost use Rattle.std.specs.Prelude.{◌≡◌, ℕ, ◌+◌, ◌<◌, ◌≤◌, ◌^◌, ◌&&◌, ◌||◌, nat_le, nat_lt, length, slice_index, slice_index_or, true, false};
 ghost use Rattle.std.specs.List.{list_any};
 ghost use Rattle.batch_kernels.specs.Masks.{IsNarrowedAt, in_span, same_as};
 ghost use Rattle.batch_kernels.specs.Places.{places};
@@ -30,6 +30,26 @@ impl Span {
             inside,
         }
     }
+
+    /// Whether a code is one of them.
+    pub fn has(self, code: u64) -> bool
+        ensures { result ≡ in_span self code }
+    {
+        let in_range = (self.least <= code) & (code <= self.greatest);
+        (self.first <= code) & (in_range == self.inside)
+    }
+
+    /// Where those below a count lie: from the first number on, and below the second.
+    fn reach(self, count: usize) -> (usize, usize)
+        ensures within { result.1 ≤ count }
+        ensures between { (code : ℕ) → code < count → in_span self code ≡ true → (result.0 ≤ code) × (code < result.1) }
+    {
+        if !self.inside {
+            return (0, count);
+        }
+        let end = self.greatest.saturating_add(1).min(count as u64);
+        (self.first.max(self.least) as usize, end as usize)
+    }
 }
 
 /// The least and the greatest code that are at least `from` and below `to`. The greatest is below the least where there is none.
@@ -49,10 +69,42 @@ pub fn narrow_in_span(codes: &[u64; 1024], count: usize, span: Span, from: usize
     requires within { from + count ≤ length mask.old }
     ensures { IsNarrowedAt from count (λ i. in_span span (slice_index codes.now i)) mask.old mask.new }
 {
+    let least = span.first.max(span.least);
+    if span.inside && least <= span.greatest {
+        narrow_in_range(codes, count, least, span.greatest, from, mask);
+    } else {
+        narrow_by_span(codes, count, span, from, mask);
+    }
+}
+
+/// The same, by the test of the span.
+fn narrow_by_span(codes: &[u64; 1024], count: usize, span: Span, from: usize, mask: &mut [bool])
+    requires room { count ≤ 1024 }
+    requires within { from + count ≤ length mask.old }
+    ensures { IsNarrowedAt from count (λ i. in_span span (slice_index codes.now i)) mask.old mask.new }
+{
     for i in 0..count {
-        let code = codes[i];
-        let in_range = (span.least <= code) & (code <= span.greatest);
-        mask[from + i] = mask[from + i] & (span.first <= code) & (in_range == span.inside);
+        mask[from + i] = mask[from + i] & span.has(codes[i]);
+    }
+}
+
+/// The same of a range of codes, which has a code. Below the least one the distance to it wraps round, so one comparison tells.
+fn narrow_in_range(
+    codes: &[u64; 1024],
+    count: usize,
+    least: u64,
+    greatest: u64,
+    from: usize,
+    mask: &mut [bool],
+)
+    requires room { count ≤ 1024 }
+    requires within { from + count ≤ length mask.old }
+    requires some { least ≤ greatest }
+    ensures { IsNarrowedAt from count (λ i. nat_le least (slice_index codes.now i) && nat_le (slice_index codes.now i) greatest) mask.old mask.new }
+{
+    let width = greatest - least;
+    for i in 0..count {
+        mask[from + i] = mask[from + i] & (codes[i].wrapping_sub(least) <= width);
     }
 }
 
@@ -105,13 +157,56 @@ pub fn put_found(left: &[bool], found: &mut [bool])
     }
 }
 
+/// Chooses the first `count` places of a batch, and no other.
+pub fn choose_first(count: usize, batch: &mut [bool; 1024])
+    requires { count ≤ 1024 }
+    ensures { (i : ℕ) → i < 1024 → slice_index_or batch.new i false ≡ nat_lt i count }
+{
+    for i in 0..count {
+        batch[i] = true;
+    }
+    drop_from(count, batch);
+}
+
+/// Leaves the first `count` places of a batch as they are, and no other is chosen.
+fn drop_from(count: usize, batch: &mut [bool; 1024])
+    ensures { (i : ℕ) → i < 1024 → slice_index_or batch.new i false ≡ (nat_lt i count && slice_index_or batch.old i false) }
+{
+    for i in count..1024 {
+        batch[i] = false;
+    }
+}
+
 /// Writes the `count` places from one on into the first places of a batch, and no other place of the batch is chosen.
 pub fn put_batch(mask: &[bool], from: usize, count: usize, batch: &mut [bool; 1024])
     requires { from + count ≤ length mask.now }
     ensures { (i : ℕ) → i < 1024 → slice_index_or batch.new i false ≡ (nat_lt i count && slice_index_or mask.now (from + i) false) }
 {
-    for i in 0..1024 {
-        batch[i] = i < count && mask[from + i];
+    let there = count.min(1024);
+    for i in 0..there {
+        batch[i] = mask[from + i];
+    }
+    drop_from(there, batch);
+}
+
+/// Adds to a table, a bool for each code, the codes of a span.
+pub fn put_span(span: Span, table: &mut [bool])
+    ensures length { length table.new ≡ length table.old }
+    ensures put { (code : ℕ) → code < length table.old → slice_index_or table.new code false ≡ (slice_index_or table.old code false || in_span span code) }
+{
+    let (from, to) = span.reach(table.len());
+    for code in from..to {
+        table[code] = table[code] | span.has(code as u64);
+    }
+}
+
+/// Of the `count` places from one on, keeps none.
+pub fn keep_none(from: usize, count: usize, mask: &mut [bool])
+    requires { from + count ≤ length mask.old }
+    ensures { IsNarrowedAt from count (λ _. false) mask.old mask.new }
+{
+    for i in 0..count {
+        mask[from + i] = false;
     }
 }
 
@@ -119,7 +214,11 @@ pub fn put_batch(mask: &[bool], from: usize, count: usize, batch: &mut [bool; 10
 pub fn has_chosen(mask: &[bool]) -> bool
     ensures { result ≡ list_any (λ chosen. chosen) mask.now }
 {
-    mask.iter().any(|chosen| *chosen)
+    let mut found = false;
+    for chosen in mask {
+        found |= *chosen;
+    }
+    found
 }
 
 /// How many of the first `count` places are chosen.

@@ -6,7 +6,7 @@ ghost use Rattle.batch_kernels.specs.Places.{IsSumOf};
 #[inline(always)]
 pub fn with_number(sum: i128, number: i64, inside: u64) -> i128
     requires inside { inside < 2 }
-    requires small { IsSumOf 4611686018427388928 sum }
+    requires small { IsSumOf 4611686018427389952 sum }
     ensures inside { inside ≡ 1 → result ≡ sum +ℤ number }
     ensures outside { inside ≡ 0 → result ≡ sum }
     ensures bound { (n : ℕ) → IsSumOf n sum → IsSumOf (n + inside) result }

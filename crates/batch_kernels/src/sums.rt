@@ -5,9 +5,11 @@ ghost use Rattle.batch_kernels.specs.Places.{places, sum_with, least_with, great
 use crate::steps::{greater, lesser, with_number};
 
 /// Adds the numbers at the chosen of the first `count` places to a sum.
-pub fn sum_chosen(numbers: &[i64; 1024], mask: &[bool; 1024], count: usize, sum: i128) -> i128
+pub fn sum_chosen(numbers: &[i64], mask: &[bool], count: usize, sum: i128) -> i128
     requires room { count ≤ 1024 }
-    requires small { IsSumOf 4611686018427387904 sum }
+    requires numbers { count ≤ length numbers.now }
+    requires mask { count ≤ length mask.now }
+    requires small { IsSumOf 4611686018427388928 sum }
     ensures sum { result ≡ sum_with sum numbers.now (places mask.now count) }
     ensures bound { (n : ℕ) → IsSumOf n sum → IsSumOf (n + length (places mask.now count)) result }
 {
@@ -20,8 +22,9 @@ pub fn sum_chosen(numbers: &[i64; 1024], mask: &[bool; 1024], count: usize, sum:
 }
 
 /// The least of a number and the codes at the chosen of the first `count` places.
-pub fn least_chosen(codes: &[u64; 1024], mask: &[bool; 1024], count: usize, least: u64) -> u64
-    requires { count ≤ 1024 }
+pub fn least_chosen(codes: &[u64], mask: &[bool], count: usize, least: u64) -> u64
+    requires codes { count ≤ length codes.now }
+    requires mask { count ≤ length mask.now }
     ensures { result ≡ least_with least codes.now (places mask.now count) }
 {
     let mut all = least;
@@ -33,8 +36,9 @@ pub fn least_chosen(codes: &[u64; 1024], mask: &[bool; 1024], count: usize, leas
 }
 
 /// The greatest of a number and the codes at the chosen of the first `count` places.
-pub fn greatest_chosen(codes: &[u64; 1024], mask: &[bool; 1024], count: usize, greatest: u64) -> u64
-    requires { count ≤ 1024 }
+pub fn greatest_chosen(codes: &[u64], mask: &[bool], count: usize, greatest: u64) -> u64
+    requires codes { count ≤ length codes.now }
+    requires mask { count ≤ length mask.now }
     ensures { result ≡ greatest_with greatest codes.now (places mask.now count) }
 {
     let mut all = greatest;

@@ -1,20 +1,26 @@
 -- What is kept of the batches so far, with one batch more.
-use Rattle.std.proofs.Common.{◌≡◌, ℕ, zero, suc, ◌+◌, ◌-◌, ◌*◌, ◌/◌, ◌%◌, ◌<◌, ◌≤◌, List, [], ◌∷◌, ◌++◌, Bool, false, ◌&&◌, length, min, inl, inr, refl, take, sym, ◌∙◌, ap, arith, fold}
-use Rattle.std.specs.Prelude.{◌==◌, slice_index, slice_index_or}
-use Rattle.std.specs.List.{AllZip}
+use Rattle.std.proofs.Common.{◌≡◌, ℕ, zero, suc, ◌+◌, ◌-◌, ◌*◌, ◌/◌, ◌%◌, ◌<◌, ◌≤◌, List, [], ◌∷◌, ◌++◌, Bool, false, ◌&&◌, length, min, inl, inr, refl, take, sym, ◌∙◌, ap, arith, fold, filter, cond, add-zero}
+use Rattle.std.specs.Prelude.{◌==◌, slice_index_or}
+use Rattle.std.specs.List.{AllZip, range_with_len}
 use Rattle.std.proofs.lemmas.Bool.{cases_lt}
-use Rattle.std.proofs.lemmas.List.{get_or_append_left, get_or_push}
+use Rattle.std.proofs.lemmas.List.{append-nil, get_or_append_left, get_or_push}
 use Rattle.batch_kernels.specs.Places.{places_with}
-use Rattle.code_tallies.specs.declared.chosen.Chosen.{Chosen}
-use Rattle.code_tallies.specs.declared.chosen.Batch.{Batch}
+use Rattle.batch_kernels.proofs.OneMore.{filter-more}
 use Rattle.code_tallies.specs.declared.column.Column.{Column}
-use Rattle.code_tallies.specs.Keys.{key_at, HasKeys}
-use Rattle.code_tallies.specs.Tables.{chosen_in, positions, present_in, IsBatch}
-use Rattle.code_tallies.proofs.Batches.{fold-batch, count-batch, place-same}
+use Rattle.code_tallies.specs.Keys.{HasKeys}
+use Rattle.code_tallies.specs.Tables.{chosen_in, positions}
+use Rattle.batch_kernels.proofs.Batches.{fold-batch, count-batch, place-same}
 
--- how many rows the batches so far have
-abbrev pub reached : Chosen → ℕ → ℕ
-reached chosen number = min (1024 * number) chosen.length
+-- positions that a test does not pass come to none
+filter-skip : (P : ℕ → Bool) (from n : ℕ) → ((i : ℕ) → i < n → P (from + i) ≡ false) → filter P (range_with_len 0 (from + n)) ≡ filter P (range_with_len 0 from)
+filter-skip P from zero none = ap (λ m. filter P (range_with_len 0 m)) (add-zero from)
+filter-skip P from (suc n) none =
+    let last : from + suc n ≡ from + n + 1 = omega arith in
+    ap (λ m. filter P (range_with_len 0 m)) last
+    ∙ filter-more P (from + n)
+    ∙ ap (λ b. filter P (range_with_len 0 (from + n)) ++ cond b ((from + n) ∷ []) []) (none n (omega arith))
+    ∙ append-nil (filter P (range_with_len 0 (from + n)))
+    ∙ filter-skip P from n (λ i below. none i (omega arith))
 
 -- a batch of masks and keys alone
 module _ (length_of number : ℕ) (count : ℕ) (here : 1024 * number < length_of) (counted : count ≡ min 1024 (length_of - 1024 * number)) where
@@ -24,24 +30,32 @@ module _ (length_of number : ℕ) (count : ℕ) (here : 1024 * number < length_o
   pub reached-next : min (1024 * (number + 1)) length_of ≡ 1024 * number + count
   reached-next = omega (arith, here, counted)
 
-  pub fold-next : {A : Type 0} (P : ℕ → Bool) (key : ℕ → ℕ) (mask : List Bool) (keys : List ℕ) (k : ℕ) →
-      ((i : ℕ) → i < count → slice_index_or mask i false ≡ P (1024 * number + i)) → ((i : ℕ) → i < count → slice_index keys i ≡ key (1024 * number + i)) →
+  pub fold-next : {A : Type 0} (P : ℕ → Bool) (key : ℕ → ℕ) (mask : List Bool) (keys : ℕ → ℕ) (k : ℕ) →
+      ((i : ℕ) → i < count → slice_index_or mask i false ≡ P (1024 * number + i)) → ((i : ℕ) → i < count → keys i ≡ key (1024 * number + i)) →
       (step g : A → ℕ → A) (a old : A) → ((i : ℕ) (b : A) → i < count → g b i ≡ step b (1024 * number + i)) →
       old ≡ fold step a (positions P key k (min (1024 * number) length_of)) → fold g old (places_with mask keys k count) ≡ fold step a (positions P key k (min (1024 * (number + 1)) length_of))
   fold-next P key mask keys k masks same step g a old steps before =
       ap (λ o. fold g o (places_with mask keys k count)) (before ∙ ap (λ m. fold step a (positions P key k m)) reached-first)
-      ∙ sym (fold-batch (λ i. P i && key i == k) (λ i. slice_index_or mask i false && slice_index keys i == k) step g a (1024 * number) count
-      (λ i below. place-same (slice_index_or mask i false) (P (1024 * number + i)) (slice_index keys i) (key (1024 * number + i)) k (masks i below) (same i below)) steps)
+      ∙ sym (fold-batch (λ i. P i && key i == k) (λ i. slice_index_or mask i false && keys i == k) step g a (1024 * number) count
+      (λ i below. place-same (slice_index_or mask i false) (P (1024 * number + i)) (keys i) (key (1024 * number + i)) k (masks i below) (same i below)) steps)
       ∙ ap (λ m. fold step a (positions P key k m)) (sym reached-next)
 
-  pub count-next : (P : ℕ → Bool) (key : ℕ → ℕ) (mask : List Bool) (keys : List ℕ) (k old : ℕ) →
-      ((i : ℕ) → i < count → slice_index_or mask i false ≡ P (1024 * number + i)) → ((i : ℕ) → i < count → slice_index keys i ≡ key (1024 * number + i)) →
+  pub count-next : (P : ℕ → Bool) (key : ℕ → ℕ) (mask : List Bool) (keys : ℕ → ℕ) (k old : ℕ) →
+      ((i : ℕ) → i < count → slice_index_or mask i false ≡ P (1024 * number + i)) → ((i : ℕ) → i < count → keys i ≡ key (1024 * number + i)) →
       old ≡ length (positions P key k (min (1024 * number) length_of)) → old + length (places_with mask keys k count) ≡ length (positions P key k (min (1024 * (number + 1)) length_of))
   count-next P key mask keys k old masks same before =
       ap (λ o. o + length (places_with mask keys k count)) (before ∙ ap (λ m. length (positions P key k m)) reached-first)
-      ∙ sym (count-batch (λ i. P i && key i == k) (λ i. slice_index_or mask i false && slice_index keys i == k) (1024 * number) count
-      (λ i below. place-same (slice_index_or mask i false) (P (1024 * number + i)) (slice_index keys i) (key (1024 * number + i)) k (masks i below) (same i below)))
+      ∙ sym (count-batch (λ i. P i && key i == k) (λ i. slice_index_or mask i false && keys i == k) (1024 * number) count
+      (λ i below. place-same (slice_index_or mask i false) (P (1024 * number + i)) (keys i) (key (1024 * number + i)) k (masks i below) (same i below)))
       ∙ ap (λ m. length (positions P key k m)) (sym reached-next)
+
+  -- where none of the batch passes, no position comes to those so far
+  pub positions-next : (P : ℕ → Bool) (key : ℕ → ℕ) (k : ℕ) → ((i : ℕ) → i < count → P (1024 * number + i) ≡ false) →
+      positions P key k (min (1024 * number) length_of) ≡ positions P key k (min (1024 * (number + 1)) length_of)
+  positions-next P key k none =
+      ap (positions P key k) reached-first
+      ∙ sym (filter-skip (λ i. P i && key i == k) (1024 * number) count (λ i below. ap (λ b. b && key (1024 * number + i) == k) (none i below)))
+      ∙ ap (positions P key k) (sym reached-next)
 
 -- after all batches
 pub reached-all : (length_of number : ℕ) → length_of ≤ 1024 * number → min (1024 * number) length_of ≡ length_of
@@ -75,16 +89,6 @@ chosen-here masks number j below =
     let first : (1024 * number + j) / 1024 ≡ number = omega (arith, below) in
     let second : (1024 * number + j) % 1024 ≡ j = omega (arith, below) in
     ap (λ m. slice_index_or (slice_index_or masks m []) ((1024 * number + j) % 1024) false) first ∙ ap (λ m. slice_index_or (slice_index_or masks number []) m false) second
-
--- what a batch has of the masks and of the key numbers
-pub batch-masks : (chosen : Chosen) (column : Column) (number : ℕ) (batch : Batch) → IsBatch chosen column number batch →
-    (i : ℕ) → i < batch.count → slice_index_or batch.mask i false ≡ present_in column (chosen_in chosen.masks.items) (1024 * number + i)
-batch-masks chosen column number batch is i below =
-    is.mask i below ∙ ap (λ m. present_in column (chosen_in chosen.masks.items) (m + i)) is.from
-
-pub batch-keys : (chosen : Chosen) (column : Column) (number : ℕ) (batch : Batch) → IsBatch chosen column number batch →
-    (i : ℕ) → i < batch.count → slice_index batch.keys i ≡ key_at chosen.keys.items (1024 * number + i)
-batch-keys chosen column number batch is i below = is.keys i below ∙ ap (λ m. key_at chosen.keys.items (m + i)) is.from
 
 -- a vector whose elements are written whole
 pub written : {X : Type 0} (xs ys : List X) (n : ℕ) → length xs ≡ n → take n (xs ++ ys) ≡ xs

@@ -1,5 +1,5 @@
 -- The rows that are chosen of a group are those that the filter keeps of the shown ones.
-use Rattle.std.proofs.Common.{◌≡◌, ℕ, ◌<◌, ◌++◌, List, Bool, ◌&&◌, length, filter, sym, ◌∙◌, ap, subst, arith}
+use Rattle.std.proofs.Common.{◌≡◌, ℕ, ◌<◌, ◌++◌, List, Bool, true, false, ◌&&◌, length, filter, refl, sym, ◌∙◌, ap, subst, arith}
 use Rattle.std.specs.Prelude.{Result, Ok, Err, IfOk}
 use Rattle.std.specs.List.{range_with_len}
 use Rattle.cs_types.specs.declared.Schema.{Schema}
@@ -16,10 +16,16 @@ use Rattle.code_tallies.specs.Scans.{AreKept, IsChoice}
 use Rattle.code_tallies.proofs.Adding.{both_true, stands-shown}
 
 module _ (group : Group) (old new : Partial) (places : List ℕ) (shown verdict : ℕ → Bool) (chosen : Chosen) (is : IsChoice group places (λ i. shown i && verdict i) chosen)
-    (verdicts : (i : ℕ) → i < length group.rows → verdict i ≡ keeps old.schema.now old.query.now.filter (cells_at group i)) where
+    (verdicts : (i : ℕ) → i < length group.rows → shown i ≡ true → verdict i ≡ keeps old.schema.now old.query.now.filter (cells_at group i)) where
   pub choice-kept : AreKept group old.schema.now old.query.now chosen
   choice-kept i within passes =
-      sym (verdicts i (omega (arith, within, is.long))) ∙ (both_true (shown i) (verdict i) (sym (is.passed i within) ∙ passes)).1
+      let both = both_true (shown i) (verdict i) (sym (is.passed i within) ∙ passes) in
+      sym (verdicts i (omega (arith, within, is.long)) both.0) ∙ both.1
+
+  -- where it is shown, the verdict on a row is what the filter says of it
+  judged : (i : ℕ) → i < length group.rows → (t : Bool) → shown i ≡ t → (t && verdict i) ≡ (t && keeps old.schema.now old.query.now.filter (cells_at group i))
+  judged i within true is_shown = verdicts i within is_shown
+  judged i within false is_shown = refl
 
   pub choice-shown : new.schema.now ≡ old.schema.now → new.query.now ≡ old.query.now → (rows : List (List Value)) →
       StandsFor new (rows ++ rows_at group (filter (chosen_in chosen.masks.items) (range_with_len 0 chosen.length))) → StandsFor new (rows ++ rows_at group (filter shown (range_with_len 0 (length group.rows))))
@@ -28,9 +34,9 @@ module _ (group : Group) (old new : Partial) (places : List ℕ) (shown verdict 
       (stands-shown group new rows shown (chosen_in chosen.masks.items) chosen.length
       (λ i within.
       is.passed i within
+      ∙ judged i (omega (arith, within, is.long)) (shown i) refl
       ∙ ap (λ b. shown i && b)
-      (verdicts i (omega (arith, within, is.long))
-      ∙ ap (λ (s : Schema). keeps s old.query.now.filter (cells_at group i)) (sym schema)
+      (ap (λ (s : Schema). keeps s old.query.now.filter (cells_at group i)) (sym schema)
       ∙ ap (λ (q : Query). keeps new.schema.now q.filter (cells_at group i)) (sym query)))
       stands)
 

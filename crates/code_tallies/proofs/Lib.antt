@@ -1,4 +1,3 @@
-pub mod Batches
 pub mod Present
 pub mod Picked
 pub mod KeyNumbers
@@ -10,3 +9,4 @@ pub mod Tallying
 pub mod Counted
 pub mod Whole
 pub mod Choices
+pub mod Standing

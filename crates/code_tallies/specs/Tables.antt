@@ -13,6 +13,7 @@ use Rattle.code_tallies.specs.declared.table.Table.{Table}
 use Rattle.code_tallies.specs.declared.table.Table.TheVariants.{Nothing, Rows, Counts, Sums, Least, Greatest}
 use Rattle.code_tallies.specs.declared.chosen.Chosen.{Chosen}
 use Rattle.code_tallies.specs.declared.chosen.Batch.{Batch}
+use Rattle.batch_kernels.specs.Places.{key_in, IsSumOf}
 use Rattle.code_tallies.specs.Keys.{key_at}
 use Rattle.code_tallies.specs.Columns.{code_at, cell_there, shown_code}
 use Rattle.code_tallies.specs.Shown.{rows_at}
@@ -57,14 +58,22 @@ HasEntry k (Sums sums) = k < vec_len sums.counts
 HasEntry k (Least codes) = (k < vec_len codes.counts) × ((code : ℕ) → code ≤ codes.column.last → IsKnown codes.column.segment.now.body code)
 HasEntry k (Greatest codes) = (k < vec_len codes.counts) × ((code : ℕ) → code ≤ codes.column.last → IsKnown codes.column.segment.now.body code)
 
--- a batch has the rows of its number: their key numbers, the codes of the column, and whether they are present in it
-pub record IsBatch (chosen : Chosen) (column : Column) (number : ℕ) (batch : Batch) : Type 0 where
+-- how many rows the batches before a number have
+abbrev pub reached : Chosen → ℕ → ℕ
+reached chosen number = min (1024 * number) chosen.length
+
+-- a batch has the rows of its number: their key numbers, and which of them pass a test
+pub record IsBatch (chosen : Chosen) (test : ℕ → Bool) (number : ℕ) (batch : Batch) : Type 0 where
   pub from : batch.from ≡ 1024 * number
   pub count : batch.count ≡ min 1024 (chosen.length - 1024 * number)
-  pub keys : (i : ℕ) → i < batch.count → slice_index batch.keys i ≡ key_at chosen.keys.items (batch.from + i)
-  pub below : (i : ℕ) → i < batch.count → slice_index batch.keys i < chosen.size
-  pub codes : (i : ℕ) → i < batch.count → slice_index batch.codes i ≡ code_at column (batch.from + i)
-  pub mask : (i : ℕ) → i < batch.count → slice_index_or batch.mask i false ≡ present_in column (chosen_in chosen.masks.items) (batch.from + i)
+  pub some : 0 < batch.count
+  pub keys : (i : ℕ) → i < batch.count → key_in batch.keys i ≡ key_at chosen.keys.items (batch.from + i)
+  pub below : (i : ℕ) → i < batch.count → key_in batch.keys i < chosen.size
+  pub mask : (i : ℕ) → i < batch.count → slice_index_or batch.mask i false ≡ test (batch.from + i)
+
+-- a batch has the codes of a column
+abbrev pub HasCodes : Column → Batch → Type 0
+HasCodes column batch = (i : ℕ) → i < batch.count → slice_index batch.codes i ≡ code_at column (batch.from + i)
 
 -- the positions that are present in a column and have a key number
 abbrev pub present_positions : Chosen → Column → ℕ → ℕ → List ℕ
@@ -73,6 +82,27 @@ present_positions chosen column k n = positions (present_in column (chosen_in ch
 -- the positions that are chosen and have a key number
 abbrev pub key_positions : Chosen → ℕ → List ℕ
 key_positions chosen k = positions (chosen_in chosen.masks.items) (key_at chosen.keys.items) k chosen.length
+
+-- for each key number how many of the positions below n pass a test
+pub record AreCounts (chosen : Chosen) (test : ℕ → Bool) (n : ℕ) (counts : List ℕ) : Type 0 where
+  pub long : length counts ≡ chosen.size
+  pub each : (k : ℕ) → k < chosen.size → slice_index counts k ≡ length (positions test (key_at chosen.keys.items) k n)
+
+-- for each key number the sum of a column over the positions below n that are present in it
+pub record AreSums (chosen : Chosen) (column : Column) (n : ℕ) (sums : List ℤ) : Type 0 where
+  pub long : length sums ≡ chosen.size
+  pub each : (k : ℕ) → k < chosen.size → slice_index_or sums k (pos 0) ≡ sum_at column (present_positions chosen column k n)
+  pub bound : (k : ℕ) → k < chosen.size → IsSumOf (length (present_positions chosen column k n)) (slice_index_or sums k (pos 0))
+
+-- for each key number the least code of a column there
+pub record AreLeast (chosen : Chosen) (column : Column) (n : ℕ) (codes : List ℕ) : Type 0 where
+  pub long : length codes ≡ chosen.size
+  pub each : (k : ℕ) → k < chosen.size → slice_index codes k ≡ least_at column (present_positions chosen column k n)
+
+-- for each key number the greatest code of a column there
+pub record AreGreatest (chosen : Chosen) (column : Column) (n : ℕ) (codes : List ℕ) : Type 0 where
+  pub long : length codes ≡ chosen.size
+  pub each : (k : ℕ) → k < chosen.size → slice_index codes k ≡ greatest_at column (present_positions chosen column k n)
 
 -- the positions that are chosen and have a key number below k
 abbrev pub positions_below : (ℕ → Bool) → (ℕ → ℕ) → ℕ → ℕ → List ℕ

@@ -1,15 +1,16 @@
 // The rows of a group that are chosen, by batches of 1,024.
 ghost use Rattle.std.specs.Prelude.{◌≡◌, ℕ, ◌+◌, ◌-◌, ◌*◌, ◌<◌, ◌≤◌, ◌^◌, ◌&&◌, nat_lt, min, length, vec_len, slice_index, slice_index_or, IfOk, false};
+ghost use Rattle.std.specs.Bool.{OnFalse};
 ghost use Rattle.std.specs.Option.{option_copied};
 ghost use Rattle.code_tallies.specs.Shown.{is_shown};
-ghost use Rattle.code_tallies.specs.Keys.{key_at, HasKeys};
-ghost use Rattle.code_tallies.specs.Tables.{chosen_in, positions, IsBatch};
+ghost use Rattle.code_tallies.specs.Keys.{HasKeys};
+ghost use Rattle.code_tallies.specs.Tables.{chosen_in, present_in, AreCounts, HasCodes, IsBatch, reached};
 
 use crate::chosen::{Batch, Chosen};
 use crate::column::Column;
-use crate::keys::keys_from;
+use crate::keys::read_keys;
 use crate::verdicts::Verdicts;
-use batch_kernels::{count_by_key, keep_from, keep_where};
+use batch_kernels::{Keys, count_by_key, has_chosen, keep_from, keep_where};
 use cs_base::Memory;
 use delete_bitmap::Positions;
 use std::alloc::Global;
@@ -26,7 +27,7 @@ pub fn masks_of<V: Verdicts>(
     ensures no_more { IfOk result (λ masks. 1024 * vec_len masks < length + 1024) }
     ensures chosen { IfOk result (λ masks. (i : ℕ) → i < length → chosen_in masks.items i ≡ (is_shown (option_copied shown.entry) i && V.kept verdicts.now i)) }
 {
-    let mut masks = Vec::new(alloc);
+    let mut masks = Vec::with_capacity(alloc, length.div_ceil(1024))?;
     for number in 0..length.div_ceil(1024) {
         let from = 1024 * number;
         masks.push(mask_of(from, (length - from).min(1024), shown, verdicts))?;
@@ -54,7 +55,7 @@ fn mask_of<V: Verdicts>(
     mask
 }
 
-impl<'a> Chosen<'a> {
+impl Chosen<'_> {
     /// How many rows a batch has.
     fn count(&self, number: usize) -> usize
         requires { number < vec_len self.now.masks }
@@ -63,50 +64,102 @@ impl<'a> Chosen<'a> {
         (self.length - 1024 * number).min(1024)
     }
 
-    /// The key numbers of a batch.
-    fn key_numbers(&self, number: usize) -> [u64; 1024]
-        requires number { number < vec_len self.now.masks }
-        requires keyed { HasKeys self.now.length self.now.keys.items }
-        ensures keys { (i : ℕ) → i < min 1024 (self.now.length - 1024 * number) → slice_index result i ≡ key_at self.now.keys.items (1024 * number + i) }
-        ensures below { (i : ℕ) → i < min 1024 (self.now.length - 1024 * number) → slice_index result i < self.now.size }
+    /// Whether a row of a batch is chosen.
+    pub fn has_rows(&self, number: usize) -> bool
+        requires { number < vec_len self.now.masks }
+        ensures { OnFalse result ((i : ℕ) → i < min 1024 (self.now.length - 1024 * number) → chosen_in self.now.masks.items (1024 * number + i) ≡ false) }
     {
-        keys_from(&self.keys, 1024 * number, self.count(number))
+        has_chosen(&self.masks[number])
     }
 
-    /// A batch with the codes of a column.
-    pub fn batch(&self, column: &Column<'_>, number: usize) -> Batch
+    /// Adds a batch to the counts of chosen rows.
+    fn count_batch(&self, number: usize, batch: &mut Batch, counts: &mut [u64])
         requires number { number < vec_len self.now.masks }
         requires keyed { HasKeys self.now.length self.now.keys.items }
-        requires column { self.now.length ≤ column.now.segment.now.length }
-        ensures { IsBatch self.now column.now number result }
+        requires before { AreCounts self.now (chosen_in self.now.masks.items) (reached self.now number) counts.old }
+        ensures { AreCounts self.now (chosen_in self.now.masks.items) (reached self.now (number + 1)) counts.new }
     {
-        let from = 1024 * number;
-        let count = self.count(number);
-        let mut codes = [0; 1024];
-        column.segment.code_batch(from, count, &mut codes);
-        let mut mask = self.masks[number];
-        keep_from(&mut mask, &codes, column.first);
-        Batch {
-            from,
-            count,
-            keys: self.key_numbers(number),
-            codes,
-            mask,
+        if !self.has_rows(number) {
+            return;
         }
+        batch.read_chosen(self, number);
+        count_by_key(&batch.keys, &batch.mask, batch.count, counts);
     }
 
     /// How many rows are chosen, for each key number.
     pub fn counts(&self, alloc: Global) -> Result<Vec<u64>, Memory>
         requires { HasKeys self.now.length self.now.keys.items }
-        ensures length { IfOk result (λ counts. vec_len counts ≡ self.now.size) }
-        ensures counts { IfOk result (λ counts. (k : ℕ) → k < self.now.size → slice_index counts.items k ≡ length (positions (chosen_in self.now.masks.items) (key_at self.now.keys.items) k self.now.length)) }
+        ensures { IfOk result (λ counts. AreCounts self.now (chosen_in self.now.masks.items) self.now.length counts.items) }
     {
         let mut counts = vec![in alloc; 0; self.size]?;
+        let mut batch = Batch::new();
         for number in 0..self.masks.len() {
-            let keys = self.key_numbers(number);
-            let count = self.count(number);
-            count_by_key(&keys, &self.masks[number], count, counts.as_mut_slice());
+            self.count_batch(number, &mut batch, counts.as_mut_slice());
         }
         Ok(counts)
+    }
+}
+
+impl Batch {
+    /// Room for batches.
+    pub fn new() -> Batch
+        ensures { result.count ≡ 0 }
+    {
+        Batch {
+            from: 0,
+            count: 0,
+            keys: Keys::new(),
+            codes: [0; 1024],
+            mask: [false; 1024],
+        }
+    }
+
+    /// Reads which rows of a batch are chosen, and their key numbers.
+    fn read_chosen(&mut self, chosen: &Chosen<'_>, number: usize)
+        requires number { number < vec_len chosen.now.masks }
+        requires keyed { HasKeys chosen.now.length chosen.now.keys.items }
+        ensures { IsBatch chosen.now (chosen_in chosen.now.masks.items) number self.new }
+    {
+        self.from = 1024 * number;
+        self.count = chosen.count(number);
+        self.mask = chosen.masks[number];
+        read_keys(
+            &chosen.keys,
+            self.from,
+            self.count,
+            &mut self.codes,
+            &mut self.keys,
+        );
+    }
+
+    /// The same of those rows alone whose cell in a column is not NULL. Where no code is NULL's, the codes are not read.
+    pub fn read(&mut self, chosen: &Chosen<'_>, column: &Column<'_>, number: usize)
+        requires number { number < vec_len chosen.now.masks }
+        requires keyed { HasKeys chosen.now.length chosen.now.keys.items }
+        requires column { chosen.now.length ≤ column.now.segment.now.length }
+        ensures { IsBatch chosen.now (present_in column.now (chosen_in chosen.now.masks.items)) number self.new }
+    {
+        if column.first > 0 {
+            self.read_codes(chosen, column, number);
+        } else {
+            self.read_chosen(chosen, number);
+        }
+    }
+
+    /// The same, and their codes in the column.
+    pub fn read_codes(&mut self, chosen: &Chosen<'_>, column: &Column<'_>, number: usize)
+        requires number { number < vec_len chosen.now.masks }
+        requires keyed { HasKeys chosen.now.length chosen.now.keys.items }
+        requires column { chosen.now.length ≤ column.now.segment.now.length }
+        ensures batch { IsBatch chosen.now (present_in column.now (chosen_in chosen.now.masks.items)) number self.new }
+        ensures codes { HasCodes column.now self.new }
+    {
+        self.read_chosen(chosen, number);
+        column
+            .segment
+            .code_batch(self.from, self.count, &mut self.codes);
+        if column.first > 0 {
+            keep_from(&mut self.mask, &self.codes, column.first);
+        }
     }
 }

@@ -2,6 +2,7 @@ ghost use Rattle.std.specs.Prelude.{◌≡◌, ◌+◌, ◌*◌, ◌<◌, ◌≤
 ghost use Rattle.code_tallies.specs.Keys.{key_count};
 
 use crate::column::Column;
+use batch_kernels::Keys;
 
 /// The rows of a group that are chosen, and their key numbers.
 #[derive(Drop)]
@@ -21,15 +22,15 @@ pub struct Chosen<'a> {
     ghost small: { size < 2 ^ 60 },
 }
 
-/// A batch of rows: which are chosen and have a cell in a column that is not NULL, their codes in this column, and their key
-/// numbers.
+/// A batch of rows: which are chosen and have a cell in a column that is not NULL, their codes in this column where they were
+/// read, and their key numbers. One batch after another is read into the same room.
 #[derive(Drop)]
 pub struct Batch {
     /// The first position.
     pub from: usize,
     /// The number of rows.
     pub count: usize,
-    pub keys: [u64; 1024],
+    pub keys: Keys,
     pub codes: [u64; 1024],
     pub mask: [bool; 1024],
 }

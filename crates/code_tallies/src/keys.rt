@@ -1,9 +1,11 @@
 // Key numbers: one number for the codes of a row in the grouping columns.
 ghost use Rattle.std.specs.Prelude.{◌≡◌, ℕ, ◌+◌, ◌<◌, ◌≤◌, ◌^◌, length, slice_index, ◌++◌, OnOk, IfOk, IfSome, ◌*◌};
+ghost use Rattle.batch_kernels.specs.Places.{key_in};
+ghost use Rattle.code_tallies.specs.Columns.{code_at};
 ghost use Rattle.code_tallies.specs.Keys.{key_at, key_count, cells_of_key, HasKeys};
 
 use crate::column::Column;
-use batch_kernels::joined_keys;
+use batch_kernels::Keys;
 use cs_base::Memory;
 use cs_types::Row;
 use std::alloc::Global;
@@ -33,36 +35,49 @@ fn times(count: u64, last: u64, most: u64) -> Option<u64>
     if all > most { None } else { Some(all) }
 }
 
-/// The key numbers of the positions from `from` on, in the first `count` places.
-pub fn keys_from(columns: &[Column<'_>], from: usize, count: usize) -> [u64; 1024]
-    requires room { count ≤ 1024 }
+/// Reads the key numbers of the `count` positions from one on. `codes` is room for those of a column.
+pub fn read_keys(
+    columns: &[Column<'_>],
+    from: usize,
+    count: usize,
+    codes: &mut [u64; 1024],
+    keys: &mut Keys,
+)
+    requires room { (0 < count) × (count ≤ 1024) }
     requires few { from + count < 2 ^ 60 }
     requires small { key_count columns.now < 2 ^ 60 }
     requires there { HasKeys (from + count) columns.now }
-    ensures keys { (i : ℕ) → i < count → slice_index result i ≡ key_at columns.now (from + i) }
-    ensures below { (i : ℕ) → i < count → slice_index result i < key_count columns.now }
+    ensures keys { (i : ℕ) → i < count → key_in keys.new i ≡ key_at columns.now (from + i) }
+    ensures below { (i : ℕ) → i < count → key_in keys.new i < key_count columns.now }
 {
     match columns.split_first() {
-        None => no_keys(),
+        None => keys.reset(),
         Some((column, others)) => {
-            let mut keys = keys_from(others, from, count);
-            let mut codes = [0; 1024];
-            column.segment.code_batch(from, count, &mut codes);
-            joined_keys(&mut keys, column.last + 1, &codes, count);
-            keys
+            read_keys(others, from, count, codes, keys);
+            column.join_codes(from, count, codes, keys);
         }
     }
 }
 
-/// The key numbers where there is no column: all are 0.
-fn no_keys() -> [u64; 1024]
-    ensures { (i : ℕ) → i < 1024 → slice_index result i ≡ 0 }
-{
-    let mut keys = [1; 1024];
-    for i in 0..1024 {
-        keys[i] = 0;
+impl Column<'_> {
+    /// Joins the key numbers of the `count` positions from one on with their codes. Codes that are all in one stretch are not read.
+    fn join_codes(&self, from: usize, count: usize, codes: &mut [u64; 1024], keys: &mut Keys)
+        requires room { (0 < count) × (count ≤ 1024) }
+        requires few { from + count < 2 ^ 60 }
+        requires last { self.now.last < 2 ^ 60 }
+        requires there { from + count ≤ self.now.segment.now.length }
+        requires small { (i : ℕ) → i < count → key_in keys.old i * (self.now.last + 1) + code_at self.now (from + i) < 2 ^ 64 }
+        ensures { (i : ℕ) → i < count → key_in keys.new i ≡ key_in keys.old i * (self.now.last + 1) + code_at self.now (from + i) }
+    {
+        let radix = self.last + 1;
+        let (code, end) = self.segment.stretch(from);
+        if end - from >= count {
+            keys.join_one(radix, code, count);
+        } else {
+            self.segment.code_batch(from, count, codes);
+            keys.join(radix, codes, count);
+        }
     }
-    keys
 }
 
 /// The cells of a key number.

@@ -20,3 +20,6 @@ mod verdicts;
 
 pub use tally::tally_group;
 pub use verdicts::{EveryRow, Verdicts};
+
+#[cfg(test)]
+mod tests;

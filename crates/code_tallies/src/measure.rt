@@ -1,11 +1,11 @@
 // What is kept of a column over the chosen rows, for each key number.
-ghost use Rattle.std.specs.Prelude.{◌≡◌, ℕ, pos, ◌<◌, ◌≤◌, length, vec_len, slice_index, slice_index_or, IfOk};
-ghost use Rattle.batch_kernels.specs.Places.{IsSumOf};
+ghost use Rattle.std.specs.Prelude.{◌≡◌, ℕ, pos, ◌+◌, ◌<◌, ◌≤◌, length, vec_len, slice_index, slice_index_or, IfOk};
 ghost use Rattle.code_tallies.specs.Keys.{HasKeys};
-ghost use Rattle.code_tallies.specs.Tables.{present_positions, sum_at, least_at, greatest_at};
+ghost use Rattle.code_tallies.specs.Tables.{chosen_in, present_in, AreCounts, AreSums, AreLeast, AreGreatest, reached};
 
-use crate::chosen::Chosen;
+use crate::chosen::{Batch, Chosen};
 use crate::column::Column;
+use crate::table::SumTable;
 use batch_kernels::{count_by_key, greatest_by_key, least_by_key, sum_by_key};
 use cs_base::Memory;
 use std::alloc::Global;
@@ -18,85 +18,195 @@ pub fn counts_of(
 ) -> Result<Vec<u64>, Memory>
     requires length { chosen.now.length ≤ column.now.segment.now.length }
     requires keyed { HasKeys chosen.now.length chosen.now.keys.items }
-    ensures length { IfOk result (λ counts. vec_len counts ≡ chosen.now.size) }
-    ensures counts { IfOk result (λ counts. (k : ℕ) → k < chosen.now.size → slice_index counts.items k ≡ length (present_positions chosen.now column.now k chosen.now.length)) }
+    ensures { IfOk result (λ counts. AreCounts chosen.now (present_in column.now (chosen_in chosen.now.masks.items)) chosen.now.length counts.items) }
 {
     let mut counts = vec![in alloc; 0; chosen.size]?;
+    let mut batch = Batch::new();
     for number in 0..chosen.masks.len() {
-        let batch = chosen.batch(column, number);
-        count_by_key(&batch.keys, &batch.mask, batch.count, counts.as_mut_slice());
+        add_counts(column, chosen, number, &mut batch, counts.as_mut_slice());
     }
     Ok(counts)
 }
 
-/// The sums of the cells that are numbers.
-pub fn sums_of(alloc: Global, column: &Column<'_>, chosen: &Chosen<'_>) -> Result<Vec<i128>, Memory>
+/// Adds a batch to the counts.
+fn add_counts(
+    column: &Column<'_>,
+    chosen: &Chosen<'_>,
+    number: usize,
+    batch: &mut Batch,
+    counts: &mut [u64],
+)
+    requires number { number < vec_len chosen.now.masks }
+    requires keyed { HasKeys chosen.now.length chosen.now.keys.items }
+    requires length { chosen.now.length ≤ column.now.segment.now.length }
+    requires before { AreCounts chosen.now (present_in column.now (chosen_in chosen.now.masks.items)) (reached chosen.now number) counts.old }
+    ensures { AreCounts chosen.now (present_in column.now (chosen_in chosen.now.masks.items)) (reached chosen.now (number + 1)) counts.new }
+{
+    if !chosen.has_rows(number) {
+        return;
+    }
+    batch.read(chosen, column, number);
+    count_by_key(&batch.keys, &batch.mask, batch.count, counts);
+}
+
+/// The counts and the sums of the cells that are numbers.
+pub fn sums_of(alloc: Global, column: &Column<'_>, chosen: &Chosen<'_>) -> Result<SumTable, Memory>
     requires length { chosen.now.length ≤ column.now.segment.now.length }
     requires keyed { HasKeys chosen.now.length chosen.now.keys.items }
-    ensures length { IfOk result (λ sums. vec_len sums ≡ chosen.now.size) }
-    ensures sums { IfOk result (λ sums. (k : ℕ) → k < chosen.now.size → slice_index_or sums.items k (pos 0) ≡ sum_at column.now (present_positions chosen.now column.now k chosen.now.length)) }
-    ensures bound { IfOk result (λ sums. (k : ℕ) → k < chosen.now.size → IsSumOf (length (present_positions chosen.now column.now k chosen.now.length)) (slice_index_or sums.items k (pos 0))) }
+    ensures counts { IfOk result (λ table. AreCounts chosen.now (present_in column.now (chosen_in chosen.now.masks.items)) chosen.now.length table.counts.items) }
+    ensures sums { IfOk result (λ table. AreSums chosen.now column.now chosen.now.length table.sums.items) }
 {
+    let mut counts = vec![in alloc; 0; chosen.size]?;
     let mut sums = vec![in alloc; 0; chosen.size]?;
+    let mut batch = Batch::new();
     for number in 0..chosen.masks.len() {
-        let batch = chosen.batch(column, number);
-        let mut numbers = [0; 1024];
-        column
-            .segment
-            .number_batch(batch.from, batch.count, &mut numbers);
-        sum_by_key(
-            &batch.keys,
-            &numbers,
-            &batch.mask,
-            batch.count,
+        add_sums(
+            column,
+            chosen,
+            number,
+            &mut batch,
+            counts.as_mut_slice(),
             sums.as_mut_slice(),
         );
     }
-    Ok(sums)
+    Ok(SumTable { counts, sums })
 }
 
-/// The least codes of cells that are not NULL, `last` where there is none.
-pub fn least_of(alloc: Global, column: &Column<'_>, chosen: &Chosen<'_>) -> Result<Vec<u64>, Memory>
+/// Adds a batch to the counts and the sums.
+fn add_sums(
+    column: &Column<'_>,
+    chosen: &Chosen<'_>,
+    number: usize,
+    batch: &mut Batch,
+    counts: &mut [u64],
+    sums: &mut [i128],
+)
+    requires number { number < vec_len chosen.now.masks }
+    requires keyed { HasKeys chosen.now.length chosen.now.keys.items }
+    requires length { chosen.now.length ≤ column.now.segment.now.length }
+    requires counted { AreCounts chosen.now (present_in column.now (chosen_in chosen.now.masks.items)) (reached chosen.now number) counts.old }
+    requires summed { AreSums chosen.now column.now (reached chosen.now number) sums.old }
+    ensures counts { AreCounts chosen.now (present_in column.now (chosen_in chosen.now.masks.items)) (reached chosen.now (number + 1)) counts.new }
+    ensures sums { AreSums chosen.now column.now (reached chosen.now (number + 1)) sums.new }
+{
+    if !chosen.has_rows(number) {
+        return;
+    }
+    batch.read(chosen, column, number);
+    count_by_key(&batch.keys, &batch.mask, batch.count, counts);
+    let mut numbers = [0; 1024];
+    column
+        .segment
+        .number_batch(batch.from, batch.count, &mut numbers);
+    sum_by_key(&batch.keys, &numbers, &batch.mask, batch.count, sums);
+}
+
+/// The least codes of cells that are not NULL, `last` where there is none, behind the counts of these cells.
+pub fn least_of(
+    alloc: Global,
+    column: &Column<'_>,
+    chosen: &Chosen<'_>,
+) -> Result<(Vec<u64>, Vec<u64>), Memory>
     requires length { chosen.now.length ≤ column.now.segment.now.length }
     requires keyed { HasKeys chosen.now.length chosen.now.keys.items }
-    ensures length { IfOk result (λ least. vec_len least ≡ chosen.now.size) }
-    ensures least { IfOk result (λ least. (k : ℕ) → k < chosen.now.size → slice_index least.items k ≡ least_at column.now (present_positions chosen.now column.now k chosen.now.length)) }
+    ensures counts { IfOk result (λ tables. AreCounts chosen.now (present_in column.now (chosen_in chosen.now.masks.items)) chosen.now.length tables.0.items) }
+    ensures least { IfOk result (λ tables. AreLeast chosen.now column.now chosen.now.length tables.1.items) }
 {
+    let mut counts = vec![in alloc; 0; chosen.size]?;
     let mut least = vec![in alloc; column.last; chosen.size]?;
+    let mut batch = Batch::new();
     for number in 0..chosen.masks.len() {
-        let batch = chosen.batch(column, number);
-        least_by_key(
-            &batch.keys,
-            &batch.codes,
-            &batch.mask,
-            batch.count,
+        add_least(
+            column,
+            chosen,
+            number,
+            &mut batch,
+            counts.as_mut_slice(),
             least.as_mut_slice(),
         );
     }
-    Ok(least)
+    Ok((counts, least))
 }
 
-/// The greatest codes of cells that are not NULL, 0 where there is none.
+/// Adds a batch to the counts and the least codes.
+fn add_least(
+    column: &Column<'_>,
+    chosen: &Chosen<'_>,
+    number: usize,
+    batch: &mut Batch,
+    counts: &mut [u64],
+    least: &mut [u64],
+)
+    requires number { number < vec_len chosen.now.masks }
+    requires keyed { HasKeys chosen.now.length chosen.now.keys.items }
+    requires length { chosen.now.length ≤ column.now.segment.now.length }
+    requires counted { AreCounts chosen.now (present_in column.now (chosen_in chosen.now.masks.items)) (reached chosen.now number) counts.old }
+    requires before { AreLeast chosen.now column.now (reached chosen.now number) least.old }
+    ensures counts { AreCounts chosen.now (present_in column.now (chosen_in chosen.now.masks.items)) (reached chosen.now (number + 1)) counts.new }
+    ensures least { AreLeast chosen.now column.now (reached chosen.now (number + 1)) least.new }
+{
+    if !chosen.has_rows(number) {
+        return;
+    }
+    batch.read_codes(chosen, column, number);
+    count_by_key(&batch.keys, &batch.mask, batch.count, counts);
+    least_by_key(&batch.keys, &batch.codes, &batch.mask, batch.count, least);
+}
+
+/// The greatest codes of cells that are not NULL, 0 where there is none, behind the counts of these cells.
 pub fn greatest_of(
     alloc: Global,
     column: &Column<'_>,
     chosen: &Chosen<'_>,
-) -> Result<Vec<u64>, Memory>
+) -> Result<(Vec<u64>, Vec<u64>), Memory>
     requires length { chosen.now.length ≤ column.now.segment.now.length }
     requires keyed { HasKeys chosen.now.length chosen.now.keys.items }
-    ensures length { IfOk result (λ greatest. vec_len greatest ≡ chosen.now.size) }
-    ensures greatest { IfOk result (λ greatest. (k : ℕ) → k < chosen.now.size → slice_index greatest.items k ≡ greatest_at column.now (present_positions chosen.now column.now k chosen.now.length)) }
+    ensures counts { IfOk result (λ tables. AreCounts chosen.now (present_in column.now (chosen_in chosen.now.masks.items)) chosen.now.length tables.0.items) }
+    ensures greatest { IfOk result (λ tables. AreGreatest chosen.now column.now chosen.now.length tables.1.items) }
 {
+    let mut counts = vec![in alloc; 0; chosen.size]?;
     let mut greatest = vec![in alloc; 0; chosen.size]?;
+    let mut batch = Batch::new();
     for number in 0..chosen.masks.len() {
-        let batch = chosen.batch(column, number);
-        greatest_by_key(
-            &batch.keys,
-            &batch.codes,
-            &batch.mask,
-            batch.count,
+        add_greatest(
+            column,
+            chosen,
+            number,
+            &mut batch,
+            counts.as_mut_slice(),
             greatest.as_mut_slice(),
         );
     }
-    Ok(greatest)
+    Ok((counts, greatest))
+}
+
+/// Adds a batch to the counts and the greatest codes.
+fn add_greatest(
+    column: &Column<'_>,
+    chosen: &Chosen<'_>,
+    number: usize,
+    batch: &mut Batch,
+    counts: &mut [u64],
+    greatest: &mut [u64],
+)
+    requires number { number < vec_len chosen.now.masks }
+    requires keyed { HasKeys chosen.now.length chosen.now.keys.items }
+    requires length { chosen.now.length ≤ column.now.segment.now.length }
+    requires counted { AreCounts chosen.now (present_in column.now (chosen_in chosen.now.masks.items)) (reached chosen.now number) counts.old }
+    requires before { AreGreatest chosen.now column.now (reached chosen.now number) greatest.old }
+    ensures counts { AreCounts chosen.now (present_in column.now (chosen_in chosen.now.masks.items)) (reached chosen.now (number + 1)) counts.new }
+    ensures greatest { AreGreatest chosen.now column.now (reached chosen.now (number + 1)) greatest.new }
+{
+    if !chosen.has_rows(number) {
+        return;
+    }
+    batch.read_codes(chosen, column, number);
+    count_by_key(&batch.keys, &batch.mask, batch.count, counts);
+    greatest_by_key(
+        &batch.keys,
+        &batch.codes,
+        &batch.mask,
+        batch.count,
+        greatest,
+    );
 }

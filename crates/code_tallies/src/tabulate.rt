@@ -117,9 +117,7 @@ fn sum_table<'a>(
     let Some(column) = column_at(packed, place) else {
         return Ok(None);
     };
-    let counts = counts_of(alloc, &column, chosen)?;
-    let sums = sums_of(alloc, &column, chosen)?;
-    Ok(Some(Table::Sums(SumTable { counts, sums })))
+    Ok(Some(Table::Sums(sums_of(alloc, &column, chosen)?)))
 }
 
 /// The table of the least cell of a column.
@@ -138,8 +136,7 @@ fn least_table<'a>(
     let Some(column) = column_at(packed, place) else {
         return Ok(None);
     };
-    let counts = counts_of(alloc, &column, chosen)?;
-    let codes = least_of(alloc, &column, chosen)?;
+    let (counts, codes) = least_of(alloc, &column, chosen)?;
     Ok(Some(Table::Least(CodeTable {
         column,
         counts,
@@ -163,8 +160,7 @@ fn greatest_table<'a>(
     let Some(column) = column_at(packed, place) else {
         return Ok(None);
     };
-    let counts = counts_of(alloc, &column, chosen)?;
-    let codes = greatest_of(alloc, &column, chosen)?;
+    let (counts, codes) = greatest_of(alloc, &column, chosen)?;
     Ok(Some(Table::Greatest(CodeTable {
         column,
         counts,

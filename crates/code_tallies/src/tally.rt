@@ -139,7 +139,7 @@ pub fn tally_group<V: Verdicts>(
     shown: Option<&Positions>,
     verdicts: &V,
 ) -> Result<bool, Memory>
-    requires { (i : ℕ) → i < length packed.now.rows → V.kept verdicts.now i ≡ keeps partial.old.schema.now partial.old.query.now.filter (cells_at packed.now i) }
+    requires { (i : ℕ) → i < length packed.now.rows → is_shown (option_copied shown) i ≡ true → V.kept verdicts.now i ≡ keeps partial.old.schema.now partial.old.query.now.filter (cells_at packed.now i) }
     ensures schema { partial.new.schema.now ≡ partial.old.schema.now }
     ensures query { partial.new.query.now ≡ partial.old.query.now }
     ensures tallied { (rows : List (List Value)) → StandsFor partial.old rows → IfOk result (λ done. done ≡ true → StandsFor partial.new (rows ++ shown_rows packed.now (option_copied shown.entry))) }

@@ -2,6 +2,7 @@
 ghost use Rattle.std.specs.Prelude.{◌≡◌, ℕ, ◌+◌, ◌<◌, ◌≤◌, ◌&&◌, nat_lt, Bool, false, true, slice_index_or};
 
 use batch_filter::Sieve;
+use batch_kernels::choose_first;
 
 /// Which rows of a group a filter keeps.
 pub trait Verdicts {
@@ -23,9 +24,7 @@ impl Verdicts for EveryRow {
     ghost kept = { λ _ _. true };
 
     fn keep(&self, _from: usize, count: usize, mask: &mut [bool; 1024]) {
-        for i in 0..1024 {
-            mask[i] = i < count;
-        }
+        choose_first(count, mask);
     }
 }
 

@@ -1,5 +1,4 @@
 use Rattle.std.proofs.Common.{◌≡◌, ◌+◌, ◌<◌, ◌≤◌, ◌⊎◌, ℕ, ◌&&◌, false, length, slice_index, slice_index_or}
-use Rattle.batch_kernels.specs.Masks.{in_span}
 use Rattle.batch_kernels.proofs.masks.narrow_in_table.Given as goal
 
 -- the first places pass their test, and the others are as they were

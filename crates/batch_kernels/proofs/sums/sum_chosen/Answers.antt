@@ -11,9 +11,9 @@ pub with_number-all-requires-clause-small : goal.with_number-all-requires-clause
 with_number-all-requires-clause-small c =
     let same : to_z w128 (of_z w128 c.args.sum) ≡ c.args.sum = to_z-of_z w128 c.args.sum c.ranges.sum in
     let most : length (places c.args.mask.now c.loop-i.i) ≤ c.loop-i.i = count-most (λ i. slice_index_or c.args.mask.now i false) c.loop-i.i in
-    IsSumOf-more (4611686018427387904 + length (places c.args.mask.now c.loop-i.i)) 4611686018427388928 (to_z w128 c.loop-i.all-bits)
+    IsSumOf-more (4611686018427388928 + length (places c.args.mask.now c.loop-i.i)) 4611686018427389952 (to_z w128 c.loop-i.all-bits)
     (omega (arith, most, c.requires.room, c.loop-i-test.true))
-    (c.loop-i.invariant.bound 4611686018427387904 (subst (IsSumOf 4611686018427387904) (sym same) c.requires.small))
+    (c.loop-i.invariant.bound 4611686018427388928 (subst (IsSumOf 4611686018427388928) (sym same) c.requires.small))
 
 pub loop-i-preserved : goal.loop-i-preserved
 loop-i-preserved c =

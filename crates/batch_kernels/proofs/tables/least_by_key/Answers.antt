@@ -1,15 +1,10 @@
-use Rattle.std.proofs.Common.{◌≡◌, ◌<◌, ℕ, length, false, slice_index, arith, min}
-use Rattle.std.specs.Prelude.{slice_index_or}
-use Rattle.batch_kernels.proofs.OneMore.{by_inside, table-more}
+use Rattle.std.proofs.Common.{length, slice_index, min}
+use Rattle.batch_kernels.specs.Places.{key_in}
+use Rattle.batch_kernels.proofs.Lone.{lone-table, lone-key, lone-there}
 use Rattle.batch_kernels.proofs.tables.least_by_key.Goals as goal
 
-pub loop-i-preserved : goal.loop-i-preserved
-loop-i-preserved c =
-    let key : ℕ = slice_index c.args.keys.now c.loop-i.i in
-    let len : length c.loop-i.least ≡ length c.args.least.now = c.loop-i.auto.least in
-    let within : key < length c.args.least.now = c.requires.keys c.loop-i.i c.loop-i-test.true in
-    λ k there. table-more c.args.mask.now c.args.keys.now (λ m i. min m (slice_index c.args.codes.now i)) c.args.least.now c.loop-i.least c.loop-i.i
-    c.lesser.result 0
-    (omega arith)
-    (by_inside (slice_index_or c.args.mask.now c.loop-i.i false) _ _ _ c.lesser.ensures.inside c.lesser.ensures.outside)
-    (λ j below. c.loop-i.invariant j (omega arith)) k (omega arith)
+pub returns-in-Some : goal.returns-in-Some
+returns-in-Some c = λ k there.
+    lone-table c.args.mask.now (λ m i. min m (slice_index c.args.codes.now i)) c.args.least.now 0 c.least_chosen.result c.in-Some.key k c.args.count
+    (lone-there c.args.keys.now c.in-Some.key c.args.count (length c.args.least.now) c.in-Some.is c.requires.room.0 c.requires.keys)
+    c.least_chosen.ensures (key_in c.args.keys.now) (λ i _. lone-key c.args.keys.now c.in-Some.key c.in-Some.is i)

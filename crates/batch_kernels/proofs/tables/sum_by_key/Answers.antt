@@ -1,44 +1,38 @@
-use Rattle.std.proofs.Common.{◌≡◌, ◌+◌, ◌≤◌, ◌<◌, ℕ, ℤ, pos, ◌+ℤ◌, false, ◌&&◌, length, FitsSigned, w64, to_z, of_z, slice_index, ap, sym, subst, ◌∙◌, rules, arith}
+use Rattle.std.proofs.Common.{◌+◌, ◌<◌, ◌+ℤ◌, ℕ, ℤ, FitsSigned, pos, length, slice_index, ap, subst, sym, ◌∙◌, rules}
 use Rattle.std.specs.Int.{w128}
-use Rattle.std.specs.Prelude.{slice_index_or, ◌==◌}
+use Rattle.std.specs.Prelude.{slice_index_or, slice_set}
 use Rattle.std.proofs.lemmas.Int.{to_z-of_z}
-use mir.Val.{bool_byte}
-use Rattle.batch_kernels.specs.Places.{places_with, IsSumOf}
-use Rattle.batch_kernels.proofs.OneMore.{IsSumOf-more, sum-table-bound, by_inside, table-more, count-most}
+use Rattle.batch_kernels.specs.Places.{key_in, places, places_with, sum_with, IsSumOf}
+use Rattle.batch_kernels.proofs.Lone.{lone-table, lone-bound, lone-key, lone-there}
 use Rattle.batch_kernels.proofs.tables.sum_by_key.Goals as goal
 
-pub with_number-requires-clause-small : goal.with_number-requires-clause-small
-with_number-requires-clause-small c =
-    let key : ℕ = slice_index c.args.keys.now c.loop-i.i in
-    let within : key < length c.args.sums.now = c.requires.keys c.loop-i.i c.loop-i-test.true in
-    let sum : ℤ = slice_index_or c.loop-i.sums key (pos 0) in
+pub returns-in-Some-clause-sums : goal.returns-in-Some-clause-sums
+returns-in-Some-clause-sums c = λ k there.
+    let j : ℕ = c.in-Some.key in
+    let within : j < length c.args.sums.now = lone-there c.args.keys.now j c.args.count (length c.args.sums.now) c.in-Some.is c.requires.room.0 c.requires.keys in
+    let sum : ℤ = slice_index_or c.args.sums.now j (pos 0) in
     let fits : FitsSigned w128 sum = search rules in
-    let most : length (places_with c.args.mask.now c.args.keys.now key c.loop-i.i) ≤ c.loop-i.i
-    = count-most (λ i. slice_index_or c.args.mask.now i false && slice_index c.args.keys.now i == key) c.loop-i.i in
-    rw (to_z-of_z w128 sum fits)
-    (IsSumOf-more (4611686018427387904 + length (places_with c.args.mask.now c.args.keys.now key c.loop-i.i)) 4611686018427388928 sum
-    (omega (arith, most, c.requires.room, c.loop-i-test.true))
-    (c.loop-i.invariant.bound key 4611686018427387904 within (c.requires.small key within)))
+    let result : FitsSigned w128 c.sum_chosen.result = search rules in
+    rw (to_z-of_z w128 c.sum_chosen.result result)
+    (lone-table c.args.mask.now (λ m i. m +ℤ slice_index_or c.args.numbers.now i (pos 0)) c.args.sums.now (pos 0) c.sum_chosen.result j k c.args.count within
+    (c.sum_chosen.ensures.sum ∙ ap (λ s. sum_with s c.args.numbers.now (places c.args.mask.now c.args.count)) (to_z-of_z w128 sum fits))
+    (key_in c.args.keys.now) (λ i _. lone-key c.args.keys.now j c.in-Some.is i))
 
-pub loop-i-preserved : goal.loop-i-preserved
-loop-i-preserved c =
-    let key : ℕ = slice_index c.args.keys.now c.loop-i.i in
-    let len : length c.loop-i.sums ≡ length c.args.sums.now = c.loop-i.auto.sums in
-    let within : key < length c.args.sums.now = c.requires.keys c.loop-i.i c.loop-i-test.true in
-    let b = slice_index_or c.args.mask.now c.loop-i.i false in
-    let number : ℤ = slice_index_or c.args.numbers.now c.loop-i.i (pos 0) in
-    let sum : ℤ = slice_index_or c.loop-i.sums key (pos 0) in
-    let r : ℤ = c.with_number.result in
-    let fits : FitsSigned w128 c.with_number.result = search rules in
-    let fits_number : FitsSigned w64 number = search rules in
-    let fits_sum : FitsSigned w128 sum = search rules in
-    let same : to_z w128 (of_z w128 sum) ≡ sum = to_z-of_z w128 sum fits_sum in
-    let inside : bool_byte b ≡ 1 → r ≡ sum +ℤ number = λ one. c.with_number.ensures.inside one ∙ ap (λ n. to_z w128 (of_z w128 sum) +ℤ n) (to_z-of_z w64 number fits_number) ∙ ap (λ s. s +ℤ number) same in
-    let outside : bool_byte b ≡ 0 → r ≡ sum = λ zero. c.with_number.ensures.outside zero ∙ same in
-    let bound : (n : ℕ) → IsSumOf n sum → IsSumOf (n + bool_byte b) r = λ n is. c.with_number.ensures.bound n (subst (IsSumOf n) (sym same) is) in
-    rw (to_z-of_z w128 c.with_number.result fits) (record {
-      sums = λ k there. table-more c.args.mask.now c.args.keys.now (λ m i. m +ℤ slice_index_or c.args.numbers.now i (pos 0)) c.args.sums.now c.loop-i.sums c.loop-i.i
-          r (pos 0) (omega arith) (by_inside b r (sum +ℤ number) sum inside outside)
-          (λ j below. c.loop-i.invariant.sums j (omega arith)) k (omega arith);
-      bound = λ k n there is. sum-table-bound c.args.mask.now c.args.keys.now c.loop-i.sums c.loop-i.i r k n (omega arith) bound (c.loop-i.invariant.bound k n there is);
-    })
+pub returns-in-Some-clause-bound : goal.returns-in-Some-clause-bound
+returns-in-Some-clause-bound c = λ k n there is.
+    let j : ℕ = c.in-Some.key in
+    let within : j < length c.args.sums.now = lone-there c.args.keys.now j c.args.count (length c.args.sums.now) c.in-Some.is c.requires.room.0 c.requires.keys in
+    let sum : ℤ = slice_index_or c.args.sums.now j (pos 0) in
+    let fits : FitsSigned w128 sum = search rules in
+    let result : FitsSigned w128 c.sum_chosen.result = search rules in
+    let bound : IsSumOf (n + length (places_with c.args.mask.now (key_in c.args.keys.now) k c.args.count)) (slice_index_or (slice_set c.args.sums.now j c.sum_chosen.result) k (pos 0))
+    = lone-bound c.args.mask.now c.args.sums.now c.sum_chosen.result j k c.args.count n within
+    (λ l is. c.sum_chosen.ensures.bound l (subst (IsSumOf l) (sym (to_z-of_z w128 sum fits)) is)) is
+    (key_in c.args.keys.now) (λ i _. lone-key c.args.keys.now j c.in-Some.is i) in
+    rw (to_z-of_z w128 c.sum_chosen.result result) (bound.0, bound.1)
+
+pub returns-in-None-clause-bound : goal.returns-in-None-clause-bound
+returns-in-None-clause-bound c = λ k n there is.
+    let bound : IsSumOf (n + length (places_with c.args.mask.now (slice_index c.args.keys.now.each) k c.args.count)) (slice_index_or c.sum_by_each.new.sums k (pos 0))
+    = c.sum_by_each.ensures.bound k n there is in
+    rw c.in-None.is (bound.0, bound.1)

@@ -1,10 +1,8 @@
-use Rattle.std.proofs.Common.{◌≡◌, ◌<◌, ℕ, slice_index, vec_len}
-use Rattle.code_tallies.specs.Tables.{present_positions, greatest_at}
-use Rattle.code_tallies.proofs.BatchSteps.{reached}
+use Rattle.code_tallies.specs.Tables.{reached, chosen_in, AreCounts, AreGreatest, present_in}
 use Rattle.code_tallies.proofs.measure.greatest_of.Given as goal
 
 abbrev pub invariant-loop-number : goal.invariant-loop-number
 invariant-loop-number l = record {
-  len : vec_len l.greatest ≡ l.chosen.size;
-  greatest : (k : ℕ) → k < l.chosen.size → slice_index l.greatest.items k ≡ greatest_at l.column (present_positions l.chosen l.column k (reached l.chosen l.number));
+  counts : AreCounts l.chosen (present_in l.column (chosen_in l.chosen.masks.items)) (reached l.chosen l.number) l.counts.items;
+  greatest : AreGreatest l.chosen l.column (reached l.chosen l.number) l.greatest.items;
 }

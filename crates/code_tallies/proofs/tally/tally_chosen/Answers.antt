@@ -26,7 +26,7 @@ returns-clause-tallied c = λ rows grouped columns kept stands done.
       long = c.requires.length;
       kept = kept;
       columns = columns;
-      counted = λ k within. ap (λ l. slice_index l k) c.deref.ensures.value ∙ c.in_ok-counts.ensures.counts k within;
+      counted = λ k within. ap (λ l. slice_index l k) c.deref.ensures.value ∙ c.in_ok-counts.ensures.each k within;
       tallies = λ k within.
           ap (map (λ table. tally_in (length (key_positions chosen k)) table k)) c.deref-2.ensures.value
           ∙ tables-tallies group chosen c.as_slice-items.result.now c.in-Some.tables.items are k within

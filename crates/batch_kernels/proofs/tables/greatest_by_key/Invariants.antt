@@ -1,6 +1,0 @@
-use Rattle.std.proofs.Common.{◌≡◌, ◌<◌, ℕ, length, slice_index}
-use Rattle.batch_kernels.specs.Places.{places_with, greatest_with}
-use Rattle.batch_kernels.proofs.tables.greatest_by_key.Given as goal
-
-abbrev pub invariant-loop-i : goal.invariant-loop-i
-invariant-loop-i l = (k : ℕ) → k < length l.initial.greatest → slice_index l.greatest k ≡ greatest_with (slice_index l.initial.greatest k) l.codes (places_with l.mask l.keys k l.i)
