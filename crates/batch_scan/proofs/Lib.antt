@@ -1,6 +1,7 @@
 pub mod Added
 pub mod Between
 pub mod Counting
+pub mod Cuts
 pub mod Flags
 pub mod Kept
 pub mod Left

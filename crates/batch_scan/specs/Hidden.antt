@@ -1,5 +1,5 @@
 -- Positions of a packed group whose versions a statement does not read.
-use Rattle.std.specs.Prelude.{◌≡◌, ◌<◌, ◌==◌, ◌&&◌, ◌||◌, ℕ, Bool, true, not, nat_le, nat_lt, List, length, All, Option, None, Some}
+use Rattle.std.specs.Prelude.{◌≡◌, ◌<◌, ◌≤ℤ◌, ◌==◌, ◌&&◌, ◌||◌, ℕ, Bool, true, not, nat_le, nat_lt, List, length, All, Option, None, Some}
 use Rattle.std.specs.List.{list_any}
 use Rattle.cs_types.specs.declared.Key.{Key}
 use Rattle.cs_types.specs.Keys.{same_key}
@@ -19,6 +19,10 @@ is_one_of positions position = list_any (λ other. other == position) positions
 -- the key of the row at a position
 abbrev pub key_at : Group → ℕ → Key
 key_at group position = key_in group.key (row_at group position).cells
+
+-- the keys of the rows of a group lie from the least to the greatest
+abbrev pub AreKeysBetween : Key → Key → Group → Type 0
+AreKeysBetween least greatest group = (position : ℕ) → position < length group.rows → (least.0 ≤ℤ (key_at group position).0) × ((key_at group position).0 ≤ℤ greatest.0)
 
 -- the row at a position begins above s
 abbrev pub begins_late : ℕ → Group → ℕ → Bool

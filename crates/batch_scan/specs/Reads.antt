@@ -1,5 +1,5 @@
 -- Which versions a statement reads.
-use Rattle.std.specs.Prelude.{◌≡◌, ◌&&◌, ℕ, Bool, true, false, not, List, [], map, All, if◌then◌else◌, Option, None, Some, slice_get, unwrap_or}
+use Rattle.std.specs.Prelude.{◌≡◌, ◌&&◌, ℕ, Bool, true, false, not, List, [], length, map, All, if◌then◌else◌, Option, None, Some, slice_get, unwrap_or}
 use Rattle.std.specs.Option.{option_map}
 use Rattle.cs_types.specs.declared.Key.{Key}
 use Rattle.cs_types.specs.declared.Value.{Value}
@@ -44,3 +44,9 @@ abbrev pub AreShown : List Bool → Shown → Type 0
 AreShown flags shown.Every = All (λ flag. flag ≡ true) flags
 AreShown flags shown.Nowhere = All (λ flag. flag ≡ false) flags
 AreShown flags (shown.Some positions) = positions ≡ flags
+
+-- a set of positions is one of so many
+abbrev pub IsSetOf : ℕ → Shown → Type 0
+IsSetOf count shown.Every = Unit {0}
+IsSetOf count shown.Nowhere = Unit {0}
+IsSetOf count (shown.Some positions) = length positions ≡ count

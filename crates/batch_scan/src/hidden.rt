@@ -1,6 +1,10 @@
 // The positions of a packed group whose versions a statement does not read, whatever the group's bitmap says.
-ghost use Rattle.std.specs.Prelude.{◌≡◌, ◌<◌, ◌≤◌, ℕ, Option, length, All, IfOk, OnOk, None, Some};
-ghost use Rattle.batch_scan.specs.Hidden.{begins_late, is_begun_below, is_ended_by, is_hidden, is_of_key, is_one_of, is_written, Adds};
+ghost use Rattle.std.specs.Prelude.{◌≡◌, ◌<◌, ◌≤◌, ◌<ℤ◌, ℕ, Option, length, slice_index_or, All, IfNone, IfOk, IfSome, OnOk, None, Some};
+ghost use Rattle.std.specs.Ordering.{is_lt};
+ghost use Rattle.cs_types.specs.Keys.{key_cmp};
+ghost use Rattle.write_set.specs.declared.write.Write.{Write};
+ghost use Rattle.delete_buffer.specs.Entries.{Entry, AreInOrder};
+ghost use Rattle.batch_scan.specs.Hidden.{begins_late, is_begun_below, is_ended_by, is_hidden, is_of_key, is_one_of, is_written, Adds, AreKeysBetween};
 
 use cs_base::Memory;
 use cs_types::Key;
@@ -47,6 +51,20 @@ fn add_late(hidden: &mut Vec<usize>, packed: &Packed, s: u64) -> Result<(), Memo
     }
 }
 
+/// The least and the greatest key of a group. None where it has no row.
+fn key_bounds(packed: &Packed) -> Option<(Key, Key)>
+    ensures some { IfSome result (λ bounds. AreKeysBetween bounds.0 bounds.1 packed.now) }
+    ensures none { IfNone result (length packed.now.rows ≡ 0) }
+{
+    let count = packed.places().len();
+    if count == 0 {
+        return None;
+    }
+    let least = packed.key_at(packed.place(0));
+    let greatest = packed.key_at(packed.place(count - 1));
+    Some((least, greatest))
+}
+
 /// Whether a begin is below an end. Where there is no end, each is.
 fn is_below(begin: u64, end: Option<u64>) -> bool
     ensures { result ≡ is_begun_below end begin }
@@ -57,49 +75,104 @@ fn is_below(begin: u64, end: Option<u64>) -> bool
     }
 }
 
-/// Adds the positions of the rows of a key with begins below an end, or of all its rows where there is no end.
+/// Adds the positions of the rows of a key with begins below an end, or of all its rows where there is no end. The key is looked for
+/// from the place `near` on, which may be the one that comes of the key before: its first place.
 fn add_key(
     hidden: &mut Vec<usize>,
     packed: &Packed,
+    near: usize,
     key: Key,
     end: Option<u64>,
-) -> Result<(), Memory>
+) -> Result<usize, Memory>
     ensures { OnOk result (Adds packed.now (is_of_key key end packed.now) hidden.old.items hidden.new.items) }
 {
-    let places = packed.find(key);
+    let places = packed.find_near(near, key);
     for place in places.from..places.to {
         let position = packed.place(place);
         if is_below(packed.begin(position), end) {
             hidden.push(position)?;
         }
     }
-    Ok(())
+    Ok(places.from)
 }
 
-/// Adds the positions of the rows that entries of a delete buffer have ended for the snapshot `s`.
+/// How many entries of a delete buffer have keys below this one.
+fn entries_below(entries: &[(Key, u64)], key: Key) -> usize
+    requires { AreInOrder entries.now }
+    ensures { (i : ℕ) (d : Entry) → i < result → i < length entries.now → (slice_index_or entries.now i d).0.0 <ℤ key.0 }
+{
+    entries.partition_point(
+        |entry: &(Key, u64)| -> bool
+            ensures { result ≡ is_lt (key_cmp entry.now.0 key) }
+        { entry.0 < key },
+    )
+}
+
+/// Adds the positions of the rows that entries of a delete buffer have ended for the snapshot `s`. Only entries of keys from the
+/// least to the greatest of the group are looked up.
 fn add_buffered(
     hidden: &mut Vec<usize>,
     packed: &Packed,
+    least: Key,
+    greatest: Key,
     entries: &[(Key, u64)],
     s: u64,
 ) -> Result<(), Memory>
+    requires keys { AreKeysBetween least greatest packed.now }
+    requires order { AreInOrder entries.now }
     ensures { OnOk result (Adds packed.now (is_ended_by entries.now s packed.now) hidden.old.items hidden.new.items) }
 {
-    for entry in entries {
-        let (key, end) = *entry;
+    let from = entries_below(entries, least);
+    let mut near = 0;
+    for i in from..entries.len() {
+        let (key, end) = entries[i];
+        if key > greatest {
+            return Ok(());
+        }
         if end <= s {
-            add_key(hidden, packed, key, Some(end))?;
+            near = add_key(hidden, packed, near, key, Some(end))?;
         }
     }
     Ok(())
 }
 
-/// Adds the positions of the rows of the keys that own writes are of.
-fn add_own(hidden: &mut Vec<usize>, packed: &Packed, own: &Own) -> Result<(), Memory>
+/// How many own writes are of keys below this one.
+fn writes_below(own: &Own, key: Key) -> usize
+    ensures { (i : ℕ) (d : Write) → i < result → i < length own.now → (slice_index_or own.now i d).key.0 <ℤ key.0 }
+{
+    let mut low = 0;
+    let mut high = own.len();
+    while low < high {
+        let middle = low + (high - low) / 2;
+        if own.get(middle).key < key {
+            low = middle + 1;
+        } else {
+            high = middle;
+        }
+    }
+    low
+}
+
+/// Adds the positions of the rows of the keys that own writes are of. Only keys from the least to the greatest of the group are looked
+/// up.
+fn add_own(
+    hidden: &mut Vec<usize>,
+    packed: &Packed,
+    least: Key,
+    greatest: Key,
+    own: &Own,
+) -> Result<(), Memory>
+    requires { AreKeysBetween least greatest packed.now }
     ensures { OnOk result (Adds packed.now (is_written own.now packed.now) hidden.old.items hidden.new.items) }
 {
-    for i in 0..own.len() {
-        add_key(hidden, packed, own.get(i).key, None)?;
+    let from = writes_below(own, least);
+    let mut near = 0;
+    for i in from..own.len() {
+        let key = own.get(i).key;
+        if key > greatest {
+            return Ok(());
+        }
+        near = add_key(hidden, packed, near, key, None)?;
     }
     Ok(())
 }
@@ -115,9 +188,13 @@ pub fn hidden_positions(
     ensures each { IfOk result (λ hidden. (position : ℕ) → position < length packed.now.rows → is_one_of hidden.items position ≡ is_hidden pinned.now packed.now position) }
 {
     let mut hidden = Vec::new(alloc);
+    let Some((least, greatest)) = key_bounds(packed) else {
+        return Ok(hidden);
+    };
     let s = pinned.snapshot;
+    let entries = pinned.view.buffer().as_slice();
     add_late(&mut hidden, packed, s)?;
-    add_buffered(&mut hidden, packed, pinned.view.buffer().as_slice(), s)?;
-    add_own(&mut hidden, packed, &pinned.own)?;
+    add_buffered(&mut hidden, packed, least, greatest, entries, s)?;
+    add_own(&mut hidden, packed, least, greatest, &pinned.own)?;
     Ok(hidden)
 }

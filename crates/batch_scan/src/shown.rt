@@ -3,7 +3,7 @@ ghost use Rattle.std.specs.Prelude.{◌≡◌, ◌<◌, ◌≤◌, ◌+◌, ◌&
 ghost use Rattle.std.specs.Bool.{OnTrue};
 ghost use Rattle.delete_bitmap.specs.Marks.{end_at, is_removable};
 ghost use Rattle.batch_scan.specs.Hidden.{is_one_of};
-ghost use Rattle.batch_scan.specs.Reads.{read_flags, AreShown};
+ghost use Rattle.batch_scan.specs.Reads.{read_flags, AreShown, IsSetOf};
 
 use crate::hidden::hidden_positions;
 use batch_kernels::keep_where;
@@ -64,6 +64,32 @@ impl Shown {
         matches!(self, Shown::Nowhere)
     }
 
+    /// Those of some positions, of the `count` that the group has, at which the statement reads the version, as a set.
+    pub fn among(
+        &self,
+        alloc: Global,
+        count: usize,
+        positions: &[usize],
+    ) -> Result<Positions, Memory>
+        requires shown { IsSetOf count self.now }
+        requires within { All (λ position. position < count) positions.now }
+        ensures length { IfOk result (λ set. length set ≡ count) }
+        ensures each { (flags : List Bool) → AreShown flags self.now → length flags ≡ count → IfOk result (λ set. (position : ℕ) → position < count → slice_index_or set position false ≡ (is_one_of positions.now position && slice_index_or flags position false)) }
+    {
+        let mut set = Positions::none(alloc, count);
+        match self {
+            Shown::Every => {
+                set.insert_all(positions)?;
+                Ok(set)
+            }
+            Shown::Nowhere => Ok(set),
+            Shown::Some(shown) => {
+                set.insert_all(positions)?;
+                in_both(set, shown)
+            }
+        }
+    }
+
     /// Of the first `count` places of a batch, leaves those chosen whose positions, from `from` on, the statement reads.
     pub fn narrow(&self, from: usize, count: usize, mask: &mut [bool; 1024])
         requires { count ≤ 1024 }
@@ -97,4 +123,19 @@ fn positions_left(
     marks.take_ended(s, &mut left)?;
     left.complement()?;
     Ok(left)
+}
+
+/// The positions that are in both sets.
+fn in_both(first: Positions, second: &Positions) -> Result<Positions, Memory>
+    requires { length first ≡ length second.now }
+    ensures length { IfOk result (λ both. length both ≡ length first) }
+    ensures each { IfOk result (λ both. (position : ℕ) → position < length first → slice_index_or both position false ≡ (slice_index_or first position false && slice_index_or second.now position false)) }
+{
+    let mut either = first;
+    let mut other = second.copy()?;
+    either.complement()?;
+    other.complement()?;
+    either.join(&other)?;
+    either.complement()?;
+    Ok(either)
 }

@@ -1,102 +1,35 @@
-ghost use Rattle.std.specs.Prelude.{◌≡◌, ◌∷◌, [], length, slice_get, IfOk, None, Some, false};
-ghost use Rattle.std.specs.Bool.{OnTrue};
-ghost use Rattle.cs_types.specs.declared.ColumnType.TheVariants.{BigInt};
-ghost use Rattle.cs_types.specs.Schemas.{IsRowOf, IsSchema};
+mod columns;
+mod forms;
+mod reads;
+mod skips;
+mod views;
+
+ghost use Rattle.std.specs.Prelude.{IfOk, IsSome};
 
 use crate::Shown;
 use cs_base::{Items, Memory};
-use cs_types::{Column, ColumnType, Key, Row, Schema, Value, Version};
-use delete_bitmap::Marks;
-use delete_buffer::{Buffer, Ends};
+use cs_types::{ColumnType, Key, Value, Version};
 use group_view::{GroupView, Pinned};
 use row_group::{Packed, pack_rows};
 use std::alloc::Global;
 use std::process::Abort;
-use std::sync::Arc;
 use std::test::Fail;
+use views::{buffered, marked, row_of, table};
 use write_set::{Own, Write};
-
-/// The table `t (k bigint NOT NULL PRIMARY KEY)`.
-fn table(alloc: Global) -> Result<Schema, Memory>
-    ensures { IfOk result (λ schema. IsSchema schema × (schema.columns ≡ record { name = 107 ∷ []; kind = BigInt; nullable = false } ∷ [])) }
-{
-    let mut name = Items::new(alloc);
-    name.push(b'k')?;
-    let mut columns = Items::new(alloc);
-    columns.push(Column {
-        name,
-        kind: ColumnType::BigInt,
-        nullable: false,
-    })?;
-    let mut name = Items::new(alloc);
-    name.push(b't')?;
-    Ok(Schema {
-        name,
-        columns,
-        key: 0,
-    })
-}
-
-/// A row of one number.
-fn row_of(alloc: Global, number: u8) -> Result<Row, Memory>
-    ensures { IfOk result (λ row. (schema : Schema) → schema.columns ≡ record { name = 107 ∷ []; kind = BigInt; nullable = false } ∷ [] → IsRowOf schema row) }
-{
-    let mut row = Row::new(alloc);
-    row.push(Value::Number(i64::from(number)))?;
-    Ok(row)
-}
 
 /// A packed group of these keys with their begins, of which those at most the floor become the floor.
 fn packed(alloc: Global, given: &[(u8, u64)], floor: u64) -> Result<Option<Packed>, Memory> {
-    let schema = table(alloc)?;
+    let kind = ColumnType::BigInt;
+    let schema = table(alloc, kind)?;
     let mut versions = Items::new(alloc);
     for (key, begin) in given {
         versions.push(Version {
-            row: row_of(alloc, *key)?,
+            row: row_of(alloc, kind, i64::from(*key), Value::Null)?,
             begin: *begin,
             end: None,
         })?;
     }
     pack_rows(alloc, &schema, versions, floor)
-}
-
-/// Whether a position is there and has no end.
-#[tactic(auto, using(std::proofs::lemmas::Option::gets))]
-fn is_free(marks: &Marks, position: usize) -> bool
-    ensures { OnTrue result (slice_get marks.now position ≡ Some None) }
-{
-    position < marks.len() && marks.end(position).is_none()
-}
-
-/// A bitmap of so many positions with ends at these, of which those at most the floor are settled.
-fn marked(
-    rt: &impl Abort,
-    alloc: Global,
-    count: usize,
-    ends: &[(usize, u64)],
-    floor: u64,
-) -> Result<Marks, Memory>
-    ensures { IfOk result (λ marks. length marks ≡ count) }
-{
-    let mut marks = Marks::new(alloc, count)?;
-    for (position, end) in ends {
-        assert!(rt; is_free(&marks, *position));
-        marks.mark(*position, *end)?;
-    }
-    marks.settle(floor);
-    Ok(marks)
-}
-
-/// A buffer of these entries, as it stands.
-fn buffered(alloc: Global, given: &[(i64, u64)]) -> Result<Arc<Ends>, Memory> {
-    let mut buffer = Buffer::new(alloc);
-    for (key, end) in given {
-        buffer.reserve(1)?;
-        if !buffer.remove(Key(*key), *end) {
-            buffer.add(Key(*key), *end);
-        }
-    }
-    buffer.copy()
 }
 
 /// Own writes to nothing of these keys.
@@ -119,8 +52,8 @@ fn own_of(alloc: Global, keys: &[i64]) -> Result<Own, Memory> {
 type Case = (
     &'static [(u8, u64)],
     u64,
-    &'static [(usize, u64)],
-    &'static [(i64, u64)],
+    &'static [(u16, u64)],
+    &'static [(u16, u64)],
     &'static [i64],
     u64,
     &'static [u8],

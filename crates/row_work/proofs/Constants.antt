@@ -100,7 +100,7 @@ never_null (loose.Number m s) is = cc
 never_null (loose.Text t) is = cc
 never_null (loose.Day d) is = cc
 
-no_text : (kind : ColumnType) (t : List ℕ) → is_key_kind kind ≡ true → is_short kind t ≡ true → ⊥
+pub no_text : (kind : ColumnType) (t : List ℕ) → is_key_kind kind ≡ true → is_short kind t ≡ true → ⊥
 no_text TinyInt t key short = cc
 no_text SmallInt t key short = cc
 no_text Int t key short = cc

@@ -8,6 +8,7 @@ pub mod Fitting
 pub mod Found
 pub mod Judged
 pub mod Kept
+pub mod KeptRange
 pub mod Known
 pub mod NamedRows
 pub mod Ordered
@@ -16,7 +17,9 @@ pub mod Passed
 pub mod Places
 pub mod Positions
 pub mod Puts
+pub mod Ranges
 pub mod Scanned
+pub mod ShownRange
 pub mod Sieved
 pub mod Standing
 pub mod Stored

@@ -1,5 +1,5 @@
 -- Positions of the versions that pass a test.
-use Rattle.std.proofs.Common.{◌≡◌, ◌≢◌, ℕ, zero, suc, ◌+◌, Bool, true, false, cond, List, [], ◌∷◌, ◌++◌, map, length, refl, sym, ap, ◌∙◌, subst, append_assoc, arith}
+use Rattle.std.proofs.Common.{◌≡◌, ◌≢◌, ℕ, zero, suc, ◌+◌, Bool, true, false, cond, List, [], ◌∷◌, ◌++◌, map, length, refl, sym, ap, ◌∙◌, subst, append_assoc, arith, Contains}
 use Rattle.std.specs.Prelude.{Option, None, Some, slice_get}
 use Rattle.std.specs.List.{All, AllByRecursion, cons_option, filter_map}
 use Rattle.std.specs.List.Sorted.{IsPermutation}
@@ -40,6 +40,20 @@ module _ {X : Type 0} where
           → IsPermutation (cond t (n ∷ true_from (suc n) (map q ys)) (true_from (suc n) (map q ys)) ++ (n + suc p) ∷ []) (cond t (n ∷ true_from (suc n) (map r ys)) (true_from (suc n) (map r ys)))
       step true kept = IsPermutation-cons n (true_from (suc n) (map q ys) ++ (n + suc p) ∷ []) (true_from (suc n) (map r ys)) kept
       step false kept = kept
+
+  -- each element that passes has its place
+  pub place_there : (q : X → Bool) (xs : List X) (n p : ℕ) (x : X) → slice_get xs p ≡ Some x → q x ≡ true → Contains (true_from n (map q xs)) (n + p)
+  place_there q [] n p x at on = cc
+  place_there q (y ∷ ys) n zero x at on =
+      let rest = true_from (suc n) (map q ys) in
+      subst (λ t. Contains (cond t (n ∷ rest) rest) (n + 0)) (sym (ap q (same_Some y x at) ∙ on)) (0, omega arith, omega arith)
+  place_there q (y ∷ ys) n (suc p) x at on =
+      let next : suc n + p ≡ n + suc p = omega arith in
+      step (q y) (subst (Contains (true_from (suc n) (map q ys))) next (place_there q ys (suc n) p x at on))
+    where
+      step : (t : Bool) → Contains (true_from (suc n) (map q ys)) (n + suc p) → Contains (cond t (n ∷ true_from (suc n) (map q ys)) (true_from (suc n) (map q ys))) (n + suc p)
+      step true (i, l, e) = (suc i, omega (arith, l), e)
+      step false there = there
 
   -- where none passes there is no place
   pub none_true : (xs : List X) (n : ℕ) (q : X → Bool) → ((i : ℕ) (x : X) → slice_get xs i ≡ Some x → q x ≡ false) → true_from n (map q xs) ≡ []

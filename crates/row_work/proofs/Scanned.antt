@@ -1,7 +1,7 @@
 -- Rows that are read one by one.
-use Rattle.std.proofs.Common.{◌≡◌, ℕ, Bool, true, false, cond, not, List, [], ◌∷◌, ◌++◌, map, refl, sym, ap, ◌∙◌, subst, append_assoc}
-use Rattle.std.specs.Prelude.{Option, None, Some}
-use Rattle.std.specs.List.{All}
+use Rattle.std.proofs.Common.{◌≡◌, ℕ, zero, suc, ◌+◌, Bool, true, false, cond, not, List, [], ◌∷◌, ◌++◌, map, take, drop, refl, sym, ap, ◌∙◌, subst, append_assoc, arith}
+use Rattle.std.specs.Prelude.{Option, None, Some, slice_get, unwrap_or}
+use Rattle.std.specs.List.{All, flat_map}
 use Rattle.std.specs.Option.{option_and_then, option_map, option_to_list}
 use Rattle.std.specs.Map.{values_of}
 use Rattle.std.proofs.lemmas.List.{append-nil, map-append}
@@ -19,16 +19,31 @@ use Rattle.cs_types.specs.Keys.{same_key}
 use Rattle.edit_laws.specs.Edits.{writes_key}
 use Rattle.group_book.specs.Book.{is_visible, shows}
 use Rattle.group_book.proofs.Keys.{key_here}
+use Rattle.group_view.specs.declared.parts.GroupPart.{GroupPart}
+use Rattle.group_view.specs.declared.view.GroupView.{GroupView}
 use Rattle.group_view.specs.declared.view.Pinned.{Pinned}
 use Rattle.group_view.specs.declared.view.Place.{Place}
-use Rattle.group_view.specs.Parts.{Rowed, padded}
+use Rattle.group_view.specs.Parts.{Rowed, padded, rowed_in}
 use Rattle.group_view.specs.Views.{buffer_of, is_shown, version_at, Shows}
 use Rattle.group_view.specs.Laws.{shown_row}
 use Rattle.row_work.specs.declared.choose.Chosen.{Chosen}
-use Rattle.batch_scan.specs.Reads.{is_read}
+use Rattle.batch_scan.specs.Reads.{is_read, rowed_at}
 use Rattle.row_work.specs.Reads.{read_row}
 use Rattle.row_work.specs.Sources.{chosen_edit, rows_as_edits}
 pub use Rattle.batch_scan.proofs.Walks.{groups_more, read_more, values_append}
+
+-- ---- groups that are read
+
+get_on : {X : Type 0} (n : ℕ) (xs : List X) (i : ℕ) → slice_get (drop n xs) i ≡ slice_get xs (n + i)
+get_on zero xs i = let e : i ≡ 0 + i = omega arith in ap (slice_get xs) e
+get_on (suc n) [] i = refl
+get_on (suc n) (x ∷ xs) i = let e : suc (n + i) ≡ suc n + i = omega arith in get_on n xs i ∙ ap (slice_get (x ∷ xs)) e
+
+-- the rows of one group more
+pub groups_on : (view : GroupView) (from n : ℕ) → flat_map (λ (group : ℕ × GroupPart). rowed_in group.1) (take (n + 1) (drop from view.groups)) ≡ flat_map (λ (group : ℕ × GroupPart). rowed_in group.1) (take n (drop from view.groups)) ++ rowed_at view (from + n)
+groups_on view from n =
+    let behind : GroupView = record { groups = drop from view.groups; buffer = view.buffer; floor = view.floor; clock = view.clock } in
+    groups_more behind n ∙ ap (λ o. flat_map (λ (group : ℕ × GroupPart). rowed_in group.1) (take n (drop from view.groups)) ++ unwrap_or (option_map (λ (part : ℕ × GroupPart). rowed_in part.1) o) []) (get_on from view.groups n)
 
 -- ---- rows that are chosen, as edits
 

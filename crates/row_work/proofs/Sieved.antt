@@ -7,13 +7,15 @@ use Rattle.std.specs.Option.{option_and_then, option_map, option_to_list}
 use Rattle.std.proofs.lemmas.List.{append-nil, get_or-map, length-map, take_all}
 use Rattle.std.proofs.lemmas.List.Elements.{recursion_from_All}
 use Rattle.std.proofs.lemmas.Option.{same_Some, slice_get-get_or, slice_get-map, slice_get_within}
+use Rattle.cs_types.specs.declared.Key.{Key}
 use Rattle.cs_types.specs.declared.Schema.{Schema}
 use Rattle.cs_types.specs.declared.Value.{Value}
+use Rattle.cs_types.specs.Rows.{key_in}
 use Rattle.cs_model.specs.declared.plan.Query.{Query}
 use Rattle.cs_model.specs.declared.pred.Pred.{Pred}
 use Rattle.cs_model.specs.Queries.{keeps}
 use Rattle.delete_bitmap.specs.declared.MarkedEnd.{MarkedEnd}
-use Rattle.row_group.specs.Groups.{Group}
+use Rattle.row_group.specs.Groups.{Group, keys_of}
 use Rattle.row_group.specs.Rows.{PackedRow}
 use Rattle.batch_filter.specs.Sieves.{verdicts}
 use Rattle.batch_aggregate.specs.declared.partial.Partial.{Partial}
@@ -88,11 +90,16 @@ packed_rows key [] marks same = refl
 packed_rows key (row ∷ rows) [] same = absurd (omega (arith, same))
 packed_rows key (row ∷ rows) (mark ∷ marks) same = ap (λ l. row.cells ∷ l) (packed_rows key rows marks (omega (arith, same)))
 
+pub packed_keys : (key : ℕ) (rows : List PackedRow) (marks : List (Option MarkedEnd)) → length marks ≡ length rows → map (λ (rowed : Rowed). rowed.version.key) (packed_versions key rows marks) ≡ keys_of key rows
+packed_keys key [] marks same = refl
+packed_keys key (row ∷ rows) [] same = absurd (omega (arith, same))
+packed_keys key (row ∷ rows) (mark ∷ marks) same = ap (λ l. key_in key row.cells ∷ l) (packed_keys key rows marks (omega (arith, same)))
+
 module _ (pinned : Pinned) (group : Group) (versions : List Rowed) (same : map (λ (rowed : Rowed). rowed.row) versions ≡ map (λ (row : PackedRow). row.cells) group.rows) where
   pub length-versions : length versions ≡ length group.rows
   length-versions = sym (length-map versions (λ (rowed : Rowed). rowed.row)) ∙ ap length same ∙ length-map group.rows (λ (row : PackedRow). row.cells)
 
-  row_is : (i : ℕ) (rowed : Rowed) → slice_get versions i ≡ Some rowed → rowed.row ≡ cells_at group i
+  pub row_is : (i : ℕ) (rowed : Rowed) → slice_get versions i ≡ Some rowed → rowed.row ≡ cells_at group i
   row_is i rowed at =
       let within = slice_get_within versions i rowed at in
       same_Some rowed.row (cells_at group i)
@@ -113,42 +120,53 @@ module _ (pinned : Pinned) (group : Group) (versions : List Rowed) (same : map (
       ∙ sym (verdict_at schema (Some pred) group (verdicts schema pred group) refl i here)
       ∙ sym (ap (λ (o : Option (List Bool)). is_shown o i) is) ∙ out
 
-  module _ (width : ℕ) (wide : All (λ (row : PackedRow). length row.cells ≡ width) group.rows) where
+  module _ (width : ℕ) (wide : All (λ (row : PackedRow). length row.cells ≡ width) group.rows) (test : Rowed → Bool) where
     abbrev flag_at : ℕ → Bool
-    flag_at i = get_or (map (is_read pinned) versions) i false
+    flag_at i = get_or (map test versions) i false
 
-    abbrev one_read : ℕ → List (List Value)
-    one_read n = values_of (option_to_list (option_and_then (read_row width pinned) (slice_get versions n)))
+    -- the row of a version that passes, by its key
+    abbrev passed : Rowed → Option (Key × List Value)
+    passed rowed = cond (test rowed) (Some (shown_row width rowed)) None
 
-    one_at : (n : ℕ) → n < length group.rows → map (cells_at group) (cond (flag_at n) (n ∷ []) []) ≡ one_read n
+    abbrev rows_passed : List Rowed → List (List Value)
+    rows_passed list = values_of (filter_map passed list)
+
+    abbrev one_passed : ℕ → List (List Value)
+    one_passed n = values_of (option_to_list (option_and_then passed (slice_get versions n)))
+
+    one_at : (n : ℕ) → n < length group.rows → map (cells_at group) (cond (flag_at n) (n ∷ []) []) ≡ one_passed n
     one_at n within =
         let none : Rowed = record { version = record { key = record { 0 = pos 0 }; begin = 0; end = None }; row = [] } in
         let there : n < length versions = omega (arith, within, length-versions) in
         let at = slice_get-get_or versions n none there in
-        ap (λ b. map (cells_at group) (cond b (n ∷ []) [])) (get_or-map (is_read pinned) versions n none false there)
-        ∙ step (get_or versions n none) at (is_read pinned (get_or versions n none))
-        ∙ ap (λ (o : Option Rowed). values_of (option_to_list (option_and_then (read_row width pinned) o))) (sym at)
+        ap (λ b. map (cells_at group) (cond b (n ∷ []) [])) (get_or-map test versions n none false there)
+        ∙ step (get_or versions n none) at (test (get_or versions n none))
+        ∙ ap (λ (o : Option Rowed). values_of (option_to_list (option_and_then passed o))) (sym at)
       where
-        step : (rowed : Rowed) → slice_get versions n ≡ Some rowed → (read : Bool) → map (cells_at group) (cond read (n ∷ []) []) ≡ values_of (option_to_list (cond read (Some (shown_row width rowed)) None))
+        step : (rowed : Rowed) → slice_get versions n ≡ Some rowed → (t : Bool) → map (cells_at group) (cond t (n ∷ []) []) ≡ values_of (option_to_list (cond t (Some (shown_row width rowed)) None))
         step rowed at true =
             let is = row_is n rowed at in
             ap (λ (cells : List Value). cells ∷ []) (sym is ∙ padded_itself width rowed.row (ap length is ∙ wide n (record { cells = []; begin = 0 }) within))
         step rowed at false = refl
 
-    shown_below : (n : ℕ) → n ≤ length group.rows → rows_at group (filter flag_at (range_with_len 0 n)) ≡ read_in width pinned (take n versions)
+    shown_below : (n : ℕ) → n ≤ length group.rows → rows_at group (filter flag_at (range_with_len 0 n)) ≡ rows_passed (take n versions)
     shown_below zero within = refl
     shown_below (suc n) within =
         ap (λ m. rows_at group (filter flag_at (range_with_len 0 m))) (sym (add-one n))
         ∙ rows-more (cells_at group) flag_at n
         ∙ ap (λ l. l ++ map (cells_at group) (cond (flag_at n) (n ∷ []) [])) (shown_below n (omega arith))
-        ∙ ap (λ l. read_in width pinned (take n versions) ++ l) (one_at n (omega arith))
-        ∙ sym (values_append (filter_map (read_row width pinned) (take n versions)) (option_to_list (option_and_then (read_row width pinned) (slice_get versions n))))
-        ∙ ap values_of (sym (read_more (read_row width pinned) versions n))
-        ∙ ap (λ m. read_in width pinned (take m versions)) (add-one n)
+        ∙ ap (λ l. rows_passed (take n versions) ++ l) (one_at n (omega arith))
+        ∙ sym (values_append (filter_map passed (take n versions)) (option_to_list (option_and_then passed (slice_get versions n))))
+        ∙ ap values_of (sym (read_more passed versions n))
+        ∙ ap (λ m. rows_passed (take m versions)) (add-one n)
 
-    -- in as many cells as they have, the rows at the positions that are read are those that are read
-    pub shown_are : shown_rows group (Some (map (is_read pinned) versions)) ≡ read_in width pinned versions
-    shown_are = shown_below (length group.rows) (omega arith) ∙ ap (read_in width pinned) (take_all (length group.rows) versions (omega (arith, length-versions)))
+    -- in as many cells as they have, the rows at the positions of versions that pass are those of these
+    pub shown_passed : shown_rows group (Some (map test versions)) ≡ values_of (filter_map (λ (rowed : Rowed). cond (test rowed) (Some (shown_row width rowed)) None) versions)
+    shown_passed = shown_below (length group.rows) (omega arith) ∙ ap rows_passed (take_all (length group.rows) versions (omega (arith, length-versions)))
+
+  -- the rows at the positions that are read are those that are read
+  pub shown_are : (width : ℕ) → All (λ (row : PackedRow). length row.cells ≡ width) group.rows → shown_rows group (Some (map (is_read pinned) versions)) ≡ read_in width pinned versions
+  shown_are width wide = shown_passed width wide (is_read pinned)
 
 -- ---- rows at positions
 

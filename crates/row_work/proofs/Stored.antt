@@ -3,6 +3,8 @@ use Rattle.std.proofs.Common.{◌≡◌, ◌≢◌, ℕ, ℤ, zero, suc, ◌+◌
 use Rattle.std.specs.Prelude.{Option, None, Some, slice_get, unwrap_or, is_some, IfNone, IfSome, IsSome}
 use Rattle.std.specs.List.{cons_option, filter_map, flat_map, list_any}
 use Rattle.std.specs.List.Sorted.{IsPermutation}
+use Rattle.std.specs.declared.alloc.Global.{Global}
+use Rattle.std.specs.declared.vec.Vec.{Vec}
 use Rattle.std.specs.Option.{option_and_then, option_map, option_to_list}
 use Rattle.std.proofs.lemmas.Bool.{and_from, and_parts}
 use Rattle.std.specs.BTreeMap.{is_at}
@@ -178,7 +180,7 @@ passing_step test None is = cc
 passing_step test (Some x) is = (x, refl, same_Some (test x) true is)
 
 -- the version that passes
-passing : (test : Rowed → Bool) (versions : List Rowed) (p : ℕ) → PassesAt test versions p → (x : Rowed) × (slice_get versions p ≡ Some x) × (test x ≡ true)
+pub passing : (test : Rowed → Bool) (versions : List Rowed) (p : ℕ) → PassesAt test versions p → (x : Rowed) × (slice_get versions p ≡ Some x) × (test x ≡ true)
 passing test versions p is = passing_step test (slice_get versions p) is
 
 module _ (pinned : Pinned) (versions : List Rowed) (keys : List Key) (key : Key) where
@@ -320,7 +322,7 @@ module _ (schema : Schema) (condition : Option Pred) (pinned : Pinned) (bounds :
   one_kept x true false is_read' is_within row rest other same =
       same ∙ ap (λ t. cond t (shown_row width x ∷ chosen schema condition other) (chosen schema condition other)) (sym (dropped x (row is_read') is_within (keeps schema condition (padded width x.row)) refl))
 
-  kept_same : (versions : List Rowed) → AreRowsRead schema pinned versions → chosen schema condition (filter_map bounded versions) ≡ chosen schema condition (filter_map reads versions)
+  pub kept_same : (versions : List Rowed) → AreRowsRead schema pinned versions → chosen schema condition (filter_map bounded versions) ≡ chosen schema condition (filter_map reads versions)
   kept_same [] rows = refl
   kept_same (x ∷ versions) rows =
       one_kept x (is_read pinned x) (is_between bounds.least bounds.greatest x.version.key) refl refl (rows zero x refl) (filter_map bounded versions) (filter_map reads versions) (kept_same versions (λ i. rows (suc i)))
@@ -360,6 +362,13 @@ rows_read schema pinned group may position x at read =
     let inside = Contains-from_lookup {eq = eq_by_cmp key_cmp} one_key key (padded width x.row) table row in
     let entry : Key × List Value = (key, padded width x.row) in
     subst (λ (e : Key × List Value). IsRowAt schema e.0 e.1) inside.2 (may.fit inside.0 entry inside.1).1
+
+-- positions of those between bounds are enough
+pub enough_listed : (schema : Schema) (condition : Option Pred) (pinned : Pinned) (bounds : Bounds) → KeepsWithin schema condition bounds → (group : ℕ) → MayRead schema pinned → (found : Option (Vec ℕ Global))
+    → IfSome found (λ positions. positions.items ≡ positions_of (is_read_within pinned bounds) (rowed_at pinned.view group)) → IfSome found (λ positions. AreEnough schema condition pinned (rowed_at pinned.view group) positions.items)
+enough_listed schema condition pinned bounds keeps_within group may None listed = tt
+enough_listed schema condition pinned bounds keeps_within group may (Some positions) listed =
+    subst (AreEnough schema condition pinned (rowed_at pinned.view group)) (sym listed) (loses_none schema condition pinned bounds keeps_within (rowed_at pinned.view group) (rows_read schema pinned group may))
 
 -- the versions of a store of the view
 pub store_at : (pinned : Pinned) (store : _) (o : Option (ℕ × GroupPart)) → IfSome o (λ (part : ℕ × GroupPart). IsBorrowed part.1 (lent.Store store)) → IsSome o → unwrap_or (option_map (λ (part : ℕ × GroupPart). rowed_in part.1) o) [] ≡ stored_versions store.now

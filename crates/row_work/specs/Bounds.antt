@@ -11,7 +11,7 @@ use Rattle.cs_model.specs.declared.truth.Truth.TheVariants.{True}
 use Rattle.cs_model.specs.Cells.{loose_at}
 use Rattle.cs_model.specs.Held.{IsRowAt}
 use Rattle.cs_model.specs.Queries.{keeps}
-use Rattle.cs_model.specs.Truths.{compare, truth}
+use Rattle.cs_model.specs.Truths.{compare, truth, truth_if}
 use Rattle.delta_store.specs.Index.{is_between}
 use Rattle.row_work.specs.declared.bounds.Bounds.{Bounds}
 
@@ -31,3 +31,15 @@ BoundsTrue schema pred bounds = (key : Key) (row : List Value) → IsRowAt schem
 -- each row of the table that the condition keeps has one of these keys
 abbrev pub KeepsWithin : Schema → Option Pred → Bounds → Type 0
 KeepsWithin schema condition bounds = (key : Key) (row : List Value) → IsRowAt schema key row → keeps schema condition row ≡ true → IsWithin bounds key
+
+-- of the rows of the table exactly those of these keys stand so to the constant, and each other one does not
+abbrev pub IsRangeBeside : Schema → Relation → Loose → Bounds → Type 0
+IsRangeBeside schema sign constant bounds = (key : Key) (row : List Value) → IsRowAt schema key row → compare sign (loose_at schema row schema.key) constant ≡ truth_if (is_between bounds.least bounds.greatest key)
+
+-- the condition is True of the rows of the table with one of these keys, and False of each other one
+abbrev pub IsRange : Schema → Pred → Bounds → Type 0
+IsRange schema pred bounds = (key : Key) (row : List Value) → IsRowAt schema key row → truth pred row schema ≡ truth_if (is_between bounds.least bounds.greatest key)
+
+-- of the rows of the table the condition keeps exactly those with one of these keys
+abbrev pub KeepsRange : Schema → Option Pred → Bounds → Type 0
+KeepsRange schema condition bounds = (key : Key) (row : List Value) → IsRowAt schema key row → keeps schema condition row ≡ is_between bounds.least bounds.greatest key

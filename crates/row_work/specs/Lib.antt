@@ -7,3 +7,4 @@ pub mod Named
 pub mod Sieved
 pub mod Bounds
 pub mod Stores
+pub mod Ranges

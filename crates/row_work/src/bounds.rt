@@ -1,6 +1,6 @@
 //! The least and the greatest key of the rows that a condition keeps.
 
-ghost use Rattle.std.specs.Prelude.{◌≡◌, ◌≤ℤ◌, ℤ, true, List, FitsSigned, map};
+ghost use Rattle.std.specs.Prelude.{◌≡◌, ◌&&◌, ◌≤ℤ◌, ℤ, true, List, FitsSigned, map};
 ghost use Rattle.std.specs.Int.{w64};
 ghost use Rattle.std.specs.Ordering.{int_cmp};
 ghost use Rattle.cs_types.specs.declared.Key.{Key};
@@ -11,6 +11,7 @@ ghost use Rattle.cs_types.specs.Schemas.{IsSchema};
 ghost use Rattle.cs_model.specs.Held.{IsRowAt};
 ghost use Rattle.cs_model.specs.Truths as spec;
 ghost use Rattle.cs_model.specs.declared.truth.Truth.TheVariants.{True};
+ghost use Rattle.delta_store.specs.Index.{is_between};
 ghost use Rattle.row_work.specs.Bounds.{IsWithin, BoundsBeside, BoundsTrue, KeepsWithin};
 
 use cs_model::{Operand, Pred, Relation};
@@ -24,6 +25,15 @@ pub struct Bounds {
     pub greatest: Key,
 }
 
+impl Bounds {
+    /// Whether a key is one of them.
+    pub fn has(self, key: Key) -> bool
+        ensures { result ≡ is_between self.least self.greatest key }
+    {
+        self.least <= key && key <= self.greatest
+    }
+}
+
 /// All keys.
 pub const ALL: Bounds = Bounds {
     least: Key(i64::MIN),
@@ -31,8 +41,8 @@ pub const ALL: Bounds = Bounds {
 };
 
 /// The keys that are among both.
-fn meet(a: Bounds, b: Bounds) -> Bounds
-    ensures { (key : Key) → IsWithin a key → IsWithin b key → IsWithin result key }
+pub fn meet(a: Bounds, b: Bounds) -> Bounds
+    ensures { (key : Key) → is_between result.least result.greatest key ≡ (is_between a.least a.greatest key && is_between b.least b.greatest key) }
 {
     Bounds {
         least: cmp::max(a.least, b.least),
@@ -88,7 +98,7 @@ fn bounds_beside(sign: Relation, constant: &Loose) -> Bounds
 }
 
 /// How the second of two sides stands to the first.
-fn turned(sign: Relation) -> Relation
+pub fn turned(sign: Relation) -> Relation
     ensures { (a b : Loose) → spec.compare result b a ≡ spec.compare sign a b }
 {
     match sign {

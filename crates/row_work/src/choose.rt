@@ -9,11 +9,14 @@ ghost use Rattle.cs_model.specs.Queries.{keeps};
 ghost use Rattle.cs_model.specs.Obstacles.{has_row};
 ghost use Rattle.write_set.specs.Writes.{Ascend};
 ghost use Rattle.group_view.specs.Parts.{packed_versions, IsFitting};
+ghost use Rattle.batch_scan.specs.Reads.{is_read};
 ghost use Rattle.group_view.specs.Views.{rowed_of};
 ghost use Rattle.row_work.specs.Named.{rows_at};
 ghost use Rattle.row_work.specs.Reads.{own_row, read_by, read_row, row_in, rowed_at, shown_by, HasSnapshot, MayRead};
 ghost use Rattle.row_work.specs.Sources.{chosen_at, chosen_edit, rows_as_edits, row_of, IsShown};
+ghost use Rattle.row_work.specs.Stores.{read_at_position, PassesAt};
 
+use crate::by_key::{positions_read, read_at_position};
 use crate::lookup::read_at_key;
 use crate::named::named_keys;
 use crate::reading::{ReadRow, has_row_shown, read_at, row_at};
@@ -58,8 +61,37 @@ fn choose_read(
     Ok(())
 }
 
-/// Chooses the rows of a delta store that are read and that the condition keeps.
-fn choose_in_store(
+/// Chooses, of the versions of a group that are read, by their positions, those whose rows the condition keeps.
+fn choose_at_positions(
+    alloc: Global,
+    chosen: &mut Vec<Chosen>,
+    schema: &Schema,
+    condition: &Option<Pred>,
+    pinned: &Pinned,
+    group: usize,
+    positions: &[usize],
+) -> Result<(), Memory>
+    requires read { All (PassesAt (is_read pinned.now) (rowed_at pinned.now.view group)) positions.now }
+    requires shown { All (IsShown pinned.now) chosen.old.items }
+    ensures rows { OnOk result (map (chosen_edit (length schema.now.columns) pinned.now) chosen.new.items ≡ map (chosen_edit (length schema.now.columns) pinned.now) chosen.old.items ++ rows_as_edits (spec.chosen schema.now condition.now (filter_map (read_at_position (length schema.now.columns) pinned.now (rowed_at pinned.now.view group)) positions.now))) }
+    ensures shown { OnOk result (All (IsShown pinned.now) chosen.new.items) }
+{
+    let width = schema.columns.len();
+    for position in positions {
+        let place = Place {
+            group,
+            position: *position,
+        };
+        let (key, read) = read_at_position(alloc, pinned, place, width)?;
+        let source = Source::Shown(place);
+        let one = Chosen { key, source };
+        choose_read(chosen, schema, condition, one, read)?;
+    }
+    Ok(())
+}
+
+/// Chooses the rows of a group that are read and that the condition keeps, version by version.
+fn choose_versions(
     alloc: Global,
     chosen: &mut Vec<Chosen>,
     schema: &Schema,
@@ -132,7 +164,31 @@ fn choose_in_packed(
     choose_positions(chosen, packed, group, &positions)
 }
 
-/// Chooses the rows of a group that are read and that the condition keeps.
+/// Chooses the rows of a group that are read and that the condition keeps, by a walk over all of it.
+fn choose_in_whole(
+    alloc: Global,
+    chosen: &mut Vec<Chosen>,
+    schema: &Schema,
+    condition: &Option<Pred>,
+    pinned: &Pinned,
+    group: usize,
+) -> Result<(), Memory>
+    requires there { group < length pinned.now.view.groups }
+    requires may { MayRead schema.now pinned.now }
+    requires shown { All (IsShown pinned.now) chosen.old.items }
+    ensures rows { OnOk result (map (chosen_edit (length schema.now.columns) pinned.now) chosen.new.items ≡ map (chosen_edit (length schema.now.columns) pinned.now) chosen.old.items ++ rows_as_edits (spec.chosen schema.now condition.now (filter_map (read_row (length schema.now.columns) pinned.now) (rowed_at pinned.now.view group)))) }
+    ensures shown { OnOk result (All (IsShown pinned.now) chosen.new.items) }
+{
+    match pinned.view.group(group) {
+        GroupRef::Packed(packed, marks) => choose_in_packed(
+            alloc, chosen, schema, condition, pinned, group, packed, marks,
+        ),
+        GroupRef::Store(_) => choose_versions(alloc, chosen, schema, condition, pinned, group),
+    }
+}
+
+/// Chooses the rows of a group that are read and that the condition keeps. Rows of which their keys tell that the condition does not
+/// keep them may be passed over.
 fn choose_in_group(
     alloc: Global,
     chosen: &mut Vec<Chosen>,
@@ -142,16 +198,16 @@ fn choose_in_group(
     group: usize,
 ) -> Result<(), Memory>
     requires there { group < length pinned.now.view.groups }
-    requires fitting { All (λ group. IsFitting group.1) pinned.now.view.groups }
+    requires may { MayRead schema.now pinned.now }
     requires shown { All (IsShown pinned.now) chosen.old.items }
     ensures rows { OnOk result (map (chosen_edit (length schema.now.columns) pinned.now) chosen.new.items ≡ map (chosen_edit (length schema.now.columns) pinned.now) chosen.old.items ++ rows_as_edits (spec.chosen schema.now condition.now (filter_map (read_row (length schema.now.columns) pinned.now) (rowed_at pinned.now.view group)))) }
     ensures shown { OnOk result (All (IsShown pinned.now) chosen.new.items) }
 {
-    match pinned.view.group(group) {
-        GroupRef::Packed(packed, marks) => choose_in_packed(
-            alloc, chosen, schema, condition, pinned, group, packed, marks,
+    match positions_read(alloc, schema, condition, pinned, group)? {
+        Some(positions) => choose_at_positions(
+            alloc, chosen, schema, condition, pinned, group, &positions,
         ),
-        GroupRef::Store(_) => choose_in_store(alloc, chosen, schema, condition, pinned, group),
+        None => choose_in_whole(alloc, chosen, schema, condition, pinned, group),
     }
 }
 
@@ -162,7 +218,7 @@ fn choose_shown(
     condition: &Option<Pred>,
     pinned: &Pinned,
 ) -> Result<Vec<Chosen>, Memory>
-    requires { All (λ group. IsFitting group.1) pinned.now.view.groups }
+    requires { MayRead schema.now pinned.now }
     ensures rows { IfOk result (λ chosen. map (chosen_edit (length schema.now.columns) pinned.now) chosen.items ≡ rows_as_edits (spec.chosen schema.now condition.now (filter_map (read_row (length schema.now.columns) pinned.now) (rowed_of pinned.now.view)))) }
     ensures shown { IfOk result (λ chosen. All (IsShown pinned.now) chosen.items) }
 {
@@ -221,7 +277,7 @@ fn choose_of_all(
     condition: &Option<Pred>,
     pinned: &Pinned,
 ) -> Result<Vec<Chosen>, Memory>
-    requires { HasSnapshot pinned.now }
+    requires { MayRead schema.now pinned.now }
     ensures rows { IfOk result (λ chosen. map (chosen_edit (length schema.now.columns) pinned.now) chosen.items ≡ rows_as_edits (spec.chosen schema.now condition.now (read_by (length schema.now.columns) pinned.now))) }
     ensures shown { IfOk result (λ chosen. All (IsShown pinned.now) chosen.items) }
 {

@@ -1,30 +1,31 @@
-//! The answer of a SELECT.
+//! The rows of a SELECT, added to a partial answer.
 
-ghost use Rattle.std.specs.Prelude.{◌≡◌, ◌++◌, ◌<◌, List, length, All, IfOk, OnOk};
+ghost use Rattle.std.specs.Prelude.{◌≡◌, ◌-◌, ◌++◌, ◌<◌, ◌≤◌, List, length, take, drop, All, OnOk};
 ghost use Rattle.std.specs.List.{filter_map};
 ghost use Rattle.std.specs.Map.{values_of};
 ghost use Rattle.cs_types.specs.declared.Value.{Value};
 ghost use Rattle.cs_model.specs.Queries.{Gives, answer};
-ghost use Rattle.cs_model.specs.Text.{IsPrintableRow};
 ghost use Rattle.batch_aggregate.specs.Standing.{StandsFor};
 ghost use Rattle.write_set.specs.Writes.{Ascend};
 ghost use Rattle.batch_scan.specs.Reads.{is_read};
-ghost use Rattle.group_view.specs.Views.{rowed_of};
+ghost use Rattle.group_view.specs.Parts.{packed_versions};
 ghost use Rattle.row_work.specs.Named.{rows_at};
-ghost use Rattle.row_work.specs.Reads.{own_row, read_by, read_row, rowed_at, HasSnapshot, MayRead};
+ghost use Rattle.row_work.specs.Reads.{own_row, read_by, read_of, rowed_at, HasSnapshot, MayRead};
 ghost use Rattle.row_work.specs.Sieved.{read_in};
 ghost use Rattle.row_work.specs.Stores.{read_at_position, PassesAt};
 
 use crate::adding::{add_read, add_versions};
+use crate::by_key::{positions_read, read_at_position};
 use crate::lookup::read_at_key;
-use crate::named::named_keys;
 use crate::packed::add_packed;
-use crate::stores::{positions_read, read_at_position};
+use crate::ranged::tally_range;
 use batch_aggregate::Partial;
 use cs_base::{Items, Memory};
 use cs_model::{AnswerRefusal, AnswerRow, Query};
 use cs_types::{Key, Schema};
+use delete_bitmap::Marks;
 use group_view::{GroupRef, Pinned, Place};
+use row_group::Packed;
 use std::alloc::Global;
 use write_set::Own;
 
@@ -53,8 +54,62 @@ fn add_at_positions(
     Ok(())
 }
 
-/// Adds the rows of a delta store that are read. Rows of which its keys tell that the filter does not keep them may be left out.
-fn add_store(
+/// Adds the rows of a packed group that are read: by their keys where the filter names a range of these, and else by verdicts.
+fn add_by_codes(
+    alloc: Global,
+    partial: &mut Partial<'_>,
+    schema: &Schema,
+    query: &Query,
+    pinned: &Pinned,
+    group: usize,
+    packed: &Packed,
+    marks: &Marks,
+) -> Result<(), Memory>
+    requires there { group < length pinned.now.view.groups }
+    requires may { MayRead schema.now pinned.now }
+    requires versions { rowed_at pinned.now.view group ≡ packed_versions packed.now.key packed.now.rows marks.now }
+    requires marks { length marks.now ≡ length packed.now.rows }
+    requires of_schema { partial.old.schema.now ≡ schema.now }
+    requires of_query { partial.old.query.now ≡ query.now }
+    ensures schema { partial.new.schema.now ≡ partial.old.schema.now }
+    ensures query { partial.new.query.now ≡ partial.old.query.now }
+    ensures added { (rows : List (List Value)) → StandsFor partial.old rows → OnOk result (StandsFor partial.new (rows ++ read_in (length schema.now.columns) pinned.now (rowed_at pinned.now.view group))) }
+{
+    let is_tallied = tally_range(alloc, partial, schema, query, pinned, packed, marks)?;
+    if is_tallied {
+        return Ok(());
+    }
+    add_packed(alloc, partial, schema, query, pinned, group, packed, marks)
+}
+
+/// Adds the rows of a group that are read, by a walk over all of it.
+fn add_whole(
+    alloc: Global,
+    partial: &mut Partial<'_>,
+    schema: &Schema,
+    query: &Query,
+    pinned: &Pinned,
+    group: usize,
+) -> Result<(), Memory>
+    requires there { group < length pinned.now.view.groups }
+    requires may { MayRead schema.now pinned.now }
+    requires of_schema { partial.old.schema.now ≡ schema.now }
+    requires of_query { partial.old.query.now ≡ query.now }
+    ensures schema { partial.new.schema.now ≡ partial.old.schema.now }
+    ensures query { partial.new.query.now ≡ partial.old.query.now }
+    ensures added { (rows : List (List Value)) → StandsFor partial.old rows → OnOk result (StandsFor partial.new (rows ++ read_in (length schema.now.columns) pinned.now (rowed_at pinned.now.view group))) }
+{
+    let width = schema.columns.len();
+    match pinned.view.group(group) {
+        GroupRef::Packed(packed, marks) => {
+            add_by_codes(alloc, partial, schema, query, pinned, group, packed, marks)
+        }
+        GroupRef::Store(_) => add_versions(alloc, partial, pinned, group, width, &None, &None),
+    }
+}
+
+/// Adds the rows of a group that are read. Rows of which their keys tell that the filter does not keep them may be left out.
+fn add_group(
     alloc: Global,
     partial: &mut Partial<'_>,
     schema: &Schema,
@@ -73,58 +128,36 @@ fn add_store(
     let width = schema.columns.len();
     match positions_read(alloc, schema, &query.filter, pinned, group)? {
         Some(positions) => add_at_positions(alloc, partial, pinned, group, width, &positions),
-        None => add_versions(alloc, partial, pinned, group, width, &None, &None),
+        None => add_whole(alloc, partial, schema, query, pinned, group),
     }
 }
 
-/// Adds the rows of a group that are read.
-fn add_group(
+/// Adds the rows that are read of the groups of the view from one place up to another, group after group.
+pub fn add_groups(
     alloc: Global,
     partial: &mut Partial<'_>,
     schema: &Schema,
     query: &Query,
     pinned: &Pinned,
-    group: usize,
+    from: usize,
+    to: usize,
 ) -> Result<(), Memory>
-    requires there { group < length pinned.now.view.groups }
+    requires there { (from ≤ to) × (to ≤ length pinned.now.view.groups) }
     requires may { MayRead schema.now pinned.now }
     requires of_schema { partial.old.schema.now ≡ schema.now }
     requires of_query { partial.old.query.now ≡ query.now }
     ensures schema { partial.new.schema.now ≡ partial.old.schema.now }
     ensures query { partial.new.query.now ≡ partial.old.query.now }
-    ensures added { (rows : List (List Value)) → StandsFor partial.old rows → OnOk result (StandsFor partial.new (rows ++ read_in (length schema.now.columns) pinned.now (rowed_at pinned.now.view group))) }
+    ensures added { (rows : List (List Value)) → StandsFor partial.old rows → OnOk result (StandsFor partial.new (rows ++ read_of (length schema.now.columns) pinned.now (take (to - from) (drop from pinned.now.view.groups)))) }
 {
-    match pinned.view.group(group) {
-        GroupRef::Packed(packed, marks) => {
-            add_packed(alloc, partial, schema, query, pinned, group, packed, marks)
-        }
-        GroupRef::Store(_) => add_store(alloc, partial, schema, query, pinned, group),
-    }
-}
-
-/// Adds the rows of the view that are read, group after group.
-fn add_shown(
-    alloc: Global,
-    partial: &mut Partial<'_>,
-    schema: &Schema,
-    query: &Query,
-    pinned: &Pinned,
-) -> Result<(), Memory>
-    requires may { MayRead schema.now pinned.now }
-    requires of_schema { partial.old.schema.now ≡ schema.now }
-    requires of_query { partial.old.query.now ≡ query.now }
-    ensures schema { partial.new.schema.now ≡ partial.old.schema.now }
-    ensures query { partial.new.query.now ≡ partial.old.query.now }
-    ensures added { (rows : List (List Value)) → StandsFor partial.old rows → OnOk result (StandsFor partial.new (rows ++ values_of (filter_map (read_row (length schema.now.columns) pinned.now) (rowed_of pinned.now.view)))) }
-{
-    for group in 0..pinned.view.len() {
+    for group in from..to {
         add_group(alloc, partial, schema, query, pinned, group)?;
     }
     Ok(())
 }
 
 /// Adds the rows of own writes.
-fn add_own(partial: &mut Partial<'_>, own: &Own) -> Result<(), Memory>
+pub fn add_own(partial: &mut Partial<'_>, own: &Own) -> Result<(), Memory>
     ensures schema { partial.new.schema.now ≡ partial.old.schema.now }
     ensures query { partial.new.query.now ≡ partial.old.query.now }
     ensures added { (rows : List (List Value)) → StandsFor partial.old rows → OnOk result (StandsFor partial.new (rows ++ values_of (filter_map own_row own.now))) }
@@ -160,24 +193,9 @@ fn add_at_keys(
     Ok(())
 }
 
-/// The answer of a SELECT over all rows that are read.
-fn answer_of_all(
-    alloc: Global,
-    schema: &Schema,
-    query: &Query,
-    pinned: &Pinned,
-) -> Result<Items<AnswerRow>, AnswerRefusal>
-    requires { MayRead schema.now pinned.now }
-    ensures { Gives result (answer schema.now query.now (values_of (read_by (length schema.now.columns) pinned.now))) }
-{
-    let mut partial = Partial::new(alloc, schema, query)?;
-    add_shown(alloc, &mut partial, schema, query, pinned)?;
-    add_own(&mut partial, &pinned.own)?;
-    partial.result()
-}
-
-/// The answer of a SELECT over the rows that are read at keys.
-fn answer_at_keys(
+/// The answer of a SELECT over the rows that are read at keys. `Overflow` at the first row of the answer and its first item whose
+/// whole count or sum is out of the range of its type; `Memory` where there is no room.
+pub fn answer_at_keys(
     alloc: Global,
     schema: &Schema,
     query: &Query,
@@ -191,22 +209,4 @@ fn answer_at_keys(
     let mut partial = Partial::new(alloc, schema, query)?;
     add_at_keys(alloc, &mut partial, pinned, keys, width)?;
     partial.result()
-}
-
-/// The answer of a SELECT over what is read. Where its filter names keys, no other rows are read. `Overflow` at the first row of
-/// the answer and its first item whose whole count or sum is out of the range of its type; `Memory` where there is no room.
-pub fn answer(
-    alloc: Global,
-    schema: &Schema,
-    query: &Query,
-    pinned: &Pinned,
-) -> Result<Items<AnswerRow>, AnswerRefusal>
-    requires { MayRead schema.now pinned.now }
-    ensures gives { Gives result (answer schema.now query.now (values_of (read_by (length schema.now.columns) pinned.now))) }
-    ensures printable { IfOk result (λ found. All IsPrintableRow found) }
-{
-    match named_keys(alloc, schema, &query.filter)? {
-        Some(keys) => answer_at_keys(alloc, schema, query, pinned, &keys),
-        None => answer_of_all(alloc, schema, query, pinned),
-    }
 }

@@ -1,20 +1,15 @@
 //! The rows of a delta store that a statement reads, found by the keys of the store.
 
-ghost use Rattle.std.specs.Prelude.{◌≡◌, ◌<◌, ℕ, length, IfNone, IfOk, IfSome, IsPermutation, Some};
-ghost use Rattle.cs_types.specs.Schemas.{IsSchema};
-ghost use Rattle.batch_scan.specs.Reads.{is_read};
+ghost use Rattle.std.specs.Prelude.{◌≡◌, ℕ, IfNone, IfOk, IfSome, IsPermutation, Some};
 ghost use Rattle.delta_store.specs.Versions.{IsLastPlace};
 ghost use Rattle.group_view.specs.Parts.{stored_versions};
-ghost use Rattle.row_work.specs.Reads.{row_in, rowed_at, MayRead};
-ghost use Rattle.row_work.specs.Stores.{is_read_of, is_read_within, positions_of, read_at_position, AreRowsRead, IsSeenOnce, AreEnough, PassesAt};
+ghost use Rattle.row_work.specs.Stores.{is_read_of, is_read_within, positions_of, IsSeenOnce, PassesAt};
 
-use crate::bounds::{ALL, Bounds, named_bounds};
-use crate::reading::{ReadRow, row_at};
+use crate::bounds::{ALL, Bounds};
 use cs_base::Memory;
-use cs_model::Pred;
-use cs_types::{Key, Schema};
+use cs_types::Key;
 use delta_store::Frozen;
-use group_view::{GroupRef, Pinned, Place, seen_from};
+use group_view::{Pinned, seen_from};
 use std::alloc::Global;
 
 /// The position of the version of a key that is read in a store, from the place of the key's last version back. None where none is
@@ -72,61 +67,41 @@ fn positions_within(
     Ok(positions)
 }
 
-/// Whether the rows of a store are found by its keys: where the condition bounds these, and where most versions have ended.
-fn is_by_key(store: &Frozen, bounds: Bounds) -> bool {
-    bounds != ALL || store.ended() > store.len() / 2
+/// At most so many versions of a store are looked at to tell how many are of some keys.
+const SAMPLES: usize = 64;
+
+/// Whether more than a quarter of the versions of a store are of these keys, to judge by some that stand evenly apart.
+fn holds_many(store: &Frozen, bounds: Bounds) -> bool {
+    let apart = store.len() / SAMPLES + 1;
+    let mut among = 0;
+    let mut place = 0;
+    while place < store.len() {
+        among += bounds.has(store.key(place)) as usize;
+        place = place.saturating_add(apart);
+    }
+    among > store.len() / apart / 4
 }
 
-/// The positions of the versions that are read in a store, but for keys of which the condition keeps no row, in their order. None where
-/// each version is to be tested.
-fn positions_by_key(
+/// Whether it takes less time to find the rows of a store by its keys than to test each version: where most of these have ended, and
+/// where few are of the keys.
+fn is_by_key(store: &Frozen, bounds: Bounds) -> bool {
+    store.ended() > store.len() / 2 || (bounds != ALL && !holds_many(store, bounds))
+}
+
+/// The positions of the versions that are read in a store, of these keys alone, in their order. None where each version is to be
+/// tested.
+pub fn positions_in_store(
     alloc: Global,
-    schema: &Schema,
-    condition: &Option<Pred>,
     pinned: &Pinned,
     store: &Frozen,
+    bounds: Bounds,
 ) -> Result<Option<Vec<usize>>, Memory>
-    requires table { IsSchema schema.now }
-    requires once { IsSeenOnce pinned.now (stored_versions store.now) }
-    requires rows { AreRowsRead schema.now pinned.now (stored_versions store.now) }
-    ensures { IfOk result (λ found. IfSome found (λ positions. AreEnough schema.now condition.now pinned.now (stored_versions store.now) positions.items)) }
+    requires { IsSeenOnce pinned.now (stored_versions store.now) }
+    ensures { IfOk result (λ found. IfSome found (λ positions. positions.items ≡ positions_of (is_read_within pinned.now bounds) (stored_versions store.now))) }
 {
-    let bounds = named_bounds(schema, condition);
     if !is_by_key(store, bounds) {
         return Ok(None);
     }
     let positions = positions_within(alloc, pinned, store, bounds)?;
     Ok(Some(positions))
-}
-
-/// The same of a group of the view. None for a packed group.
-pub fn positions_read(
-    alloc: Global,
-    schema: &Schema,
-    condition: &Option<Pred>,
-    pinned: &Pinned,
-    group: usize,
-) -> Result<Option<Vec<usize>>, Memory>
-    requires there { group < length pinned.now.view.groups }
-    requires may { MayRead schema.now pinned.now }
-    ensures { IfOk result (λ found. IfSome found (λ positions. AreEnough schema.now condition.now pinned.now (rowed_at pinned.now.view group) positions.items)) }
-{
-    match pinned.view.group(group) {
-        GroupRef::Store(store) => positions_by_key(alloc, schema, condition, pinned, store),
-        GroupRef::Packed(_, _) => Ok(None),
-    }
-}
-
-/// The row of a version of a group that is read, by its position.
-pub fn read_at_position<'a>(
-    alloc: Global,
-    pinned: &'a Pinned,
-    place: Place,
-    width: usize,
-) -> Result<(Key, ReadRow<'a>), Memory>
-    requires { PassesAt (is_read pinned.now) (rowed_at pinned.now.view place.group) place.position }
-    ensures { IfOk result (λ read. read_at_position width pinned.now (rowed_at pinned.now.view place.group) place.position ≡ Some (read.0, row_in read.1)) }
-{
-    let key = pinned.view.version(place).key;
-    Ok((key, row_at(alloc, &pinned.view, place, width)?))
 }

@@ -1,4 +1,5 @@
 use Rattle.std.proofs.Common.{◌∙◌, refl, sym}
+use Rattle.std.proofs.lemmas.Bool.{and_from}
 use Rattle.cs_model.specs.Truths.{truth}
 use Rattle.row_work.proofs.Bounded.{all_parts, among_all, key_between}
 use Rattle.row_work.proofs.Constants.{key_small}
@@ -14,7 +15,8 @@ bounds_of-returns-in-Between-default-false-default-default t c = λ key row stan
     let schema = c.args.schema.now in
     let case = c.in-Between-default-false-default-default in
     let holds = key_between schema row c.args.pred.now case.column case.negated case.low case.high case.is (sym case.negated-is ∙ case.negated-test) c.if-column-schema.true is in
-    c.meet.ensures key (c.bounds_beside.ensures schema key row c.requires stands (and_first _ _ holds)) (c.bounds_beside-in-Between-default-false-default-default.ensures schema key row c.requires stands (and_second _ _ holds))
+    c.meet.ensures key
+    ∙ and_from _ _ (c.bounds_beside.ensures schema key row c.requires stands (and_first _ _ holds)) (c.bounds_beside-in-Between-default-false-default-default.ensures schema key row c.requires stands (and_second _ _ holds))
 
 pub bounds_of-returns-in_default : goal.bounds_of-returns-in_default
 bounds_of-returns-in_default t c = λ key row stands is. among_all _ key refl refl (key_small c.args.schema.now key row c.requires stands)
@@ -30,5 +32,6 @@ bounds_of_all-loop-part-init t c = λ key row stands is. among_all _ key refl re
 
 pub bounds_of_all-loop-part-preserved : goal.bounds_of_all-loop-part-preserved
 bounds_of_all-loop-part-preserved t c = λ key row stands is.
-    c.meet-bounds.ensures key (c.loop-part.invariant key row stands is)
+    c.meet-bounds.ensures key
+    ∙ and_from _ _ (c.loop-part.invariant key row stands is)
     (c.bounds_of.ensures key row stands (part_true (λ part. truth part row c.args.schema.now) c.args.parts.now c.loop-part.part-index c.part-item.result c.loop-part-test.true c.part-item.is is))

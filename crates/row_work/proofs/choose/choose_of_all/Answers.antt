@@ -16,5 +16,5 @@ returns-clause-rows c =
     let own = filter_map own_row pinned.own in
     let shown = filter_map (read_row width pinned) (rowed_of pinned.view) in
     let all = c.in_ok-choose_own.ensures.rows ∙ ap (λ l. l ++ picked schema condition own) c.in_ok-chosen.ensures.rows ∙ sym (picked_append schema condition shown own) in
-    chosen_sorted width pinned schema condition c.choose_own.new.chosen.items c.sort.new.chosen.items (rows_are_read width pinned c.requires c.choose_own.ensures.order) all
+    chosen_sorted width pinned schema condition c.choose_own.new.chosen.items c.sort.new.chosen.items (rows_are_read width pinned c.requires.snapshot c.choose_own.ensures.order) all
     c.sort.ensures.permutation c.sort.ensures.sorted

@@ -1,0 +1,100 @@
+//! The rows of a packed group that a statement reads, found by their keys.
+
+ghost use Rattle.std.specs.Prelude.{◌≡◌, ◌≤◌, length, IfOk, IfSome};
+ghost use Rattle.cs_types.specs.Keys.{key_cmp};
+ghost use Rattle.row_group.specs.Groups.{precedes, IsFirstPlace};
+ghost use Rattle.row_work.specs.Ranges.{ArePlacesWithin, AreReadBetween, HasKeysOf};
+ghost use Rattle.row_work.specs.Reads.{rowed_at};
+ghost use Rattle.row_work.specs.Stores.{is_read_within, positions_of};
+
+use crate::bounds::Bounds;
+use batch_scan::key_seen;
+use cs_base::Memory;
+use cs_types::Key;
+use group_view::{Pinned, Place};
+use row_group::{Packed, Places};
+use std::alloc::Global;
+
+/// Whether a key comes before another one, or may tie with it and does.
+fn is_before(key: Key, other: Key, tied: bool) -> bool
+    ensures { result ≡ precedes tied (key_cmp key other) }
+{
+    if tied { key <= other } else { key < other }
+}
+
+/// The first place, among the positions of a group by key, of a key that does not come before this one; where it may tie, of one that
+/// comes after it.
+fn first_place(packed: &Packed, key: Key, tied: bool) -> usize
+    ensures { IsFirstPlace packed.now key tied result }
+{
+    let mut low = 0;
+    let mut high = packed.places().len();
+    while low < high {
+        let middle = low + (high - low) / 2;
+        if is_before(packed.key_at(packed.place(middle)), key, tied) {
+            low = middle + 1;
+        } else {
+            high = middle;
+        }
+    }
+    low
+}
+
+/// The places of these keys among the positions of a group by key.
+pub fn places_within(packed: &Packed, bounds: Bounds) -> Places
+    ensures { ArePlacesWithin packed.now bounds result.from result.to }
+{
+    let from = first_place(packed, bounds.least, false);
+    let end = first_place(packed, bounds.greatest, true);
+    Places {
+        from,
+        to: end.max(from),
+    }
+}
+
+/// The positions at some places by key at which the statement reads the version, in no order.
+fn read_positions(
+    alloc: Global,
+    pinned: &Pinned,
+    group: usize,
+    packed: &Packed,
+    places: Places,
+) -> Result<Vec<usize>, Memory>
+    requires keys { HasKeysOf pinned.now group packed.now }
+    requires ordered { places.from ≤ places.to }
+    requires within { places.to ≤ length packed.now.places }
+    ensures { IfOk result (λ positions. AreReadBetween pinned.now group packed.now places.from places.to positions.items) }
+{
+    let mut positions = Vec::new(alloc);
+    for i in places.from..places.to {
+        let position = packed.place(i);
+        if key_seen(pinned, Place { group, position }).is_some() {
+            positions.push(position)?;
+        }
+    }
+    Ok(positions)
+}
+
+/// A row that is found by its key takes about as much time as a scan by codes takes for so many rows.
+const SCANNED: usize = 256;
+
+/// The positions of the versions that are read in a packed group of the view, of these keys alone, in their order. None where so many
+/// of its rows are of these keys that a scan of all takes less time.
+pub fn positions_in_range(
+    alloc: Global,
+    pinned: &Pinned,
+    group: usize,
+    packed: &Packed,
+    bounds: Bounds,
+) -> Result<Option<Vec<usize>>, Memory>
+    requires { HasKeysOf pinned.now group packed.now }
+    ensures { IfOk result (λ found. IfSome found (λ positions. positions.items ≡ positions_of (is_read_within pinned.now bounds) (rowed_at pinned.now.view group))) }
+{
+    let places = places_within(packed, bounds);
+    if places.to - places.from > packed.places().len() / SCANNED {
+        return Ok(None);
+    }
+    let mut positions = read_positions(alloc, pinned, group, packed, places)?;
+    positions.sort_unstable();
+    Ok(Some(positions))
+}

@@ -1,0 +1,64 @@
+//! The rows of a packed group with keys of a range that a filter names, by codes.
+
+ghost use Rattle.std.specs.Prelude.{◌≡◌, ◌++◌, List, false, length, true, IfOk};
+ghost use Rattle.cs_types.specs.declared.Value.{Value};
+ghost use Rattle.cs_types.specs.Schemas.{IsSchema};
+ghost use Rattle.batch_aggregate.specs.Standing.{StandsFor};
+ghost use Rattle.group_view.specs.Parts.{packed_versions};
+ghost use Rattle.row_work.specs.Sieved.{read_in};
+ghost use Rattle.row_work.specs.Stores.{AreRowsRead};
+
+use crate::exact::kept_range;
+use crate::key_ranges::places_within;
+use batch_aggregate::Partial;
+use batch_scan::Shown;
+use code_tallies::{EveryRow, tally_group};
+use cs_base::Memory;
+use cs_model::Query;
+use cs_types::Schema;
+use delete_bitmap::Marks;
+use group_view::Pinned;
+use row_group::Packed;
+use std::alloc::Global;
+
+/// A position that is put into a set in the order of the keys takes about as much time as so many verdicts by codes.
+const SHARE: usize = 4;
+
+/// Adds the rows of a packed group that are read and that the filter keeps, by codes, where the filter keeps the rows of a range of
+/// keys and no others: they are found by their keys, and no verdict is asked for. False where nothing has changed: the filter is
+/// another one, the keys are those of more than a quarter of the rows, the group has other than as many columns as the table, or as
+/// `tally_group` has it.
+pub fn tally_range(
+    alloc: Global,
+    partial: &mut Partial<'_>,
+    schema: &Schema,
+    query: &Query,
+    pinned: &Pinned,
+    packed: &Packed,
+    marks: &Marks,
+) -> Result<bool, Memory>
+    requires table { IsSchema schema.now }
+    requires fits { length marks.now ≡ length packed.now.rows }
+    requires rows { AreRowsRead schema.now pinned.now (packed_versions packed.now.key packed.now.rows marks.now) }
+    requires of_schema { partial.old.schema.now ≡ schema.now }
+    requires of_query { partial.old.query.now ≡ query.now }
+    ensures schema { partial.new.schema.now ≡ partial.old.schema.now }
+    ensures query { partial.new.query.now ≡ partial.old.query.now }
+    ensures tallied { (rows : List (List Value)) → StandsFor partial.old rows → IfOk result (λ done. done ≡ true → StandsFor partial.new (rows ++ read_in (length schema.now.columns) pinned.now (packed_versions packed.now.key packed.now.rows marks.now))) }
+    ensures declined { IfOk result (λ done. done ≡ false → partial.new ≡ partial.old) }
+{
+    if !query.grouped || packed.width() != schema.columns.len() {
+        return Ok(false);
+    }
+    let Some(bounds) = kept_range(schema, &query.filter) else {
+        return Ok(false);
+    };
+    let places = places_within(packed, bounds);
+    if places.to - places.from > packed.len() / SHARE {
+        return Ok(false);
+    }
+    let shown = Shown::of(alloc, pinned, packed, marks)?;
+    let positions = &packed.places()[places.from..places.to];
+    let set = shown.among(alloc, packed.len(), positions)?;
+    tally_group(alloc, partial, packed, Some(&set), &EveryRow)
+}
