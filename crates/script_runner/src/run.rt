@@ -15,9 +15,10 @@ use cs_base::Memory;
 use script_reader::{Script, Step};
 use statement_core::Desk;
 use std::sync::Wait;
+use std::thread::Threads;
 
 /// Runs the steps, in order.
-fn run_steps<R: Wait, D: Desk>(
+fn run_steps<R: Threads + Wait + Sync, D: Desk>(
     rt: &R,
     runner: &mut Runner,
     steps: &[Step],
@@ -57,7 +58,7 @@ fn end_sessions(runner: &mut Runner, sessions: &[u32])
 }
 
 /// Runs the steps of a script, and then ends its sessions.
-fn run_script<R: Wait, D: Desk>(
+fn run_script<R: Threads + Wait + Sync, D: Desk>(
     rt: &R,
     runner: &mut Runner,
     script: &Script,
@@ -83,7 +84,7 @@ fn run_script<R: Wait, D: Desk>(
 /// Runs the steps of a script, and then ends its sessions in the order of their numbers. `Memory` comes where there is no room
 /// for a Start or a mover's claim; the log has the events of the lines before it then. Conditions: the runner is new, its core was made with the
 /// script's table and serves its sessions, and the script can be run, as one that `read_script` gives.
-pub fn run_schedule<R: Wait, D: Desk>(
+pub fn run_schedule<R: Threads + Wait + Sync, D: Desk>(
     rt: &R,
     runner: &mut Runner,
     script: &Script,

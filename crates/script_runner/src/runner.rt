@@ -33,6 +33,7 @@ use statement_core::{Core, Desk, Seats, Started, Turned};
 use std::alloc::Global;
 use std::marker::Model;
 use std::sync::Wait;
+use std::thread::Threads;
 
 /// Starts a statement; it waits in its session's seat for the Finish.
 fn begin(
@@ -63,7 +64,7 @@ fn begin(
 }
 
 /// Finishes the statement that waits in its session's seat.
-fn finish<R: Wait, D: Desk>(
+fn finish<R: Threads + Wait + Sync, D: Desk>(
     rt: &R,
     alloc: Global,
     core: &mut Core,
@@ -160,7 +161,7 @@ struct Waiting {
 }
 
 /// Makes the events of one step.
-fn run_step<R: Wait, D: Desk>(
+fn run_step<R: Threads + Wait + Sync, D: Desk>(
     rt: &R,
     alloc: Global,
     core: &mut Core,
@@ -251,7 +252,12 @@ impl Runner {
     /// of a mover's turn, the last one, or both. `Memory`: no event was made. Conditions: a session is one that the core serves,
     /// has not ended, and has a statement half done exactly where the step is a Finish alone; a text has at most 65,536 bytes; and
     /// a mover is 1 to 8, and holds no claim where its turn begins.
-    pub fn step<R: Wait, D: Desk>(&mut self, rt: &R, step: &Step, desk: &D) -> Result<(), Memory>
+    pub fn step<R: Threads + Wait + Sync, D: Desk>(
+        &mut self,
+        rt: &R,
+        step: &Step,
+        desk: &D,
+    ) -> Result<(), Memory>
         requires schema { IsSchema self.old.schema }
         requires may { MayRun self.old step.now }
         ensures piece { OnOk result ((piece : List Entry) × IsPiece (ground_of self.old.schema self.old.sizes) self.old.log step.now piece × (self.new.log ≡ self.old.log ++ piece)) }

@@ -1,5 +1,6 @@
 // A statement that was started, and what its work gives.
 ghost use Rattle.std.specs.Prelude.{IfOk};
+ghost use Rattle.std.specs.Thread.{IsSync};
 ghost use Rattle.group_book.specs.Commits.{Sizes};
 ghost use Rattle.group_view.specs.Claims.{IsMendable, IsProductOf};
 ghost use Rattle.log_laws.specs.Started.{Begun};
@@ -14,6 +15,7 @@ use cs_types::{Key, Schema};
 use group_view::{Claim, Parcel, Pinned, Product};
 use std::alloc::Global;
 use std::sync::{Arc, Wait};
+use std::thread::Threads;
 use write_set::{Own, Write};
 
 /// What a core was made with.
@@ -69,8 +71,10 @@ pub enum Outcome {
 
 /// Who does the work of statements and of movers; sessions and movers on threads share one.
 pub trait Desk: Sync {
-    /// The outcome of a statement that was started, over what it reads. It may wait for threads that do parts of the work.
-    fn work<R: Wait>(&self, rt: &R, alloc: Global, started: &Started) -> Outcome
+    /// The outcome of a statement that was started, over what it reads. It may start threads that do parts of the work, and wait for
+    /// them.
+    fn work<R: Threads + Wait + Sync>(&self, rt: &R, alloc: Global, started: &Started) -> Outcome
+        requires shared { IsSync R.row }
         requires terms { AreTerms started.now.terms.value }
         requires begun { (begun : Begun) × Hands begun started.now × MayWork begun }
         ensures gives { (begun : Begun) → Hands begun started.now → MayWork begun → GivesOn (sizes_of started.now.terms.value) begun result }

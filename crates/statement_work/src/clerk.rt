@@ -1,5 +1,5 @@
 // The desk of the program.
-ghost use Rattle.std.specs.Prelude.{◌≡◌, IsSome, Some};
+ghost use Rattle.std.specs.Prelude.{◌≡◌, ◌≤◌, IsSome, Some};
 ghost use Rattle.cs_model.specs.declared.entry.Bound.TheVariants as bound;
 ghost use Rattle.log_laws.specs.Started.{Begun};
 ghost use Rattle.statement_core.specs.Counted.{AreCountsOf};
@@ -11,20 +11,28 @@ use crate::writes::{changed, refused, valued, written};
 use cs_base::Memory;
 use cs_model::{AnswerRefusal, Bound, InsertPlan, Pred, Query, Reply, UpdatePlan};
 use group_view::{Claim, Pinned, Product};
-use row_work::{answer, deleted, inserted, segment_counts, updated};
+use row_work::{deleted, inserted, segment_counts, updated};
+use scan_workers::{NoTurn, answer};
 use statement_core::{Desk, Outcome, Started};
 use std::alloc::Global;
 use std::sync::Wait;
+use std::thread::Threads;
 use tuple_mover::{parcel_of, work};
 
-/// Who does the work of statements, one row after the other, over what was pinned, and the work of movers. It keeps nothing.
-#[derive(Clone, Copy, Debug)]
-pub struct Clerk;
+/// Who does the work of statements over what was pinned, and the work of movers. Each of its scans has so many workers. It keeps
+/// nothing between two calls.
+#[derive(Drop)]
+pub struct Clerk {
+    workers: u32,
+    ghost in_range: { (1 ≤ workers) × (workers ≤ 16) },
+}
 
 impl Clerk {
-    /// The desk of the program.
-    pub fn new() -> Clerk {
-        Clerk
+    /// The desk of the program, with so many workers for a scan, 1 to 16.
+    pub fn new(workers: u32) -> Clerk
+        requires { (1 ≤ workers) × (workers ≤ 16) }
+    {
+        Clerk { workers }
     }
 }
 
@@ -82,8 +90,15 @@ fn delete(alloc: Global, started: &Started, condition: &Option<Pred>) -> Outcome
 }
 
 /// The outcome of a SELECT: its answer with the counts of segments, or the first row and item whose whole count or sum is out of
-/// its range.
-fn select(alloc: Global, started: &Started, query: &Query) -> Outcome
+/// its range. The scan has so many workers.
+fn select<R: Threads + Sync>(
+    rt: &R,
+    alloc: Global,
+    workers: u32,
+    started: &Started,
+    query: &Query,
+) -> Outcome
+    requires workers { (1 ≤ workers) × (workers ≤ 16) }
     requires terms { AreTerms started.now.terms.value }
     requires begun { (begun : Begun) × IsBegun begun started.now (bound.Select query.now) }
     ensures gives { (begun : Begun) → IsBegun begun started.now (bound.Select query.now) → GivesOn (sizes_of started.now.terms.value) begun result }
@@ -91,7 +106,7 @@ fn select(alloc: Global, started: &Started, query: &Query) -> Outcome
 {
     let schema = &*started.terms.schema;
     let pinned = pinned_of(started);
-    match answer(alloc, schema, query, pinned) {
+    match answer(rt, alloc, &NoTurn, workers, schema, query, pinned) {
         Ok(found) => Outcome::Answer(Reply::Rows {
             rows: found,
             segments: Some(segment_counts(schema, &query.filter, pinned)),
@@ -125,7 +140,7 @@ fn commit(alloc: Global, started: &Started) -> Outcome
 }
 
 impl Desk for Clerk {
-    fn work<R: Wait>(&self, _rt: &R, alloc: Global, started: &Started) -> Outcome {
+    fn work<R: Threads + Wait + Sync>(&self, rt: &R, alloc: Global, started: &Started) -> Outcome {
         if started.short {
             return Outcome::Short;
         }
@@ -134,7 +149,7 @@ impl Desk for Clerk {
             Bound::Insert(plan) => insert(alloc, started, plan.get()),
             Bound::Update(plan) => update(alloc, started, plan.get()),
             Bound::Delete(condition) => delete(alloc, started, condition.get()),
-            Bound::Select(query) => select(alloc, started, query.get()),
+            Bound::Select(query) => select(rt, alloc, self.workers, started, query.get()),
             Bound::Begin
             | Bound::Rollback
             | Bound::Nothing

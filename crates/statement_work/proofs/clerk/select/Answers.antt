@@ -17,14 +17,14 @@ use Rattle.statement_work.proofs.Taken.{may_read_it}
 use Rattle.statement_work.proofs.Working.{overflow_decided, rows_decided, untold}
 use Rattle.statement_work.proofs.clerk.select.Goals as goal
 
-pub answer-requires : goal.answer-requires
-answer-requires c =
+pub answer-requires-clause-may : goal.answer-requires-clause-may
+answer-requires-clause-may g c κs within =
     let b = c.requires.begun in
     let same = c.deref-schema.ensures ∙ ap (λ (t : Terms). t.schema.value) c.deref.ensures in
     subst (λ (s : Schema). MayRead s c.pinned_of-pinned.result.now) (sym same) (may_read_it b.0 c.args.started.now (Select c.args.query.now) b.1 refl c.pinned_of-pinned.result.now c.pinned_of-pinned.ensures)
 
 pub returns-in-Ok-clause-gives : goal.returns-in-Ok-clause-gives
-returns-in-Ok-clause-gives c = λ begun is.
+returns-in-Ok-clause-gives g c = λ begun is.
     let query = c.args.query.now in
     let pinned = c.pinned_of-pinned.result.now in
     let same = c.deref-schema.ensures ∙ ap (λ (t : Terms). t.schema.value) c.deref.ensures in
@@ -33,7 +33,7 @@ returns-in-Ok-clause-gives c = λ begun is.
 
 -- the counts are those over what is pinned
 pub returns-in-Ok-clause-counted : goal.returns-in-Ok-clause-counted
-returns-in-Ok-clause-counted c =
+returns-in-Ok-clause-counted g c =
     let started = c.args.started.now in
     let query = c.args.query.now in
     let pinned = c.pinned_of-pinned.result.now in
@@ -47,7 +47,7 @@ returns-in-Ok-clause-counted c =
     (subst (λ b. counts ≡ counts_in schema pinned.view (condition_of b)) (sym is) here)
 
 pub returns-in-Err-Overflow-clause-gives : goal.returns-in-Err-Overflow-clause-gives
-returns-in-Err-Overflow-clause-gives c = λ begun is.
+returns-in-Err-Overflow-clause-gives g c = λ begun is.
     let query = c.args.query.now in
     let pinned = c.pinned_of-pinned.result.now in
     let same = c.deref-schema.ensures ∙ ap (λ (t : Terms). t.schema.value) c.deref.ensures in
@@ -59,4 +59,4 @@ returns-in-Err-Overflow-clause-gives c = λ begun is.
     (overflow_decided begun c.args.started.now query is pinned c.pinned_of-pinned.ensures (sizes_of c.args.started.now.terms.value) c.in-Err-Overflow.row c.in-Err-Overflow.column given)
 
 pub returns-in-Err-Overflow-clause-counted : goal.returns-in-Err-Overflow-clause-counted
-returns-in-Err-Overflow-clause-counted c = untold c.args.started.now c.valued.result (ap outcome_counts c.valued.ensures)
+returns-in-Err-Overflow-clause-counted g c = untold c.args.started.now c.valued.result (ap outcome_counts c.valued.ensures)
