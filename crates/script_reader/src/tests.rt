@@ -366,43 +366,44 @@ fn setups_of_a_run(rt: HostRuntime) -> Result<(), Fail> {
     Ok(())
 }
 
-/// A line of this size that begins so has the outcome that is printed so, behind a setup line and before a byte 13.
+/// The line has the outcome that is printed so, behind a setup line and before a byte 13, in this mode.
 fn check_long(
     rt: &impl Abort,
     alloc: Global,
-    front: &[u8],
-    byte: u8,
-    size: usize,
+    mode: Mode,
+    line: &[u8],
     expected: &str,
 ) -> Result<(), Fail> {
-    let line = long(alloc, front, byte, size)?;
-    let mut script = behind_setup(alloc, line.as_slice())?;
+    let mut script = behind_setup(alloc, line)?;
     script.extend_from_slice(b"\r\n")?;
-    check(rt, alloc, Mode::Replay, script.as_slice(), expected)
+    check(rt, alloc, mode, script.as_slice(), expected)
 }
 
 #[test]
 fn long_lines(rt: HostRuntime) -> Result<(), Fail> {
-    let cases: [(&[u8], u8, usize, &str); 6] = [
-        (b"--", b'-', 65_536, "[] []"),
-        (b"--", b'-', 65_537, "Bad { line: 2, reason: 5, number: 0 }"),
+    let too_long = "Bad { line: 2, reason: 5, number: 0 }";
+    let statement = "[Whole { session: 1, text: [65] }] [1]";
+    let cases: [(Mode, &[u8], u8, usize, &str); 10] = [
+        (Mode::Replay, b"--", b'-', 65_536, "[] []"),
+        (Mode::Replay, b"--", b'-', 65_537, too_long),
+        (Mode::Replay, b"s1 A", b' ', 65_536, statement),
+        (Mode::Replay, b"s1 A", b' ', 65_537, too_long),
+        (Mode::Replay, b"", b' ', 65_537, too_long),
+        (Mode::Replay, b"", 127, 65_537, too_long),
+        (Mode::Run, b"s1 A", b' ', 65_536, statement),
+        (Mode::Run, b"s1 A", b' ', 65_537, too_long),
         (
-            b"s1 A",
+            Mode::Run,
+            b"m1",
             b' ',
             65_536,
-            "[Whole { session: 1, text: [65] }] [1]",
+            "Bad { line: 2, reason: 3, number: 0 }",
         ),
-        (
-            b"s1 A",
-            b' ',
-            65_537,
-            "Bad { line: 2, reason: 5, number: 0 }",
-        ),
-        (b"", b' ', 65_537, "Bad { line: 2, reason: 5, number: 0 }"),
-        (b"", 127, 65_537, "Bad { line: 2, reason: 5, number: 0 }"),
+        (Mode::Run, b"m1", b' ', 65_537, too_long),
     ];
-    for (front, byte, size, expected) in &cases {
-        check_long(&rt, rt.alloc(), front, *byte, *size, expected)?;
+    for (mode, front, byte, size, expected) in &cases {
+        let line = long(rt.alloc(), front, *byte, *size)?;
+        check_long(&rt, rt.alloc(), *mode, line.as_slice(), expected)?;
     }
     Ok(())
 }
