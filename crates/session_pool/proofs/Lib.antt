@@ -1,0 +1,12 @@
+pub mod Events
+pub mod Claims
+pub mod Pools
+pub mod Movers
+pub mod Own
+pub mod Passes
+pub mod Statements
+pub mod Crossing
+pub mod Joined
+pub mod Closing
+pub mod Starting
+pub mod Histories

@@ -1,0 +1,6 @@
+pub mod Events
+pub mod Pools
+pub mod Rests
+pub mod Runs
+pub mod Sections
+pub mod Statements
