@@ -11,40 +11,59 @@ use Rattle.cs_outside.specs.Outside.{Takes, Adds}
 use Rattle.cs_outside.specs.Words.{AreWords}
 use Rattle.command_words.specs.declared.order.Order.{Order}
 use Rattle.command_words.specs.declared.order.Order.TheVariants.{Replay, Run, Generate, Load}
+use Rattle.command_words.specs.declared.order.RunOptions.{RunOptions}
 use Rattle.group_book.specs.Commits.{Sizes}
+use Rattle.columnstore.specs.declared.way.Way.{Way}
+use Rattle.columnstore.specs.declared.way.Way.TheVariants.{ByLine, OnThreads}
 use Rattle.columnstore.specs.declared.status.Status.{Status}
 use Rattle.columnstore.specs.declared.status.Status.TheVariants as status
-use Rattle.columnstore.specs.Outcome.{sizes_in, AsksReplay, answered, Asks, EndsFor, RefusesWords, IsCarriedOut, IsWrittenOrStopped, EndsForWords, refused, served}
+use Rattle.columnstore.specs.Outcome.{sizes_in, order_of, AsksScript, answered, Asks, EndsFor, RefusesWords, IsWrittenOrStopped, EndsForWords, refused, served}
 use Rattle.columnstore.specs.Written.{IsWritten}
 
 pub none_taken : (left : Option (List ℕ)) → Takes left left []
 none_taken None = refl
 none_taken (Some bytes) = refl
 
-module _ (sizes : Sizes) (came : List ℕ) (left : Option (List ℕ)) where
-  no_usage : (whole : List ℕ) → AsksReplay sizes came left status.Usage whole → ⊥
+module _ (way : Way) (sizes : Sizes) (came : List ℕ) (left : Option (List ℕ)) where
+  no_usage : (whole : List ℕ) → AsksScript way sizes came left status.Usage whole → ⊥
   no_usage whole (answered l e h) = h
 
-  no_read_fault : (whole : List ℕ) → AsksReplay sizes came left status.ReadFault whole → ⊥
+  no_read_fault : (whole : List ℕ) → AsksScript way sizes came left status.ReadFault whole → ⊥
   no_read_fault whole (answered l e h) = h
 
-  no_write_fault : (whole : List ℕ) → AsksReplay sizes came left status.WriteFault whole → ⊥
+  no_write_fault : (whole : List ℕ) → AsksScript way sizes came left status.WriteFault whole → ⊥
   no_write_fault whole (answered l e h) = h
 
-  no_memory : (whole : List ℕ) → AsksReplay sizes came left status.Memory whole → ⊥
+  no_memory : (whole : List ℕ) → AsksScript way sizes came left status.Memory whole → ⊥
   no_memory whole (answered l e h) = h
 
 -- where the whole text is written, the order ends with the status that goes with it
 asked : (order : Order) (came : List ℕ) (left : Option (List ℕ)) (s : Status) (whole : List ℕ) → Asks order came left s whole → EndsFor order came left whole s
 asked (Replay options) came left status.Done whole a = a
-asked (Replay options) came left status.Usage whole a = no_usage (sizes_in options) came left whole a
+asked (Replay options) came left status.Usage whole a = no_usage ByLine (sizes_in options) came left whole a
 asked (Replay options) came left status.Script whole a = a
-asked (Replay options) came left status.ReadFault whole a = absurd (no_read_fault (sizes_in options) came left whole a)
-asked (Replay options) came left status.WriteFault whole a = absurd (no_write_fault (sizes_in options) came left whole a)
-asked (Replay options) came left status.Memory whole a = absurd (no_memory (sizes_in options) came left whole a)
-asked (Run options movers) came left s whole a = absurd a
+asked (Replay options) came left status.ReadFault whole a = absurd (no_read_fault ByLine (sizes_in options) came left whole a)
+asked (Replay options) came left status.WriteFault whole a = absurd (no_write_fault ByLine (sizes_in options) came left whole a)
+asked (Replay options) came left status.Memory whole a = absurd (no_memory ByLine (sizes_in options) came left whole a)
+asked (Run options movers) came left status.Done whole a = a
+asked (Run options movers) came left status.Usage whole a = no_usage (OnThreads movers) (sizes_in options) came left whole a
+asked (Run options movers) came left status.Script whole a = a
+asked (Run options movers) came left status.ReadFault whole a = absurd (no_read_fault (OnThreads movers) (sizes_in options) came left whole a)
+asked (Run options movers) came left status.WriteFault whole a = absurd (no_write_fault (OnThreads movers) (sizes_in options) came left whole a)
+asked (Run options movers) came left status.Memory whole a = absurd (no_memory (OnThreads movers) (sizes_in options) came left whole a)
 asked (Generate drawn) came left s whole a = subst (λ z. EndsFor (Generate drawn) came left whole z) (sym a.0) (refl, a.1)
 asked (Load drawn options) came left s whole a = subst (λ z. EndsFor (Load drawn options) came left whole z) (sym a.0) (refl, a.1)
+
+-- the order to run a script in a way asks for what a run in that way writes
+pub asks_script : (options : RunOptions) (way : Way) (came : List ℕ) (left : Option (List ℕ)) (s : Status) (whole : List ℕ) → AsksScript way (sizes_in options) came left s whole
+    → Asks (order_of options way) came left s whole
+asks_script options ByLine came left s whole a = a
+asks_script options (OnThreads movers) came left s whole a = a
+
+-- where a read failed, nothing was added
+pub fault_ends : (options : RunOptions) (way : Way) (came : List ℕ) (left : Option (List ℕ)) → EndsFor (order_of options way) came left [] status.ReadFault
+fault_ends options ByLine came left = (tt, refl)
+fault_ends options (OnThreads movers) came left = (tt, refl)
 
 -- how an order ends, from what it asks to be written and what was written of it
 pub ending : (order : Order) (came : List ℕ) (left : Option (List ℕ)) (s result : Status) (whole : List ℕ) (old new : Option (List ℕ)) (before now : ℕ)
@@ -76,11 +95,11 @@ module _ {O E : Type 0} (held : O → Option (List ℕ)) (faults : O → ℕ) (o
   IsDrawnBy text result =
       MatchResult text (λ line. IsWritten (held old) (held new) (faults old) (faults new) line status.Done result) (λ _. (result ≡ status.Memory) × (new ≡ old))
 
-  pub drawing : (order : Order) (left : Option (List ℕ)) (text : Result (List ℕ) E) (result : Status) → IsCarriedOut order → IfOk text (λ line. Asks order [] left status.Done line) → IsDrawnBy text result
+  pub drawing : (order : Order) (left : Option (List ℕ)) (text : Result (List ℕ) E) (result : Status) → IfOk text (λ line. Asks order [] left status.Done line) → IsDrawnBy text result
       → (added : List ℕ) × Adds (held old) (held new) added × EndsFor order [] left added result
-  drawing order left (Ok line) result is asks w = ending order [] left status.Done result line (held old) (held new) (faults old) (faults new) asks w
-  drawing order left (Err e) result is asks w =
-      ([], subst (λ z. Adds (held old) (held z) []) (sym w.1) (none_added (held old)), subst (λ z. EndsFor order [] left [] z) (sym w.0) (is, refl))
+  drawing order left (Ok line) result asks w = ending order [] left status.Done result line (held old) (held new) (faults old) (faults new) asks w
+  drawing order left (Err e) result asks w =
+      ([], subst (λ z. Adds (held old) (held z) []) (sym w.1) (none_added (held old)), subst (λ z. EndsFor order [] left [] z) (sym w.0) refl)
 
   -- what is made without the input is written with Done
   pub with_done : (P : List ℕ → Type 0) (text : Result (List ℕ) E) → IfOk text P → IfOk text (λ line. (status.Done ≡ status.Done) × P line)

@@ -1,11 +1,12 @@
 -- The order that words are, from the one that they are read as.
-use Rattle.std.proofs.Common.{◌≡◌, Some, None, Option, sym, subst, ◌∙◌}
+use Rattle.std.proofs.Common.{◌≡◌, Some, None, Option, refl, sym, ap, subst}
 use Rattle.command_words.specs.declared.order.Order.{Order}
-use Rattle.command_words.specs.declared.order.Order.TheVariants.{Replay, Run, Generate, Load}
 use Rattle.command_words.specs.declared.order.RunOptions.{RunOptions}
 use Rattle.command_words.specs.Orders.{Words, IsOrder, AreInRange}
 use Rattle.statement_core.specs.Terms.{AreTermsOf}
-use Rattle.columnstore.specs.Outcome.{IsCarriedOut, DrawsScript}
+use Rattle.columnstore.specs.declared.way.Way.{Way}
+use Rattle.columnstore.specs.declared.way.Way.TheVariants.{ByLine, OnThreads}
+use Rattle.columnstore.specs.Outcome.{order_of, DrawsScript}
 
 -- the order that the words are is the one that was read
 abbrev pub IsReadAs : Words → Option Order → Type 0
@@ -15,20 +16,30 @@ IsReadAs words read = (order : Order) → IsOrder words order → read ≡ Some 
 pub is_given : (words : Words) (read : Option Order) → IsReadAs words read → (given order : Order) → read ≡ Some given → IsOrder words order → given ≡ order
 is_given words read only given order was is = let same : read ≡ Some order = only order is in cc
 
--- words that are read as no order are none that the program serves
-pub none_served : (words : Words) (read : Option Order) → IsReadAs words read → read ≡ None → (order : Order) → IsOrder words order → IsCarriedOut order → ⊥
-none_served words read only none order is served = let same : read ≡ Some order = only order is in cc
-
--- nor are words that are read as one that it does not serve
-pub not_served : (words : Words) (read : Option Order) → IsReadAs words read → (given : Order) → read ≡ Some given → (IsCarriedOut given → ⊥) → (order : Order) → IsOrder words order → IsCarriedOut order → ⊥
-not_served words read only given was none order is served = none (subst IsCarriedOut (sym (is_given words read only given order was is)) served)
-
-pub drawn_served : (order : Order) → DrawsScript order → IsCarriedOut order
-drawn_served (Replay options) drawn = tt
-drawn_served (Run options movers) drawn = drawn
-drawn_served (Generate workload) drawn = tt
-drawn_served (Load workload options) drawn = tt
+-- words that are read as no order are none
+pub none_given : (words : Words) (read : Option Order) → IsReadAs words read → read ≡ None → (order : Order) → IsOrder words order → ⊥
+none_given words read only none order is = let same : read ≡ Some order = only order is in cc
 
 -- options in their ranges are sizes of row groups
 pub terms_of : (options : RunOptions) → AreInRange options → AreTermsOf options.group_rows options.direct_rows
 terms_of options range = record { least_group = range.0.0; most_group = range.0.1; least_direct = range.1.0; most_direct = range.1.1 }
+
+-- one order is that of one way
+pub same_way : (one other : RunOptions) (way given : Way) → order_of one way ≡ order_of other given → way ≡ given
+same_way one other ByLine ByLine is = refl
+same_way one other ByLine (OnThreads movers) is = absurd (cc)
+same_way one other (OnThreads movers) ByLine is = absurd (cc)
+same_way one other (OnThreads movers) (OnThreads others) is = let same : movers ≡ others = cc in ap OnThreads same
+
+-- words that are read as the order to run a script in a way are the order to run one in no other way
+pub given_way : (words : Words) (read : Option Order) → IsReadAs words read → (one other : RunOptions) (way given : Way) → read ≡ Some (order_of other given) → IsOrder words (order_of one way) → given ≡ way
+given_way words read only one other way given was is =
+    sym (same_way one other way given (sym (is_given words read only (order_of other given) (order_of one way) was is)))
+
+-- nor are those that are read as an order that draws its script
+pub no_draw : (options : RunOptions) (way : Way) → DrawsScript (order_of options way) → ⊥
+no_draw options ByLine drawn = drawn
+no_draw options (OnThreads movers) drawn = drawn
+
+pub no_script : (words : Words) (read : Option Order) → IsReadAs words read → (given : Order) → read ≡ Some given → DrawsScript given → (options : RunOptions) (way : Way) → IsOrder words (order_of options way) → ⊥
+no_script words read only given was drawn options way is = no_draw options way (subst DrawsScript (is_given words read only given (order_of options way) was is) drawn)

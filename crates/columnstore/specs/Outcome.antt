@@ -12,37 +12,35 @@ use Rattle.cs_model.specs.Changes.{table}
 use Rattle.cs_model.specs.State.{State, begin_of}
 use Rattle.cs_model.specs.Steps.{Legal}
 use Rattle.cs_model.specs.Text.{text}
+use Rattle.script_reader.specs.declared.script.Mode.{Mode}
 use Rattle.script_reader.specs.declared.script.Mode.TheVariants as mode
 use Rattle.log_summary.specs.Summary.{summary}
 use Rattle.script_reader.specs.declared.script.Script.{Script}
 use Rattle.script_reader.specs.Scripts.{IsScript, IsBadLine}
 use Rattle.group_book.specs.Commits.{Sizes}
-use Rattle.group_log.specs.Followed.{ground_of}
+use Rattle.group_log.specs.Followed.{Ground, ground_of}
 use Rattle.script_runner.specs.Logs.{IsLogOf}
+use Rattle.session_pool.specs.Runs.{IsRunOf}
+use Rattle.columnstore.specs.declared.way.Way.{Way}
+use Rattle.columnstore.specs.declared.way.Way.TheVariants.{ByLine, OnThreads}
 use Rattle.columnstore.specs.declared.status.Status.{Status}
 use Rattle.columnstore.specs.declared.status.Status.TheVariants as status
 
 -- ---- orders
 
--- how large row groups are by the options of a run; its workers have no effect so far
+-- how large row groups are by the options of a run; the workers of its scans change nothing that is written
 abbrev pub sizes_in : RunOptions → Sizes
 sizes_in options = record { group_rows = options.group_rows; direct_rows = options.direct_rows }
 
--- the words are the order to replay a script, with these options
-abbrev pub Replays : Words → RunOptions → Type 0
-Replays words options = IsOrder words (Replay options)
-
--- the program does what the order says: every order but to run sessions on threads, which it does not do so far
-abbrev pub IsCarriedOut : Order → Type 0
-IsCarriedOut (Replay options) = Unit {0}
-IsCarriedOut (Run options movers) = ⊥
-IsCarriedOut (Generate drawn) = Unit {0}
-IsCarriedOut (Load drawn options) = Unit {0}
+-- the order to run the script of the input in this way, with these options
+abbrev pub order_of : RunOptions → Way → Order
+order_of options ByLine = Replay options
+order_of options (OnThreads movers) = Run options movers
 
 -- the order reads the input
 abbrev pub ReadsInput : Order → Type 0
 ReadsInput (Replay options) = Unit {0}
-ReadsInput (Run options movers) = ⊥
+ReadsInput (Run options movers) = Unit {0}
 ReadsInput (Generate drawn) = ⊥
 ReadsInput (Load drawn options) = ⊥
 
@@ -63,15 +61,25 @@ drawn_script drawn = workload drawn.number drawn.sessions drawn.statements
 abbrev pub limit : ℕ
 limit = 16777216
 
--- the script was replayed, with row groups so large, and this is the text of the log of its run
-pub record Performed (sizes : Sizes) (bytes whole : List ℕ) : Type 0 where
+-- the mode for which a script is read that is run in this way
+abbrev pub mode_of : Way → Mode
+mode_of ByLine = mode.Replay
+mode_of (OnThreads movers) = mode.Run
+
+-- the log of a whole run of the script in this way
+abbrev pub IsLogBy : Way → Ground → Script → List Entry → Type 0
+IsLogBy ByLine origin script log = IsLogOf origin script log
+IsLogBy (OnThreads movers) origin script log = IsRunOf origin script movers log
+
+-- the script was run in this way, with row groups so large, and this is the text of the log of its run
+pub record Performed (way : Way) (sizes : Sizes) (bytes whole : List ℕ) : Type 0 where
   pub script : Script
   pub log : List Entry
-  pub reads : IsScript mode.Replay bytes script
-  pub run : IsLogOf (ground_of script.schema sizes) script log
+  pub reads : IsScript (mode_of way) bytes script
+  pub run : IsLogBy way (ground_of script.schema sizes) script log
   pub is : whole ≡ text (begin_of script.schema) log
 
--- the script was run, with row groups so large, and this is the summary of the log of its run: the rows are those of the table at
+-- the script was replayed, with row groups so large, and this is the summary of the log of its run: the rows are those of the table at
 -- the clock of the state that the log leads to
 pub record Summed (sizes : Sizes) (bytes whole : List ℕ) : Type 0 where
   pub script : Script
@@ -89,34 +97,35 @@ setup_error_text number = if number == 0 then [] else codes " error " ++ decimal
 abbrev pub bad_line_text : ℕ → ℕ → ℕ → List ℕ
 bad_line_text line reason number = codes "refused line " ++ decimal line ++ codes " reason " ++ decimal reason ++ setup_error_text number ++ codes "\n"
 
--- the bytes are no script to be replayed: they have a first bad line, and this is the refusal that names it
-pub record HasBadLine (bytes whole : List ℕ) : Type 0 where
-  pub none : (script : Script) → IsScript mode.Replay bytes script → ⊥
+-- the bytes are no script for this mode: they have a first bad line, and this is the refusal that names it
+pub record HasBadLine (mode : Mode) (bytes whole : List ℕ) : Type 0 where
+  pub none : (script : Script) → IsScript mode bytes script → ⊥
   pub line : ℕ
   pub reason : ℕ
   pub number : ℕ
-  pub reads : IsBadLine mode.Replay bytes line reason number
+  pub reads : IsBadLine mode bytes line reason number
   pub is : whole ≡ bad_line_text line reason number
 
--- the whole text that is to be written for an input that was read, with the status that goes with it and row groups so large
-abbrev pub IsAnswered : Sizes → List ℕ → Status → List ℕ → Type 0
-IsAnswered sizes bytes status.Done whole = Performed sizes bytes whole
-IsAnswered sizes bytes status.Script whole = HasBadLine bytes whole
-IsAnswered sizes bytes status.Usage whole = ⊥
-IsAnswered sizes bytes status.ReadFault whole = ⊥
-IsAnswered sizes bytes status.WriteFault whole = ⊥
-IsAnswered sizes bytes status.Memory whole = ⊥
+-- the whole text that is to be written for an input that was read, with the status that goes with it: a script is run in this way, with
+-- row groups so large
+abbrev pub IsAnswered : Way → Sizes → List ℕ → Status → List ℕ → Type 0
+IsAnswered way sizes bytes status.Done whole = Performed way sizes bytes whole
+IsAnswered way sizes bytes status.Script whole = HasBadLine (mode_of way) bytes whole
+IsAnswered way sizes bytes status.Usage whole = ⊥
+IsAnswered way sizes bytes status.ReadFault whole = ⊥
+IsAnswered way sizes bytes status.WriteFault whole = ⊥
+IsAnswered way sizes bytes status.Memory whole = ⊥
 
--- what a replay of an input writes, whole, with the status that goes with it: came are the bytes that were read, and left those that
--- are left then, where that is told
-pub data AsksReplay (sizes : Sizes) (came : List ℕ) (left : Option (List ℕ)) : Status → List ℕ → Type 0 where
-  too_long : limit < length came → AsksReplay sizes came left status.Script (codes "refused too long\n")
-  answered : {s : Status} {whole : List ℕ} → length came ≤ limit → IsAtEnd left → IsAnswered sizes came s whole → AsksReplay sizes came left s whole
+-- what a run of an input's script in this way writes, whole, with the status that goes with it: came are the bytes that were read, and
+-- left those that are left then, where that is told
+pub data AsksScript (way : Way) (sizes : Sizes) (came : List ℕ) (left : Option (List ℕ)) : Status → List ℕ → Type 0 where
+  too_long : limit < length came → AsksScript way sizes came left status.Script (codes "refused too long\n")
+  answered : {s : Status} {whole : List ℕ} → length came ≤ limit → IsAtEnd left → IsAnswered way sizes came s whole → AsksScript way sizes came left s whole
 
 -- what an order asks to be written, whole, with the status that goes with it
 abbrev pub Asks : Order → List ℕ → Option (List ℕ) → Status → List ℕ → Type 0
-Asks (Replay options) came left s whole = AsksReplay (sizes_in options) came left s whole
-Asks (Run options movers) came left s whole = ⊥
+Asks (Replay options) came left s whole = AsksScript ByLine (sizes_in options) came left s whole
+Asks (Run options movers) came left s whole = AsksScript (OnThreads movers) (sizes_in options) came left s whole
 Asks (Generate drawn) came left s whole = (s ≡ status.Done) × (whole ≡ drawn_script drawn)
 Asks (Load drawn options) came left s whole = (s ≡ status.Done) × Summed (sizes_in options) (drawn_script drawn) whole
 
@@ -134,16 +143,16 @@ EndsFor order came left added status.Usage = ⊥
 EndsFor order came left added status.Script = Asks order came left status.Script added
 EndsFor order came left added status.ReadFault = ReadsInput order × (added ≡ [])
 EndsFor order came left added status.WriteFault = (s : Status) × (whole : List ℕ) × Asks order came left s whole × IsFront added whole
-EndsFor order came left added status.Memory = IsCarriedOut order × (added ≡ [])
+EndsFor order came left added status.Memory = added ≡ []
 
 -- the words were refused, and all of that or a front of it was added
 abbrev pub RefusesWords : List ℕ → Status → Type 0
 RefusesWords added s = ((s ≡ status.Usage) × (added ≡ codes "usage refused\n")) ⊎ ((s ≡ status.WriteFault) × IsFront added (codes "usage refused\n"))
 
--- how the program ends for these words: they are no order that it serves, and it read nothing; or they are an order, and it ends as
--- that says, and read nothing for one whose script is drawn
+-- how the program ends for these words: they are no order, and it read nothing; or they are an order, and it ends as that says, and
+-- read nothing for one whose script is drawn
 pub data EndsForWords (words : Words) (came : List ℕ) (left : Option (List ℕ)) (added : List ℕ) (s : Status) : Type 0 where
-  refused : ((order : Order) → IsOrder words order → IsCarriedOut order → ⊥) → came ≡ [] → RefusesWords added s → EndsForWords words came left added s
+  refused : ((order : Order) → IsOrder words order → ⊥) → came ≡ [] → RefusesWords added s → EndsForWords words came left added s
   served : (order : Order) → IsOrder words order → (DrawsScript order → came ≡ []) → EndsFor order came left added s → EndsForWords words came left added s
 
 -- the run was done, or memory or a stream gave out

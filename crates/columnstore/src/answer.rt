@@ -1,26 +1,32 @@
 // What is to be written for an input.
-ghost use Rattle.std.specs.Prelude.{◌≡◌, ◌++◌, List, [], IfErr, IfOk, MatchResult, OnOk};
+ghost use Rattle.std.specs.Prelude.{◌≡◌, ◌≤◌, ◌++◌, List, [], All, true, IfErr, IfOk, MatchResult, OnOk};
+ghost use Rattle.command_words.specs.Orders.{IsInRange};
 ghost use Rattle.cs_model.specs.declared.entry.Entry.{Entry};
 ghost use Rattle.cs_model.specs.State.{begin_of};
 ghost use Rattle.cs_model.specs.Text.{text};
 ghost use Rattle.script_reader.specs.declared.script.Script.{Script};
-ghost use Rattle.script_reader.specs.Scripts.{IsScript, IsRunnable, RefusesScript};
+ghost use Rattle.script_reader.specs.declared.script.Mode.TheVariants as mode;
+ghost use Rattle.script_reader.specs.Scripts.{allows, IsScript, IsRunnable, RefusesScript};
 ghost use Rattle.statement_core.specs.Terms.{AreTermsOf};
 ghost use Rattle.group_log.specs.Followed.{ground_of};
 ghost use Rattle.script_runner.specs.Logs.{IsLogOf, IsMadeOf};
-ghost use Rattle.columnstore.specs.Outcome.{sizes_in, IsAnswered, setup_error_text, bad_line_text};
+ghost use Rattle.session_pool.specs.Runs.{IsRunOf};
+ghost use Rattle.columnstore.specs.Outcome.{sizes_in, order_of, mode_of, IsLogBy, IsAnswered, setup_error_text, bad_line_text};
 
 use crate::status::Status;
+use crate::way::Way;
 use command_words::RunOptions;
 use cs_base::Memory;
 use cs_model::print_log;
 use cs_types::Line;
 use script_reader::{Mode, Script, ScriptRefusal, read_script};
 use script_runner::{Runner, run_schedule};
+use session_pool::run_sessions;
 use statement_core::{Core, Desk};
 use statement_work::Clerk;
 use std::alloc::Global;
 use std::sync::Wait;
+use std::thread::Threads;
 
 /// Adds the number of a refused setup statement.
 fn append_setup_error(number: u32, line: &mut Line) -> Result<(), Memory>
@@ -47,7 +53,27 @@ fn bad_line(alloc: Global, line: u64, reason: u32, number: u32) -> Result<Line, 
     Ok(text)
 }
 
-/// A runner over a new core for the table and the sessions of a script, with row groups so large.
+/// A new core for the table and the sessions of a script, with row groups so large.
+pub(crate) fn core_for(alloc: Global, options: RunOptions, script: &Script) -> Result<Core, Memory>
+    requires runnable { IsRunnable script.now }
+    requires sizes { AreTermsOf options.group_rows options.direct_rows }
+    ensures schema { IfOk result (λ core. core.schema ≡ script.now.schema) }
+    ensures sizes { IfOk result (λ core. core.sizes ≡ sizes_in options) }
+    ensures log { IfOk result (λ core. core.log ≡ []) }
+    ensures sessions { IfOk result (λ core. core.sessions ≡ script.now.sessions) }
+    ensures claims { IfOk result (λ core. core.claims ≡ []) }
+{
+    let schema = script.schema.copy()?;
+    Core::new(
+        alloc,
+        schema,
+        options.group_rows as u64,
+        options.direct_rows as u64,
+        script.sessions.as_slice(),
+    )
+}
+
+/// A runner over such a core.
 pub(crate) fn runner_for(
     alloc: Global,
     options: RunOptions,
@@ -61,20 +87,13 @@ pub(crate) fn runner_for(
     ensures sessions { IfOk result (λ runner. runner.sessions ≡ script.now.sessions) }
     ensures claims { IfOk result (λ runner. runner.claims ≡ []) }
 {
-    let schema = script.schema.copy()?;
-    let core = Core::new(
-        alloc,
-        schema,
-        options.group_rows as u64,
-        options.direct_rows as u64,
-        script.sessions.as_slice(),
-    )?;
+    let core = core_for(alloc, options, script)?;
     Runner::new(alloc, core)
 }
 
 /// Runs a script with a runner that was made for it, the work done at this desk, and gives the text of the log. Where memory gives
 /// out, in the run or for the text, the runner still has the log of the steps that were made.
-pub(crate) fn run<R: Wait, D: Desk>(
+pub(crate) fn run<R: Threads + Wait + Sync, D: Desk>(
     rt: &R,
     alloc: Global,
     runner: &mut Runner,
@@ -94,8 +113,8 @@ pub(crate) fn run<R: Wait, D: Desk>(
     print_log(alloc, runner.schema(), runner.log())
 }
 
-/// The text of the log of a run of a script, with row groups so large.
-fn replay<R: Wait>(
+/// The text of the log of a run line by line, with row groups so large.
+fn replay<R: Threads + Wait + Sync>(
     rt: &R,
     alloc: Global,
     options: RunOptions,
@@ -103,39 +122,85 @@ fn replay<R: Wait>(
 ) -> Result<Line, Memory>
     requires runnable { IsRunnable script.now }
     requires sizes { AreTermsOf options.group_rows options.direct_rows }
+    requires workers { (1 ≤ options.workers) × (options.workers ≤ 16) }
     ensures text { IfOk result (λ line. (log : List Entry) × IsLogOf (ground_of script.now.schema (sizes_in options)) script.now log × (line ≡ text (begin_of script.now.schema) log)) }
 {
     let mut runner = runner_for(alloc, options, script)?;
-    run(rt, alloc, &mut runner, script, &Clerk::new())
+    let clerk = Clerk::new(options.workers);
+    run(rt, alloc, &mut runner, script, &clerk)
 }
 
-/// The script that the bytes are, or why they are none. The bytes are let go: a script has its own copies of the texts, so that a long
-/// run keeps no second one.
-pub(crate) fn script_of(alloc: Global, bytes: Vec<u8>) -> Result<Script, ScriptRefusal>
-    ensures found { IfOk result (λ script. IsScript Mode.Replay bytes.items script) }
-    ensures only { (other : Script) → IsScript Mode.Replay bytes.items other → MatchResult result (λ script. script ≡ other) (λ e. e ≡ ScriptRefusal.Memory) }
-    ensures refused { IfErr result (λ e. RefusesScript Mode.Replay bytes.items e) }
-    ensures runs { IfOk result (λ script. IsRunnable script) }
-{
-    read_script(alloc, bytes.as_slice(), Mode::Replay)
-}
-
-/// The whole text that is to be written for an input, with row groups so large, and the status that goes with it. `Memory` where
-/// there is no room for the script, its run or the text.
-pub fn answer<R: Wait>(
+/// The text of the log of a run whose sessions have threads of their own, beside so many movers, with row groups so large.
+fn serve<R: Threads + Wait + Sync>(
     rt: &R,
     alloc: Global,
     options: RunOptions,
+    movers: u32,
+    script: &Script,
+) -> Result<Line, Memory>
+    requires runnable { IsRunnable script.now }
+    requires whole { All (λ step. allows mode.Run step ≡ true) script.now.lines }
+    requires sizes { AreTermsOf options.group_rows options.direct_rows }
+    requires workers { (1 ≤ options.workers) × (options.workers ≤ 16) }
+    requires movers { movers ≤ 8 }
+    ensures text { IfOk result (λ line. (log : List Entry) × IsRunOf (ground_of script.now.schema (sizes_in options)) script.now movers log × (line ≡ text (begin_of script.now.schema) log)) }
+{
+    let core = core_for(alloc, options, script)?;
+    let clerk = Clerk::new(options.workers);
+    match run_sessions(rt, alloc, core, script, &clerk, movers) {
+        Ok(core) => print_log(alloc, core.schema(), core.log()),
+        Err((_, memory)) => Err(memory),
+    }
+}
+
+/// The text of the log of a run in this way, with row groups so large.
+fn perform<R: Threads + Wait + Sync>(
+    rt: &R,
+    alloc: Global,
+    options: RunOptions,
+    way: Way,
+    script: &Script,
+) -> Result<Line, Memory>
+    requires runnable { IsRunnable script.now }
+    requires allowed { All (λ step. allows (mode_of way) step ≡ true) script.now.lines }
+    requires range { IsInRange (order_of options way) }
+    ensures text { IfOk result (λ line. (log : List Entry) × IsLogBy way (ground_of script.now.schema (sizes_in options)) script.now log × (line ≡ text (begin_of script.now.schema) log)) }
+{
+    match way {
+        Way::ByLine => replay(rt, alloc, options, script),
+        Way::OnThreads { movers } => serve(rt, alloc, options, movers, script),
+    }
+}
+
+/// The script of this mode that the bytes are, or why they are none. The bytes are let go: a script has its own copies of the texts,
+/// so that a long run keeps no second one.
+pub(crate) fn script_of(alloc: Global, bytes: Vec<u8>, mode: Mode) -> Result<Script, ScriptRefusal>
+    ensures found { IfOk result (λ script. IsScript mode bytes.items script) }
+    ensures only { (other : Script) → IsScript mode bytes.items other → MatchResult result (λ script. script ≡ other) (λ e. e ≡ ScriptRefusal.Memory) }
+    ensures refused { IfErr result (λ e. RefusesScript mode bytes.items e) }
+    ensures runs { IfOk result (λ script. IsRunnable script) }
+    ensures allowed { IfOk result (λ script. All (λ step. allows mode step ≡ true) script.lines) }
+{
+    read_script(alloc, bytes.as_slice(), mode)
+}
+
+/// The whole text that is to be written for an input whose script is run in this way, with row groups so large, and the status that
+/// goes with it. `Memory` where there is no room for the script, its run or the text.
+pub fn answer<R: Threads + Wait + Sync>(
+    rt: &R,
+    alloc: Global,
+    options: RunOptions,
+    way: Way,
     bytes: Vec<u8>,
 ) -> Result<(Status, Line), Memory>
-    requires sizes { AreTermsOf options.group_rows options.direct_rows }
-    ensures answered { IfOk result (λ a. IsAnswered (sizes_in options) bytes.items a.0 a.1) }
+    requires range { IsInRange (order_of options way) }
+    ensures answered { IfOk result (λ a. IsAnswered way (sizes_in options) bytes.items a.0 a.1) }
     // A script is run.
-    ensures runs { (script : Script) → IsScript Mode.Replay bytes.items script → IfOk result (λ a. a.0 ≡ Status.Done) }
+    ensures runs { (script : Script) → IsScript (mode_of way) bytes.items script → IfOk result (λ a. a.0 ≡ Status.Done) }
 {
-    match script_of(alloc, bytes) {
+    match script_of(alloc, bytes, way.mode()) {
         Ok(script) => {
-            let text = replay(rt, alloc, options, &script)?;
+            let text = perform(rt, alloc, options, way, &script)?;
             Ok((Status::Done, text))
         }
         Err(

@@ -1,7 +1,6 @@
 // What is to be written for a script that is drawn: the script itself, or the summary of its run.
-ghost use Rattle.std.specs.Prelude.{◌≡◌, IfOk};
+ghost use Rattle.std.specs.Prelude.{◌≡◌, ◌≤◌, IfOk};
 ghost use Rattle.command_words.specs.Orders.{IsWorkload};
-ghost use Rattle.script_reader.specs.declared.script.Mode.TheVariants as Mode;
 ghost use Rattle.script_reader.specs.Scripts.{IsScript, IsRunnable};
 ghost use Rattle.statement_core.specs.Terms.{AreTermsOf};
 ghost use Rattle.columnstore.specs.Outcome.{sizes_in, drawn_script, Summed};
@@ -11,12 +10,13 @@ use command_words::{RunOptions, Workload};
 use cs_base::Memory;
 use cs_types::Line;
 use log_summary::print_summary;
-use script_reader::{Script, ScriptRefusal};
+use script_reader::{Mode, Script, ScriptRefusal};
 use script_runner::run_schedule;
 use script_workload::workload;
 use statement_work::Clerk;
 use std::alloc::Global;
 use std::sync::Wait;
+use std::thread::Threads;
 use workload_laws::workload_is_script;
 
 /// The script of a workload. `Memory` where there is no room for it.
@@ -36,7 +36,7 @@ fn read_drawn(alloc: Global, drawn: Workload) -> Result<Script, Memory>
 {
     workload_is_script();
     let text = generate(alloc, drawn)?;
-    match script_of(alloc, text.into_vec()) {
+    match script_of(alloc, text.into_vec(), Mode::Replay) {
         Ok(script) => Ok(script),
         Err(ScriptRefusal::Memory) => Err(Memory),
         Err(ScriptRefusal::Bad { .. }) => unreachable!(),
@@ -44,19 +44,21 @@ fn read_drawn(alloc: Global, drawn: Workload) -> Result<Script, Memory>
 }
 
 /// The summary of the log of a run of a workload's script. `Memory` where there is no room for the script, its run or the summary.
-pub fn load<R: Wait>(
+pub fn load<R: Threads + Wait + Sync>(
     rt: &R,
     alloc: Global,
     options: RunOptions,
     drawn: Workload,
 ) -> Result<Line, Memory>
     requires sizes { AreTermsOf options.group_rows options.direct_rows }
+    requires workers { (1 ≤ options.workers) × (options.workers ≤ 16) }
     requires drawn { IsWorkload drawn }
     ensures { IfOk result (λ line. Summed (sizes_in options) (drawn_script drawn) line) }
 {
     let script = read_drawn(alloc, drawn)?;
     let mut runner = runner_for(alloc, options, &script)?;
-    run_schedule(rt, &mut runner, &script, &Clerk::new())?;
+    let clerk = Clerk::new(options.workers);
+    run_schedule(rt, &mut runner, &script, &clerk)?;
     let rows = runner.rows();
     print_summary(alloc, runner.log(), rows)
 }

@@ -1,10 +1,11 @@
-//! The columnstore as a program: it reads its words and does what they order. It runs a script and writes the log of its events, or
-//! draws a workload and writes it, or the summary of its run.
+//! The columnstore as a program: it reads its words and does what they order. It runs a script, line by line or each session on a
+//! thread of its own, and writes the log of its events, or draws a workload and writes it, or the summary of its run.
 //!
 //! The one contract, on the top call: what is written is the text, or the summary, of a log that is legal from the empty state, that
-//! the row groups follow, that goes by the script line by line and has each session's statements once and in order, or it is the
-//! script that was drawn; and every other status has its cause. It stands on `cs_outside`, `command_words`, `script_workload` with its
-//! law, `script_reader`, `script_runner`, `statement_work`, `log_summary` and `cs_model`.
+//! the row groups follow, that has each session's statements once and in order, and goes by the script line by line unless threads
+//! were asked for, or it is the script that was drawn; and every other status has its cause. It stands on `cs_outside`,
+//! `command_words`, `script_workload` with its law, `script_reader`, `script_runner`, `session_pool`, `statement_work`, `log_summary`
+//! and `cs_model`.
 #![tactic(auto)]
 
 mod answer;
@@ -13,6 +14,7 @@ mod status;
 #[cfg(test)]
 mod tests;
 mod top;
+mod way;
 
 use cs_outside::{StdSink, StdSource};
 use status::exit_code;

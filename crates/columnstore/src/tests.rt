@@ -2,6 +2,7 @@
 // language, and none is the program's own.
 mod desks;
 mod rows;
+mod threads;
 
 use crate::status::Status;
 use crate::top::columnstore;
@@ -10,6 +11,7 @@ use std::alloc::Global;
 use std::process::Abort;
 use std::sync::Wait;
 use std::test::Fail;
+use std::thread::Threads;
 
 /// A first script.
 const FIRST: &str = "setup CREATE TABLE t (k bigint NOT NULL PRIMARY KEY, v int)
@@ -42,9 +44,24 @@ fn words_of(alloc: Global, text: &str) -> Result<Vec<String>, Fail> {
     Ok(words)
 }
 
+/// How the program ends for these words, where the calls with these numbers fail, and the sink that it wrote to.
+fn ended(
+    rt: &(impl Threads + Wait + Sync),
+    alloc: Global,
+    words: &str,
+    input: &[u8],
+    failing: (u64, u64),
+) -> Result<(Status, MemorySink), Fail> {
+    let words = words_of(alloc, words)?;
+    let mut source = MemorySource::new(input.to_vec(alloc)?, vec![in alloc; failing.0]?);
+    let mut sink = MemorySink::new(alloc, 40_000, vec![in alloc; failing.1]?)?;
+    let status = columnstore(rt, alloc, words.as_slice(), &mut source, &mut sink);
+    Ok((status, sink))
+}
+
 /// Runs the program for these words, where the calls with these numbers fail, and compares its status and the bytes held.
 fn check(
-    rt: &(impl Abort + Wait),
+    rt: &(impl Abort + Threads + Wait + Sync),
     alloc: Global,
     words: &str,
     input: &[u8],
@@ -52,11 +69,8 @@ fn check(
     status: Status,
     text: &str,
 ) -> Result<(), Fail> {
-    let words = words_of(alloc, words)?;
-    let mut source = MemorySource::new(input.to_vec(alloc)?, vec![in alloc; failing.0]?);
-    let mut sink = MemorySink::new(alloc, 40_000, vec![in alloc; failing.1]?)?;
-    let ended = columnstore(rt, alloc, words.as_slice(), &mut source, &mut sink);
-    assert_eq!(rt; ended, status, "{text}");
+    let (found, sink) = ended(rt, alloc, words, input, failing)?;
+    assert_eq!(rt; found, status, "{text}");
     assert_eq!(rt; sink.held(), text.as_bytes());
     Ok(())
 }
@@ -124,8 +138,9 @@ fn refuses_other_words(rt: HostRuntime) -> Result<(), Fail> {
         "replay --workers 17",
         "replay --number 1",
         "--group-rows 2 replay",
-        "run",
-        "run --movers 0 --workers 2",
+        "replay --movers 1",
+        "run --movers 9",
+        "run --movers 0 --number 1",
         "generate --group-rows 2",
         "generate --sessions 0",
         "load --movers 1",
@@ -170,8 +185,10 @@ fn makes_groups_as_large_as_the_words_say(rt: HostRuntime) -> Result<(), Fail> {
 fn names_the_cause(rt: HostRuntime) -> Result<(), Fail> {
     // (words, failing read, failing write, status, text)
     let cases = [
-        ("run", 0, 0, Status::Usage, "usage refused\n"),
-        ("run", 1, 0, Status::Usage, "usage refused\n"),
+        ("run --movers 9", 0, 0, Status::Usage, "usage refused\n"),
+        ("run --movers 9", 1, 0, Status::Usage, "usage refused\n"),
+        ("run --movers 9", 0, 1, Status::WriteFault, ""),
+        ("run", 1, 0, Status::ReadFault, ""),
         ("run", 0, 1, Status::WriteFault, ""),
         ("replay", 1, 0, Status::ReadFault, ""),
         ("replay", 2, 0, Status::ReadFault, ""),
@@ -294,6 +311,89 @@ fn refuses_a_script_that_is_too_long(rt: HostRuntime) -> Result<(), Fail> {
             Status::Script,
             text,
         )?;
+    }
+    Ok(())
+}
+
+#[test]
+fn runs_sessions_on_threads(rt: HostRuntime) -> Result<(), Fail> {
+    let table = "setup CREATE TABLE t (k int NOT NULL PRIMARY KEY, v int NULL)\n";
+    // (words, lines behind the setup line, status, text)
+    let cases = [
+        ("run", "", Status::Done, ""),
+        ("run --movers 8 --workers 2", "", Status::Done, ""),
+        (
+            "run --movers 0 --group-rows 2",
+            "s1 INSERT INTO t VALUES (1, 10), (2, 20), (3, 30)\ns1 SELECT * FROM sys.dm_db_column_store_row_group_physical_stats\n",
+            Status::Done,
+            "1 s1.1 >\n2 s1.1 < ok 3 affected\n3 s1.2 >\n4 s1.2 < ok 2 groups, 0 buffered\n  1, 2, CLOSED, 2, 0\n  2, 1, OPEN, 1, 0\n5 s1 end\n",
+        ),
+        ("run", "m1\n", Status::Script, "refused line 2 reason 3\n"),
+        (
+            "run",
+            "s1> COMMIT\ns1<\n",
+            Status::Script,
+            "refused line 2 reason 3\n",
+        ),
+        (
+            "run",
+            "s65 COMMIT\n",
+            Status::Script,
+            "refused line 2 reason 4\n",
+        ),
+    ];
+    for (words, lines, status, text) in cases {
+        let script = format!(in rt.alloc(); "{table}{lines}")?;
+        check(
+            &rt,
+            rt.alloc(),
+            words,
+            script.as_str().as_bytes(),
+            (0, 0),
+            status,
+            text,
+        )?;
+    }
+    Ok(())
+}
+
+/// Whether a text is the log of two sessions with an INSERT each, whose events stand in the order of a number's six lowest bits: 1 for
+/// an event of the first session.
+fn is_in_order(alloc: Global, order: u32, text: &[u8]) -> Result<bool, Fail> {
+    let mut first = ["s1.1 >", "s1.1 < ok 1 affected", "s1 end"].iter();
+    let mut second = ["s2.1 >", "s2.1 < ok 1 affected", "s2 end"].iter();
+    let mut log = String::new(alloc);
+    for place in 0..6u32 {
+        let next = if order >> place & 1 == 1 {
+            first.next()
+        } else {
+            second.next()
+        };
+        if let Some(event) = next {
+            let line = format!(in alloc; "{} {event}\n", place + 1)?;
+            log.push_str(line.as_str())?;
+        }
+    }
+    Ok(log.as_str().as_bytes() == text)
+}
+
+#[test]
+fn runs_two_sessions_in_some_order(rt: HostRuntime) -> Result<(), Fail> {
+    let script = "setup CREATE TABLE t (k int NOT NULL PRIMARY KEY, v int NULL)
+s1 INSERT INTO t VALUES (1, 10)
+s2 INSERT INTO t VALUES (2, 20)
+";
+    for words in ["run", "run --movers 0", "run --movers 8"] {
+        let (status, sink) = ended(&rt, rt.alloc(), words, script.as_bytes(), (0, 0))?;
+        assert_eq!(rt; status, Status::Done);
+        // It is one of the 20 logs that there are.
+        let mut orders = 0u32;
+        for order in 0..64u32 {
+            if order.count_ones() == 3 && is_in_order(rt.alloc(), order, sink.held())? {
+                orders = orders.saturating_add(1);
+            }
+        }
+        assert_eq!(rt; orders, 1);
     }
     Ok(())
 }

@@ -5,22 +5,21 @@ ghost use Rattle.std.specs.declared.io.ErrorKind.TheVariants as ErrorKind;
 ghost use Rattle.std.specs.Result.{ForOk};
 ghost use Rattle.std.specs.Iterator.{IsFinite};
 ghost use Rattle.command_words.specs.declared.order.Order.{Order};
-ghost use Rattle.command_words.specs.declared.order.Order.TheVariants.{Replay};
 ghost use Rattle.command_words.specs.declared.order.RunOptions.{RunOptions};
-ghost use Rattle.command_words.specs.Orders.{Words, IsOrder};
+ghost use Rattle.command_words.specs.Orders.{Words, IsInRange, IsOrder};
 ghost use Rattle.cs_base.specs.Counts.{Rose};
 ghost use Rattle.cs_outside.specs.Outside.{Takes, Adds};
 ghost use Rattle.cs_outside.specs.Words.{AreWords};
-ghost use Rattle.script_reader.specs.declared.script.Mode.TheVariants as Mode;
 ghost use Rattle.script_reader.specs.declared.script.Script.{Script};
 ghost use Rattle.script_reader.specs.Scripts.{IsScript};
-ghost use Rattle.statement_core.specs.Terms.{AreTermsOf};
-ghost use Rattle.columnstore.specs.Outcome.{limit, Replays, DrawsScript, EndsFor, EndsForWords, IsDoneOrStopped, IsWrittenOrStopped};
+ghost use Rattle.columnstore.specs.declared.way.Way.{Way};
+ghost use Rattle.columnstore.specs.Outcome.{limit, order_of, mode_of, ReadsInput, DrawsScript, EndsFor, EndsForWords, IsDoneOrStopped, IsWrittenOrStopped};
 ghost use Rattle.columnstore.specs.Written.{IsWritten};
 
 use crate::answer::answer;
 use crate::drawn::{generate, load};
 use crate::status::Status;
+use crate::way::Way;
 use command_words::{Order, RunOptions};
 use cs_base::Memory;
 use cs_outside::{InputRefusal, Sink, Source, read_all, words, write_whole};
@@ -28,6 +27,7 @@ use cs_types::Line;
 use std::alloc::Global;
 use std::io;
 use std::sync::Wait;
+use std::thread::Threads;
 
 /// The longest script in bytes, 16 MiB.
 const LIMIT: usize = 16_777_216;
@@ -60,19 +60,20 @@ fn write_drawn<O: Sink>(output: &mut O, text: Result<Line, Memory>) -> Status
     }
 }
 
-/// Replays the script of an input, and writes the text of the log of its events.
-fn replay<R: Wait, I: Source, O: Sink>(
+/// Runs the script of an input in this way, and writes the text of the log of its events.
+fn run_script<R: Threads + Wait + Sync, I: Source, O: Sink>(
     rt: &R,
     alloc: Global,
     options: RunOptions,
+    way: Way,
     input: &mut I,
     output: &mut O,
 ) -> Status
-    requires sizes { AreTermsOf options.group_rows options.direct_rows }
+    requires range { IsInRange (order_of options way) }
     ensures ends { (came : List ℕ) × (added : List ℕ) × Takes (I.left input.old) (I.left input.new) came
         × Adds (O.held output.old) (O.held output.new) added
-        × EndsFor (Replay options) came (I.left input.new) added result }
-    ensures complete { (bytes : List ℕ) (script : Script) → I.left input.old ≡ Some bytes → length bytes ≤ limit → IsScript Mode.Replay bytes script → IsDoneOrStopped result }
+        × EndsFor (order_of options way) came (I.left input.new) added result }
+    ensures complete { (bytes : List ℕ) (script : Script) → I.left input.old ≡ Some bytes → length bytes ≤ limit → IsScript (mode_of way) bytes script → IsDoneOrStopped result }
     ensures read_fault { result ≡ Status.ReadFault → Rose (I.faults input.old) (I.faults input.new) }
     ensures write_fault { result ≡ Status.WriteFault → Rose (O.faults output.old) (O.faults output.new) }
 {
@@ -84,18 +85,19 @@ fn replay<R: Wait, I: Source, O: Sink>(
         }
         Err(InputRefusal::Memory) => return Status::Memory,
     };
-    match answer(rt, alloc, options, bytes) {
+    match answer(rt, alloc, options, way, bytes) {
         Ok((status, text)) => finish(output, text.as_slice(), status),
         Err(_) => Status::Memory,
     }
 }
 
 /// Runs the program for these words over an input and an output, and answers how it ended. The words are a mode and its options.
-/// `replay`: the input is a script, its statements are run, and the text of the log of its events is written. `generate`: the script
-/// of a workload is written. `load`: that script is run as by `replay`, and the summary of the log of its events is written. For both
-/// of these the input is let alone. Nothing is written before the whole text is there. Where several causes stand together, the order
-/// is words, reading, script, memory, writing.
-pub fn columnstore<R: Wait, I: Source, O: Sink>(
+/// `replay`: the input is a script, its statements are run line by line, and the text of the log of its events is written. `run`: the
+/// same, but each session runs on a thread of its own, beside movers on theirs. `generate`: the script of a workload is written. `load`:
+/// that script is run as by `replay`, and the summary of the log of its events is written. For both of these the input is let alone.
+/// Nothing is written before the whole text is there. Where several causes stand together, the order is words, reading, script, memory,
+/// writing.
+pub fn columnstore<R: Threads + Wait + Sync, I: Source, O: Sink>(
     rt: &R,
     alloc: Global,
     words: &[String],
@@ -107,23 +109,26 @@ pub fn columnstore<R: Wait, I: Source, O: Sink>(
         × Adds (O.held output.old) (O.held output.new) added
         × EndsForWords (map string_bytes words.now) came (I.left input.new) added result }
     // The words and a script are answered, unless memory or a stream gives out.
-    ensures complete { (bytes : List ℕ) (options : RunOptions) (script : Script) → I.left input.old ≡ Some bytes
-        → Replays (map string_bytes words.now) options → length bytes ≤ limit → IsScript Mode.Replay bytes script → IsDoneOrStopped result }
+    ensures complete { (bytes : List ℕ) (options : RunOptions) (way : Way) (script : Script) → I.left input.old ≡ Some bytes
+        → IsOrder (map string_bytes words.now) (order_of options way) → length bytes ≤ limit → IsScript (mode_of way) bytes script → IsDoneOrStopped result }
     // So are words for which a script is drawn, whatever the input.
     ensures drawn { (order : Order) → IsOrder (map string_bytes words.now) order → DrawsScript order → IsWrittenOrStopped result }
     // No call of the input is made for these, nor for words that are refused.
-    ensures untouched { ((options : RunOptions) → Replays (map string_bytes words.now) options → ⊥) → input.new ≡ input.old }
+    ensures untouched { ((order : Order) → IsOrder (map string_bytes words.now) order → ReadsInput order → ⊥) → input.new ≡ input.old }
     ensures read_fault { result ≡ Status.ReadFault → Rose (I.faults input.old) (I.faults input.new) }
     ensures write_fault { result ≡ Status.WriteFault → Rose (O.faults output.old) (O.faults output.new) }
 {
     match Order::of_words(words) {
-        Some(Order::Replay(options)) => replay(rt, alloc, options, input, output),
+        Some(Order::Replay(options)) => {
+            run_script(rt, alloc, options, Way::ByLine, input, output)
+        }
+        Some(Order::Run { options, movers }) => {
+            run_script(rt, alloc, options, Way::OnThreads { movers }, input, output)
+        }
         Some(Order::Generate(workload)) => write_drawn(output, generate(alloc, workload)),
         Some(Order::Load { workload, options }) => {
             write_drawn(output, load(rt, alloc, options, workload))
         }
-        // The program does not run sessions on threads so far.
-        Some(Order::Run { .. }) => refuse(output),
         None => refuse(output),
     }
 }
@@ -131,7 +136,7 @@ pub fn columnstore<R: Wait, I: Source, O: Sink>(
 /// Runs the program for its arguments, as the system gave them, over an input and an output: `columnstore` for the words
 /// after the program's name. Arguments of which one is no text are no words. Where there is no memory for the words the
 /// status is `Memory`, and nothing was read or written.
-pub fn program<R: Wait, A: Iterator<Item = String> + Drop, I: Source, O: Sink>(
+pub fn program<R: Threads + Wait + Sync, A: Iterator<Item = String> + Drop, I: Source, O: Sink>(
     rt: &R,
     alloc: Global,
     args: io::Result<A>,

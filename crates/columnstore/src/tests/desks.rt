@@ -11,6 +11,7 @@ use std::process::Abort;
 use std::sync::Wait;
 use std::sync::atomic::{AtomicU64, Ordering};
 use std::test::Fail;
+use std::thread::Threads;
 
 /// A desk that finds no memory at some calls, and else does what the desk in it does.
 #[derive(Drop)]
@@ -37,13 +38,13 @@ impl<'a, D: Desk> ShortDesk<'a, D> {
 }
 
 /// Counts a call, and answers whether it is one of these.
-fn is_next(calls: &[u64], counted: &AtomicU64) -> bool {
+pub fn is_next(calls: &[u64], counted: &AtomicU64) -> bool {
     let before = counted.fetch_add(1, Ordering::SeqCst);
     calls.contains(&before.wrapping_add(1))
 }
 
 impl<D: Desk> Desk for ShortDesk<'_, D> {
-    fn work<R: Wait>(&self, rt: &R, alloc: Global, started: &Started) -> Outcome {
+    fn work<R: Threads + Wait + Sync>(&self, rt: &R, alloc: Global, started: &Started) -> Outcome {
         if is_next(self.work, &self.worked) {
             return Outcome::Short;
         }
@@ -225,7 +226,7 @@ const PACKED_SECOND: &str = "1 s1.1 >
 /// Runs a script at a desk that finds no memory at these calls of `work` and of `mend`, where groups have at most four versions and two rows are loaded directly, or two versions and
 /// none are, and compares the text of the log.
 fn check(
-    rt: &(impl Abort + Wait),
+    rt: &(impl Abort + Threads + Wait + Sync),
     alloc: Global,
     packed: bool,
     calls: (&[u64], &[u64]),
@@ -247,7 +248,7 @@ fn check(
     };
     let script = read_script(alloc, script.as_bytes(), Mode::Replay)?;
     let mut runner = runner_for(alloc, sizes, &script)?;
-    let desk = ShortDesk::new(Clerk::new(), calls.0, calls.1);
+    let desk = ShortDesk::new(Clerk::new(1), calls.0, calls.1);
     let log = run(rt, alloc, &mut runner, &script, &desk)?;
     assert_eq!(rt; log.as_slice(), text.as_bytes());
     Ok(())

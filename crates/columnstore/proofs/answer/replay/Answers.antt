@@ -1,8 +1,12 @@
+use Rattle.cs_model.specs.State.{begin_of}
+use Rattle.group_log.specs.Followed.{ground_of}
+use Rattle.script_runner.specs.Logs.{IsLogOf}
 use Rattle.columnstore.specs.Outcome.{sizes_in}
 use Rattle.columnstore.proofs.Replayed.{replayed}
 use Rattle.columnstore.proofs.answer.replay.Goals as goal
 
 pub returns : goal.returns
 returns g c = record {
-  text = replayed (sizes_in c.args.options) c.in_ok-runner.runner.sizes c.args.script.now c.run.new.runner.log c.run.result c.in_ok-runner.ensures.sizes c.run.ensures.whole c.run.ensures.text;
+  text = replayed (λ sizes log. IsLogOf (ground_of c.args.script.now.schema sizes) c.args.script.now log) (begin_of c.args.script.now.schema) (sizes_in c.args.options) c.in_ok-runner.runner.sizes
+      c.run.new.runner.log c.run.result c.in_ok-runner.ensures.sizes c.run.ensures.whole c.run.ensures.text;
 }
