@@ -1,0 +1,4 @@
+setup CREATE TABLE t (k int NOT NULL PRIMARY KEY, v int NULL)
+s1 SELECT * FROM t
+s1<
+s1> SELECT * FROM t

@@ -1,0 +1,3 @@
+setup CREATE TABLE t (k int NOT NULL PRIMARY KEY, v int NULL)
+m9
+s1> SELECT * FROM t

@@ -1,0 +1,2 @@
+m1
+setup CREATE TABLE t (k int NOT NULL PRIMARY KEY, v int NULL)

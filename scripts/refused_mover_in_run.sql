@@ -1,0 +1,3 @@
+setup CREATE TABLE t (k int NOT NULL PRIMARY KEY, v int NULL)
+s1 INSERT INTO t VALUES (1, 10)
+m1

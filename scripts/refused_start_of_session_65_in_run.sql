@@ -1,0 +1,2 @@
+setup CREATE TABLE t (k int NOT NULL PRIMARY KEY, v int NULL)
+s65> SELECT * FROM t
