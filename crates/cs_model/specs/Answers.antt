@@ -19,7 +19,7 @@ use Rattle.cs_model.specs.Expressions.{Computed, compute, refusal_number as expr
 use Rattle.cs_model.specs.Series.{series_schema}
 use Rattle.cs_model.specs.Queries.{keeps}
 use Rattle.cs_model.specs.declared.entry.Bound.{Bound}
-use Rattle.cs_model.specs.declared.entry.Bound.TheVariants.{Begin, Commit, Rollback, Nothing, Statistics, Insert, Update, Delete, Select, GroupReport, SegmentReport, Refused}
+use Rattle.cs_model.specs.declared.entry.Bound.TheVariants.{Begin, Commit, Rollback, Nothing, Statistics, Insert, Update, Delete, Select, GroupReport, SegmentReport, Reorganize, Refused}
 use Rattle.cs_model.specs.declared.entry.Refusal.{Refusal}
 use Rattle.cs_model.specs.declared.entry.Refusal.TheVariants.{Valued}
 use Rattle.cs_model.specs.Changes.{Edit, Table}
@@ -147,4 +147,5 @@ writes schema table (Delete condition) = Ok (deleted schema condition table)
 writes schema table (Select query) = Ok []
 writes schema table GroupReport = Ok []
 writes schema table SegmentReport = Ok []
+writes schema table (Reorganize all) = Ok []
 writes schema table (Refused refusal) = Ok []

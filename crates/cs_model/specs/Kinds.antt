@@ -17,6 +17,7 @@ kind_of (bound.Delete condition) = kind.Change
 kind_of (bound.Select query) = kind.Query
 kind_of bound.GroupReport = kind.Report
 kind_of bound.SegmentReport = kind.Report
+kind_of (bound.Reorganize all) = kind.Reorganize
 kind_of (bound.Refused refusal) = kind.Refused
 
 abbrev pub kind_is_of_table : Kind → Bool
@@ -25,6 +26,7 @@ kind_is_of_table kind.Insert = true
 kind_is_of_table kind.Change = true
 kind_is_of_table kind.Query = true
 kind_is_of_table kind.Report = false
+kind_is_of_table kind.Reorganize = false
 kind_is_of_table kind.Refused = false
 
 abbrev pub kind_is_write : Kind → Bool
@@ -33,6 +35,7 @@ kind_is_write kind.Insert = true
 kind_is_write kind.Change = true
 kind_is_write kind.Query = false
 kind_is_write kind.Report = false
+kind_is_write kind.Reorganize = false
 kind_is_write kind.Refused = false
 
 abbrev pub kind_is_insert : Kind → Bool
@@ -41,6 +44,7 @@ kind_is_insert kind.Insert = true
 kind_is_insert kind.Change = false
 kind_is_insert kind.Query = false
 kind_is_insert kind.Report = false
+kind_is_insert kind.Reorganize = false
 kind_is_insert kind.Refused = false
 
 -- whether a statement is one of the table, which takes a snapshot, in a transaction of its own where none is open

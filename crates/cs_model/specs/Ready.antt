@@ -30,4 +30,5 @@ IsReady schema (bound.Delete condition) = Unit {0}
 IsReady schema (bound.Select query) = Unit {0}
 IsReady schema bound.GroupReport = Unit {0}
 IsReady schema bound.SegmentReport = Unit {0}
+IsReady schema (bound.Reorganize all) = Unit {0}
 IsReady schema (bound.Refused refusal) = IsOfReading refusal

@@ -1,6 +1,6 @@
 -- Segment elimination: when the cells of a group's columns tell that a predicate keeps none of its rows. They tell it by their
 -- least and greatest, and IS NULL and IS NOT NULL by whether a cell is NULL.
-use Rattle.std.specs.Prelude.{ℕ, Bool, true, false, not, ◌&&◌, ◌||◌, List, map, slice_get, if◌then◌else◌}
+use Rattle.std.specs.Prelude.{ℕ, Bool, true, false, not, ◌&&◌, ◌||◌, List, map, slice_get}
 use Rattle.std.specs.List.{list_all, list_any}
 use Rattle.cs_types.specs.declared.Schema.{Schema}
 use Rattle.cs_types.specs.declared.Value.{Value}

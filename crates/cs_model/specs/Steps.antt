@@ -60,6 +60,7 @@ IsRows on rows (reply.Rows list segments) = (list ≡ rows) × (is_some segments
 IsRows on rows (reply.Affected count) = ⊥
 IsRows on rows (reply.Groups lines buffered) = ⊥
 IsRows on rows (reply.Segments lines) = ⊥
+IsRows on rows (reply.Left groups) = ⊥
 IsRows on rows (reply.Refused refusal) = ⊥
 
 -- the reply to a query: its rows, or 8115 with the row and the item whose whole count or sum is out of its range
@@ -75,6 +76,7 @@ IsWritten Judged edits (reply.Refused refusal) = Judged (Some refusal)
 IsWritten Judged edits (reply.Rows list segments) = ⊥
 IsWritten Judged edits (reply.Groups lines buffered) = ⊥
 IsWritten Judged edits (reply.Segments lines) = ⊥
+IsWritten Judged edits (reply.Left groups) = ⊥
 
 -- the reply to a write of these edits, or their first value refusal, over what its transaction sees
 abbrev pub IsWriteReplyOf : State → ℕ → Option ℕ → Table → Bound → Result (List Edit) Refusal → Reply → Type 0
@@ -93,13 +95,14 @@ abbrev pub IsAnswerIn : Schema → State → ℕ → Option Txn → Query → Re
 IsAnswerIn schema m session None query r = ⊥
 IsAnswerIn schema m session (Some txn) query r = IsAnswer (m.statistics session) (answer schema query (values_of (seen m.changes txn))) r
 
--- any report on groups, and any on segments: what stands in them is said by the book of groups
+-- any report on groups, any on segments, and any list of what a REORGANIZE left: what stands in them is said by the book of groups
 abbrev pub IsGroups : Reply → Type 0
 IsGroups reply.Done = ⊥
 IsGroups (reply.Affected count) = ⊥
 IsGroups (reply.Rows rows segments) = ⊥
 IsGroups (reply.Groups lines buffered) = Unit {0}
 IsGroups (reply.Segments lines) = ⊥
+IsGroups (reply.Left groups) = ⊥
 IsGroups (reply.Refused refusal) = ⊥
 
 abbrev pub IsSegments : Reply → Type 0
@@ -108,7 +111,17 @@ IsSegments (reply.Affected count) = ⊥
 IsSegments (reply.Rows rows segments) = ⊥
 IsSegments (reply.Groups lines buffered) = ⊥
 IsSegments (reply.Segments lines) = Unit {0}
+IsSegments (reply.Left groups) = ⊥
 IsSegments (reply.Refused refusal) = ⊥
+
+abbrev pub IsLeft : Reply → Type 0
+IsLeft reply.Done = ⊥
+IsLeft (reply.Affected count) = ⊥
+IsLeft (reply.Rows rows segments) = ⊥
+IsLeft (reply.Groups lines buffered) = ⊥
+IsLeft (reply.Segments lines) = ⊥
+IsLeft (reply.Left groups) = Unit {0}
+IsLeft (reply.Refused refusal) = ⊥
 
 -- BEGIN is done, but in a transaction that is 32 deep
 abbrev pub begin_reply : Option Txn → Reply
@@ -133,6 +146,7 @@ IsReply schema m session (bound.Delete condition) r = IsWriteReply schema m sess
 IsReply schema m session (bound.Select query) r = IsAnswerIn schema m session (m.txns session) query r
 IsReply schema m session bound.GroupReport r = IsGroups r
 IsReply schema m session bound.SegmentReport r = IsSegments r
+IsReply schema m session (bound.Reorganize all) r = IsLeft r
 IsReply schema m session (bound.Refused refusal) r = r ≡ reply.Refused refusal
 
 -- ---- the state after a Finish
@@ -207,6 +221,7 @@ accepted schema m session (bound.Delete condition) = wrote m session (m.txns ses
 accepted schema m session (bound.Select query) = wrote m session (m.txns session) []
 accepted schema m session bound.GroupReport = m
 accepted schema m session bound.SegmentReport = m
+accepted schema m session (bound.Reorganize all) = m
 accepted schema m session (bound.Refused refusal) = m
 
 -- 3960 alone ends every transaction
@@ -234,6 +249,7 @@ replied schema m session b (reply.Affected count) = accepted schema m session b
 replied schema m session b (reply.Rows list segments) = accepted schema m session b
 replied schema m session b (reply.Groups lines buffered) = accepted schema m session b
 replied schema m session b (reply.Segments lines) = accepted schema m session b
+replied schema m session b (reply.Left groups) = accepted schema m session b
 replied schema m session b (reply.Refused refusal) = refused m session refusal
 
 -- the statement is no longer half done

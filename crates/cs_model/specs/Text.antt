@@ -19,13 +19,14 @@ use Rattle.cs_model.specs.Works.{session_text, actor_text, work_text}
 use Rattle.cs_model.specs.declared.entry.Refusal.{Refusal}
 use Rattle.cs_model.specs.declared.entry.Refusal.TheVariants.{Reading, Valued, Locked, Changed, Duplicate, NoTxn, Memory}
 use Rattle.cs_model.specs.declared.entry.Reply.{Reply}
-use Rattle.cs_model.specs.declared.entry.Reply.TheVariants.{Done, Affected, Rows, Groups, Segments, Refused}
+use Rattle.cs_model.specs.declared.entry.Reply.TheVariants.{Done, Affected, Rows, Groups, Segments, Left, Refused}
 use Rattle.cs_model.specs.declared.entry.Entry.{Entry}
 use Rattle.cs_model.specs.declared.entry.Entry.TheVariants.{Start, Finish, End, Mover}
 use Rattle.cs_model.specs.declared.report.GroupLine.{GroupLine}
 use Rattle.cs_model.specs.declared.report.GroupState.{GroupState}
 use Rattle.cs_model.specs.declared.report.GroupState.TheVariants.{Invisible, Opened, Closed, Compressed, Tombstone}
 use Rattle.cs_model.specs.declared.report.SegmentLine.{SegmentLine}
+use Rattle.cs_model.specs.declared.work.Actor.{Actor}
 
 abbrev pub next_cell : Loose → List ℕ
 next_cell cell = codes ", " ++ loose_text cell
@@ -128,6 +129,10 @@ segment_line schema line = report_line (
     ∷ []
     )
 
+-- `id, actor`: a group that a REORGANIZE left, and who held it
+abbrev pub left_line : ℕ × Actor → List ℕ
+left_line held = report_line (decimal held.0 ∷ actor_text held.1 ∷ [])
+
 -- the reply, and the lines under it
 abbrev pub reply_text : Schema → Reply → List ℕ
 reply_text schema Done = codes "ok\n"
@@ -135,6 +140,7 @@ reply_text schema (Affected count) = codes "ok " ++ decimal count ++ codes " aff
 reply_text schema (Rows rows segments) = codes "ok " ++ decimal (length rows) ++ codes " rows\n" ++ flat_map row_line rows ++ segments_line segments
 reply_text schema (Groups lines buffered) = codes "ok " ++ decimal (length lines) ++ codes " groups, " ++ decimal buffered ++ codes " buffered\n" ++ flat_map group_line lines
 reply_text schema (Segments lines) = codes "ok " ++ decimal (length lines) ++ codes " segments\n" ++ flat_map (segment_line schema) lines
+reply_text schema (Left groups) = codes "ok " ++ decimal (length groups) ++ codes " left\n" ++ flat_map left_line groups
 reply_text schema (Refused refusal) = refusal_text schema refusal ++ codes "\n"
 
 -- the text of an entry: event is its number, place that of its statement in its session, both from 1
@@ -199,6 +205,7 @@ IsPrintableReply schema (Affected count) = Unit {0}
 IsPrintableReply schema (Rows rows segments) = All IsPrintableRow rows
 IsPrintableReply schema (Groups lines buffered) = Unit {0}
 IsPrintableReply schema (Segments lines) = All (IsPrintableSegment schema) lines
+IsPrintableReply schema (Left groups) = Unit {0}
 IsPrintableReply schema (Refused refusal) = IsPrintableRefusal schema refusal
 
 abbrev pub IsPrintableEntry : Schema → Entry → Type 0

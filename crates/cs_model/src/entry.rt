@@ -37,6 +37,9 @@ pub enum Bound {
     GroupReport,
     /// SELECT from the report on segments.
     SegmentReport,
+    /// ALTER INDEX .. REORGANIZE: turns of the tuple mover, made by the session; where `all` says so, the open store is closed
+    /// before them.
+    Reorganize { all: bool },
     /// Reading or binding refused the text, or there was no memory for it: no other refusal stands here.
     Refused(Refusal),
 }
@@ -81,6 +84,9 @@ pub enum Reply {
     },
     /// The report on segments: a line for each COMPRESSED group and column.
     Segments(Items<SegmentLine>),
+    /// What a REORGANIZE left: of the stores that were closed at its Start, or that it closed, those that another actor held at its
+    /// last look, by id, each with that actor.
+    Left(Items<(u64, Actor)>),
     /// The statement was refused.
     Refused(Refusal),
 }

@@ -17,6 +17,8 @@ pub enum Kind {
     Query,
     /// SELECT from a report: it reads what the row groups are, and no row.
     Report,
+    /// REORGANIZE: it moves the row groups, and reads and writes no row.
+    Reorganize,
     /// A text that was refused.
     Refused,
 }
@@ -36,6 +38,7 @@ impl Bound {
             Bound::Update(_) | Bound::Delete(_) => Kind::Change,
             Bound::Select(_) => Kind::Query,
             Bound::GroupReport | Bound::SegmentReport => Kind::Report,
+            Bound::Reorganize { .. } => Kind::Reorganize,
             Bound::Refused(_) => Kind::Refused,
         }
     }

@@ -8,7 +8,7 @@ ghost use Rattle.cs_types.specs.Kinds.{keeps};
 ghost use Rattle.cs_types.specs.declared.Value.TheVariants as value;
 
 use crate::entry::{AnswerRow, Entry, Refusal, Reply};
-use crate::print_report::{append_groups, append_segments};
+use crate::print_report::{append_groups, append_left, append_segments};
 use crate::print_work::{append_actor, append_work};
 use cs_base::Memory;
 use cs_types::{ColumnType, Key, Line, Loose, Schema, Value, print_loose, print_value};
@@ -200,6 +200,12 @@ fn append_reply(schema: &Schema, reply: &Reply, line: &mut Line) -> Result<(), M
             line.append_number(lines.len() as u64)?;
             line.append(b" segments\n")?;
             append_segments(schema, lines.as_slice(), line)
+        }
+        Reply::Left(groups) => {
+            line.append(b"ok ")?;
+            line.append_number(groups.len() as u64)?;
+            line.append(b" left\n")?;
+            append_left(groups.as_slice(), line)
         }
         Reply::Refused(refusal) => {
             append_refusal(schema, *refusal, line)?;

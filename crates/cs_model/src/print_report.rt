@@ -1,10 +1,12 @@
-// The text of the reports on row groups and their segments.
+// The text of the reports on row groups and their segments, and of what a REORGANIZE left.
 ghost use Rattle.std.specs.Prelude.{◌≡◌, ◌++◌, All, OnOk, codes, decimal};
 ghost use Rattle.std.specs.List.{flat_map};
 ghost use Rattle.cs_types.specs.Text.{value_text};
-ghost use Rattle.cs_model.specs.Text.{next_part, state_code, state_name, group_line, encoding_name, bit_of, column_kind, segment_line, IsPrintableCell, IsPrintableSegment};
+ghost use Rattle.cs_model.specs.Text.{left_line, next_part, state_code, state_name, group_line, encoding_name, bit_of, column_kind, segment_line, IsPrintableCell, IsPrintableSegment};
 
+use crate::print_work::append_actor;
 use crate::report::{GroupLine, GroupState, SegmentLine};
+use crate::work::Actor;
 use cs_base::Memory;
 use cs_types::{ColumnType, Encoding, Line, Schema, Value, loose_of, print_loose};
 
@@ -164,6 +166,27 @@ pub fn append_segments(
 {
     for segment in segments {
         append_segment(schema, segment, line)?;
+    }
+    Ok(())
+}
+
+/// Adds a group that was left, with who held it.
+fn append_held(held: &(u64, Actor), line: &mut Line) -> Result<(), Memory>
+    ensures { OnOk result (line.new ≡ line.old ++ left_line held.now) }
+{
+    line.append(b"  ")?;
+    line.append_number(held.0)?;
+    line.append(b", ")?;
+    append_actor(held.1, line)?;
+    line.append(b"\n")
+}
+
+/// Adds a line for each group that was left.
+pub fn append_left(groups: &[(u64, Actor)], line: &mut Line) -> Result<(), Memory>
+    ensures { OnOk result (line.new ≡ line.old ++ flat_map left_line groups.now) }
+{
+    for held in groups {
+        append_held(held, line)?;
     }
     Ok(())
 }

@@ -22,7 +22,7 @@ pub counted_on : (origin : Ground) (log : List Entry) (entry : Entry) → IsCoun
 counted_on origin log entry x is = after_on origin [] log entry x is
 
 -- a Start begins its statement
-pub begun_first : (origin : Ground) (log : List Entry) (session : ℕ) (bound : Arc Bound Global) (short : Bool) (m : State) (book : Book) → Followed origin log m book
+abbrev pub begun_first : (origin : Ground) (log : List Entry) (session : ℕ) (bound : Arc Bound Global) (short : Bool) (m : State) (book : Book) → Followed origin log m book
     → IsBegunAt origin (log ++ Start session bound short ∷ []) session bound.value m book
 begun_first origin log session bound short m book followed = record {
   before = log;
@@ -36,7 +36,7 @@ begun_first origin log session bound short m book followed = record {
 }
 
 -- and it stays begun while others make entries
-pub begun_on : (origin : Ground) (log : List Entry) (entry : Entry) (session : ℕ) (statement : Bound) (m : State) (book : Book) → (is_turn entry && (actor_of entry == session)) ≡ false
+abbrev pub begun_on : (origin : Ground) (log : List Entry) (entry : Entry) (session : ℕ) (statement : Bound) (m : State) (book : Book) → (is_turn entry && (actor_of entry == session)) ≡ false
     → IsBegunAt origin log session statement m book → IsBegunAt origin (log ++ entry ∷ []) session statement m book
 begun_on origin log entry session statement m book other x = record {
   before = x.before;

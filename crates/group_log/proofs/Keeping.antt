@@ -22,6 +22,7 @@ use Rattle.group_book.specs.Invariant.{makes_group, IsBookOf}
 use Rattle.group_book.specs.Stocks.{AreChanges}
 use Rattle.group_book.specs.Turns.{after_work}
 use Rattle.group_book.proofs.Chosen.{choice_apt}
+use Rattle.group_book.proofs.Closed.{close_is}
 use Rattle.group_book.proofs.Flushed.{flush_is}
 use Rattle.group_book.proofs.Installed.{install_is}
 use Rattle.group_book.proofs.Kept.{commit_is}
@@ -31,7 +32,7 @@ use Rattle.group_book.proofs.Released.{release_is}
 use Rattle.group_book.proofs.Turned.{turn_is}
 use Rattle.group_book.proofs.Visible.{ascending_of, below_of}
 use Rattle.group_log.specs.Followed.{committed_edits, book_with, Commits, Works}
-use Rattle.group_log.specs.Followed.Works.{chosen, out_of_memory, installed, released}
+use Rattle.group_log.specs.Followed.Works.{chosen, out_of_memory, installed, released, closed}
 use Rattle.group_log.proofs.Claims.{claim_in}
 
 pub changes_of : (m : State) → IsSound m → AreChanges m.changes m.clock
@@ -84,3 +85,4 @@ works_keep sizes floor by book changes clock w made a j (out_of_memory none is) 
 works_keep sizes floor by book changes clock w made a j (installed claim holds is moved) =
     order_free sizes.group_rows (after_work claim.choice claim book) made changes floor moved (work_keeps sizes.group_rows book changes floor claim claim.choice refl (claim_in by book claim holds) j)
 works_keep sizes floor by book changes clock w made a j (released claim holds is) = release_is sizes.group_rows book changes floor claim j (claim_in by book claim holds)
+works_keep sizes floor by book changes clock w made a j (closed session none is) = close_is sizes.group_rows book changes floor j

@@ -4,3 +4,4 @@ pub mod Claims
 pub mod Keeping
 pub mod Since
 pub mod Moving
+pub mod Reorganizing

@@ -116,16 +116,16 @@ since_step origin m after (End session) book made room some since step same =
     (stays origin.sizes.group_rows m.changes after.changes book made since.floor (ap (λ (z : State). z.changes) step.1) same since.stands)
 since_step origin m after (Mover by w) book made room some since step moves =
     let sound = sound_now origin.begin origin.sizes.group_rows m book since in
-    let floor : ℕ = (moves.1).0 in
-    let j = since_at_floor origin.begin origin.sizes.group_rows m book floor since (moves.1).1 in
+    let floor : ℕ = moves.0 in
+    let j = since_at_floor origin.begin origin.sizes.group_rows m book floor since moves.1 in
     record {
       moment = m;
       floor = floor;
       entries = Mover by w ∷ [];
       sound = sound;
-      taken = (moves.1).1;
+      taken = moves.1;
       leads = (after, step, refl);
-      stands = subst (λ (z : State). IsBookOf origin.sizes.group_rows made z.changes floor) (sym step) (works_keep origin.sizes floor by book m.changes m.clock w made (changes_of m sound) j (moves.1).2);
+      stands = subst (λ (z : State). IsBookOf origin.sizes.group_rows made z.changes floor) (sym step) (works_keep origin.sizes floor by book m.changes m.clock w made (changes_of m sound) j moves.2);
     }
 
 -- ---- a log

@@ -1,5 +1,5 @@
 -- What an answer tells of its scan: how many segments were read and how many skipped, by the book at its statement's Start.
-use Rattle.std.specs.Prelude.{◌≡◌, ℕ, List, [], ◌∷◌, ◌++◌, map, filter, length, Bool, IfSome, Option, None, Some}
+use Rattle.std.specs.Prelude.{◌≡◌, ℕ, List, [], ◌∷◌, ◌++◌, map, filter, length, Bool, IfSome, Option, None}
 use Rattle.std.specs.declared.alloc.Global.{Global}
 use Rattle.std.specs.declared.sync.Arc.{Arc}
 use Rattle.std.specs.List.{AllZip}
@@ -28,6 +28,7 @@ told_counts (reply.Affected count) = None
 told_counts (reply.Rows rows segments) = segments
 told_counts (reply.Groups lines buffered) = None
 told_counts (reply.Segments lines) = None
+told_counts (reply.Left groups) = None
 told_counts (reply.Refused refusal) = None
 
 -- of the COMPRESSED groups of a book, with the rows of all their versions, a condition reads the first of these counts and skips
@@ -37,7 +38,8 @@ pub record AreCounts (schema : Schema) (changes : List Change) (book : Book) (co
   pub of_book : AllZip (AreRowsOf (length schema.columns) changes) (filter (λ group. is_compressed group.content) book.groups) groups
   pub counted : counts ≡ scan_counts schema condition (map (λ (group : ℕ × List PackedRow). column_of group.1) groups)
 
--- the last that the session did in the log is the Start of this statement, and what stands before it leads to this state and book
+-- the session's last Start, Finish or End in the log is the Start of this statement (works of its own may stand behind it), and what
+-- stands before that leads to this state and book
 pub record IsBegunAt (origin : Ground) (log : List Entry) (session : ℕ) (statement : Bound) (m : State) (book : Book) : Type 0 where
   pub before : List Entry
   pub bound : Arc Bound Global

@@ -13,11 +13,11 @@ use Rattle.cs_model.specs.Changes.{Edit, Change}
 use Rattle.cs_model.specs.Floors.{IsFloor, snapshots}
 use Rattle.cs_model.specs.State.{Half, State, Begin, begin_of, schema_now}
 use Rattle.cs_model.specs.Steps.{IsStep, IsOutOfIds, finished}
-use Rattle.group_book.specs.Book.{Claim, Book, empty}
-use Rattle.group_book.specs.Choices.{choice, after_choice, choice_work, install_work, release_work}
+use Rattle.group_book.specs.Book.{Group, Claim, Book, empty, is_opened}
+use Rattle.group_book.specs.Choices.{choice, after_choice, choice_work, install_work, release_work, lowest}
 use Rattle.group_book.specs.Commits.{Sizes, replaced_by, inserted_by, after_commit, draws_past}
 use Rattle.group_book.specs.Orders.{IsReordered}
-use Rattle.group_book.specs.Turns.{claim_by, after_work, after_release}
+use Rattle.group_book.specs.Turns.{claim_by, after_close, after_work, after_release}
 use Rattle.group_log.specs.Reports.{line_of}
 use Rattle.group_log.specs.Segments.{ShowsSegments}
 
@@ -55,6 +55,7 @@ ShowsBook schema changes book (reply.Affected count) = Unit {0}
 ShowsBook schema changes book (reply.Rows rows segments) = Unit {0}
 ShowsBook schema changes book (reply.Groups lines buffered) = (lines ≡ map line_of book.groups) × (buffered ≡ length book.buffer)
 ShowsBook schema changes book (reply.Segments lines) = ShowsSegments schema changes book lines
+ShowsBook schema changes book (reply.Left groups) = Unit {0}
 ShowsBook schema changes book (reply.Refused refusal) = Unit {0}
 
 -- where error 50001 at 1 stands in a commit's place, that commit would have drawn a group id above 2^62
@@ -64,20 +65,23 @@ IsFull origin m book session (Some half) r =
     (out : IsOutOfIds (schema_now origin.begin m) m session half.bound r)
     → draws_past book (book_with origin.sizes m (committed_edits m (finished (schema_now origin.begin m) m session half.bound out.given)) book) ≡ true
 
--- what a Finish makes of the book: what it commits is committed in it; want of ids has its cause; and a report shows it
+-- what a Finish makes of the book: what it commits is committed in it; want of ids has its cause; a report shows it; and its session
+-- holds no claim
 pub record Finishes (origin : Ground) (m : State) (book : Book) (session : ℕ) (r : Reply) (after : State) (made : Book) : Type 0 where
   pub commits : Commits origin.sizes m (committed_edits m after) book made
   pub full : IsFull origin m book session (m.half session) r
   pub shows : ShowsBook (schema_now origin.begin m) m.changes book r
+  pub free : claim_by (actor.Session session) book ≡ None
 
--- ---- the work of movers
+-- ---- the work of movers, and of sessions in their place
 
 abbrev pub is_mover : Actor → Bool
 is_mover (actor.Session n) = false
 is_mover (actor.Mover n) = true
 
 -- the work of an actor at this floor, and the book after it: what its turn chose, where it holds no claim, or want of memory in
--- the place of that; or the install of its claim, the versions of packed groups in any order, or the claim's release
+-- the place of that; the install of its claim, the versions of packed groups in any order, or the claim's release; or, of a session
+-- that holds no claim, the close of the open store
 pub data Works (sizes : Sizes) (floor : ℕ) (by : Actor) (book : Book) : Work → Book → Type 0 where
   chosen : {w : Work} → claim_by by book ≡ None → choice_work (choice floor sizes.group_rows by book) floor book ≡ Some w
       → Works sizes floor by book w (after_choice (choice floor sizes.group_rows by book) floor by book)
@@ -86,15 +90,17 @@ pub data Works (sizes : Sizes) (floor : ℕ) (by : Actor) (book : Book) : Work �
       → IsReordered (after_work claim.choice claim book) made → Works sizes floor by book w made
   released : {w : Work} (claim : Claim) → claim_by by book ≡ Some claim → release_work claim.choice claim ≡ Some w
       → Works sizes floor by book w (after_release claim book)
+  closed : {id : ℕ} → is_mover by ≡ false → claim_by by book ≡ None → lowest (λ (group : Group). is_opened group.content) book.groups ≡ Some id
+      → Works sizes floor by book (work.Close id) (after_close book)
 
 -- ---- the log
 
--- the entry, which leads from one state to the next, makes the second book of the first; no session moves groups so far
+-- the entry, which leads from one state to the next, makes the second book of the first
 abbrev pub IsBookStep : Ground → State → Book → Entry → State → Book → Type 0
 IsBookStep origin m book (Start session b short) after made = made ≡ book
 IsBookStep origin m book (Finish session r) after made = Finishes origin m book session r after made
 IsBookStep origin m book (End session) after made = made ≡ book
-IsBookStep origin m book (Mover by w) after made = (is_mover by ≡ true) × ((floor : ℕ) × IsFloor (snapshots m) m.clock floor × Works origin.sizes floor by book w made)
+IsBookStep origin m book (Mover by w) after made = (floor : ℕ) × IsFloor (snapshots m) m.clock floor × Works origin.sizes floor by book w made
 
 -- the entries lead from this state and this book to those, side by side
 abbrev pub Follows : Ground → State → Book → List Entry → State → Book → Type 0
@@ -105,3 +111,9 @@ Follows origin m book (entry ∷ entries) after made =
 -- the log leads from what it begins from to this state and this book
 abbrev pub Followed : Ground → List Entry → State → Book → Type 0
 Followed origin log after made = Follows origin origin.begin.state origin.book log after made
+
+-- the state and the book that a log leads to
+pub record Moment (origin : Ground) (log : List Entry) : Type 0 where
+  pub state : State
+  pub book : Book
+  pub followed : Followed origin log state book

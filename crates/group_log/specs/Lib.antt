@@ -4,3 +4,4 @@ pub mod Followed
 pub mod Counted
 pub mod Grounds
 pub mod Moves
+pub mod Reorganizing

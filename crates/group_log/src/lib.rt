@@ -1,4 +1,5 @@
-//! What a log makes of the book of row groups, beside the state of the row model: the definition `Followed`, and its laws.
+//! What a log makes of the book of row groups, beside the state of the row model: the definition `Followed`, and its laws; and what a
+//! REORGANIZE may do along it and leaves: the definition `IsReorganized`.
 //!
 //! Its one contract: along a followed log, which is legal, the book stays one of the committed changes at the floor. So at every
 //! moment its counts add up to the rows of the table, and each entry moves the groups by the listed transitions alone. Each
@@ -50,8 +51,8 @@ pub fn followed_counts_add_up()
         → total_sum book.groups ≡ deleted_sum book.groups + (length book.buffer + length (table m.changes m.clock)) }
 {}
 
-/// Each entry moves the groups by the listed transitions alone: a Finish by those of a commit, the work of a mover by those of
-/// movers, and a Start and an End not at all; and an id that gets a group is drawn by that entry, so an id whose group has gone is
+/// Each entry moves the groups by the listed transitions alone: a Finish by those of a commit, a close by OPEN to CLOSED alone, any
+/// other work by those of movers, and a Start and an End not at all; and an id that gets a group is drawn by that entry, so an id whose group has gone is
 /// not used again. This is so of any book that is one of the changes, and along a followed log.
 pub fn followed_moves_groups()
     ensures step { (origin : Ground) (m after : State) (entry : Entry) (book made : Book) (changes : List Change) (floor : ℕ) → IsBookOf origin.sizes.group_rows book changes floor

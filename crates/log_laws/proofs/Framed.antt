@@ -150,6 +150,7 @@ acts_accepted schema m s (bound.Delete condition) = acts_wrote m s (m.txns s) (w
 acts_accepted schema m s (bound.Select query) = acts_wrote m s (m.txns s) [] refl
 acts_accepted schema m s bound.GroupReport = acts_same m s
 acts_accepted schema m s bound.SegmentReport = acts_same m s
+acts_accepted schema m s (bound.Reorganize all) = acts_same m s
 acts_accepted schema m s (bound.Refused refusal) = acts_same m s
 
 acts_replied : (schema : Schema) (m : State) (s : ℕ) (b : Bound) (r : Reply) → Acts m s (replied schema m s b r)
@@ -158,6 +159,7 @@ acts_replied schema m s b (reply.Affected count) = acts_accepted schema m s b
 acts_replied schema m s b (reply.Rows list segments) = acts_accepted schema m s b
 acts_replied schema m s b (reply.Groups lines buffered) = acts_accepted schema m s b
 acts_replied schema m s b (reply.Segments lines) = acts_accepted schema m s b
+acts_replied schema m s b (reply.Left groups) = acts_accepted schema m s b
 acts_replied schema m s b (reply.Refused refusal) = acts_if m s _ _ (ends_txn (m.txns s) refusal) (acts_gone m s) (acts_same m s)
 
 -- ---- a Start's transaction

@@ -178,6 +178,7 @@ cleared_of m s snapshot table b (Ok edits) (reply.Affected count) not (inr h) = 
 cleared_of m s snapshot table b (Ok edits) (reply.Rows list segments) not (inr h) = absurd h
 cleared_of m s snapshot table b (Ok edits) (reply.Groups lines buffered) not (inr h) = absurd h
 cleared_of m s snapshot table b (Ok edits) (reply.Segments lines) not (inr h) = absurd h
+cleared_of m s snapshot table b (Ok edits) (reply.Left groups) not (inr h) = absurd h
 cleared_of m s snapshot table b (Ok edits) (reply.Refused refusal) not (inr h) = absurd (not refusal refl)
 
 pub cleared : (schema : Schema) (m : State) (s : ℕ) (o : Option Txn) (b : Bound) (r : Reply) → IsAccepted r
@@ -206,6 +207,7 @@ owned_accepted schema m s (bound.Delete condition) r not h =
 owned_accepted schema m s (bound.Select query) r not h = owned_wrote (rested m s) s (m.txns s) [] refl (no_keys (λ key. IsFree m.txns s key))
 owned_accepted schema m s bound.GroupReport r not h = owned_same m s
 owned_accepted schema m s bound.SegmentReport r not h = owned_same m s
+owned_accepted schema m s (bound.Reorganize all) r not h = owned_same m s
 owned_accepted schema m s (bound.Refused refusal) r not h = owned_same m s
 
 owned_replied : (schema : Schema) (m : State) (s : ℕ) (b : Bound) (r : Reply) → IsDefined schema m s b r → Owned m s (replied schema (rested m s) s b r)
@@ -214,6 +216,7 @@ owned_replied schema m s b (reply.Affected count) h = owned_accepted schema m s 
 owned_replied schema m s b (reply.Rows list segments) h = owned_accepted schema m s b (reply.Rows list segments) (λ refusal e. cc e) h
 owned_replied schema m s b (reply.Groups lines buffered) h = owned_accepted schema m s b (reply.Groups lines buffered) (λ refusal e. cc e) h
 owned_replied schema m s b (reply.Segments lines) h = owned_accepted schema m s b (reply.Segments lines) (λ refusal e. cc e) h
+owned_replied schema m s b (reply.Left groups) h = owned_accepted schema m s b (reply.Left groups) (λ refusal e. cc e) h
 owned_replied schema m s b (reply.Refused refusal) h = owned_refused (rested m s) s refusal
 
 -- want of memory and want of a group id are refusals

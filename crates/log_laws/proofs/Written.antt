@@ -191,6 +191,7 @@ writes_accepted schema m s (bound.Select query) r not h k pins =
     writes_wrote (rested m s) s (m.txns s) [] refl k (pinned_none (m.txns s) k.1) (no_keys (IsClear m s (snapshot_of (m.txns s))))
 writes_accepted schema m s bound.GroupReport r not h k pins = writes_same m s k
 writes_accepted schema m s bound.SegmentReport r not h k pins = writes_same m s k
+writes_accepted schema m s (bound.Reorganize all) r not h k pins = writes_same m s k
 writes_accepted schema m s (bound.Refused refusal) r not h k pins = writes_same m s k
 
 -- a reply that is no refusal comes only where the Start found memory
@@ -205,6 +206,7 @@ writes_replied schema m s b (reply.Affected count) h k pins = let not : IsAccept
 writes_replied schema m s b (reply.Rows list segments) h k pins = let not : IsAccepted (reply.Rows list segments) = λ refusal e. cc e in writes_accepted schema m s b (reply.Rows list segments) not h k (pins not)
 writes_replied schema m s b (reply.Groups lines buffered) h k pins = let not : IsAccepted (reply.Groups lines buffered) = λ refusal e. cc e in writes_accepted schema m s b (reply.Groups lines buffered) not h k (pins not)
 writes_replied schema m s b (reply.Segments lines) h k pins = let not : IsAccepted (reply.Segments lines) = λ refusal e. cc e in writes_accepted schema m s b (reply.Segments lines) not h k (pins not)
+writes_replied schema m s b (reply.Left groups) h k pins = let not : IsAccepted (reply.Left groups) = λ refusal e. cc e in writes_accepted schema m s b (reply.Left groups) not h k (pins not)
 writes_replied schema m s b (reply.Refused refusal) h k pins = writes_refused (rested m s) s refusal k
 
 writes_finish : (schema : Schema) (m : State) (s : ℕ) (h : Option Half) (r : Reply) (after : State) → IsFinish schema m s h r after → IsKept m.changes (m.txns s) → IsPinnedHalf h (m.txns s) m.clock → Writes m s after

@@ -1,9 +1,11 @@
 use crate::print_summary;
+use cs_base::Items;
 use cs_model::{Actor, Entry, Refusal, Reply, Work};
+use std::alloc::Global;
 use std::test::Fail;
 
 /// Events other than Starts, of each kind that a summary counts.
-fn events(session: u32) -> [Entry; 10] {
+fn events(alloc: Global, session: u32) -> [Entry; 11] {
     let mover = Actor::Mover(1);
     [
         Entry::Finish {
@@ -40,12 +42,16 @@ fn events(session: u32) -> [Entry; 10] {
         },
         Entry::End { session },
         Entry::End { session: 64 },
+        Entry::Finish {
+            session,
+            reply: Reply::Left(Items::new(alloc)),
+        },
     ]
 }
 
 #[test]
 fn summaries_count_each_kind(rt: HostRuntime) -> Result<(), Fail> {
-    let events = events(7);
+    let events = events(rt.alloc(), 7);
     // (events taken, rows, text)
     let cases = [
         (0, 0, "events 0\nok 0\nrefused 0\nends 0\nrows 0\n"),
@@ -55,6 +61,11 @@ fn summaries_count_each_kind(rt: HostRuntime) -> Result<(), Fail> {
             10,
             18_446_744_073_709_551_616,
             "events 10\nok 2\nrefused 2\nends 2\nrows 18446744073709551616\nshort 3\n",
+        ),
+        (
+            11,
+            0,
+            "events 11\nok 3\nrefused 2\nends 2\nrows 0\nshort 3\n",
         ),
     ];
     for (taken, rows, text) in cases {
