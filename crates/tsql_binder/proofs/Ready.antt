@@ -24,9 +24,8 @@ use Rattle.bind_faults.specs.Updates.{is_number, is_key, value_faults, set_fault
 use Rattle.bind_faults.specs.Faults.{faults, wrong_table, before_all, first_fault}
 use Rattle.bind_faults.proofs.Leasts.{least_none}
 use Rattle.bind_forms.specs.Plans.{set_of}
-use Rattle.tsql_binder.specs.Postponed.{is_postponed}
 use Rattle.tsql_binder.specs.Reports.{groups_name, segments_name, report_named, report_behind, report_in, is_whole}
-use Rattle.tsql_binder.specs.Meaning.{later, plan_of, unless, reported, bound_but_for, bound_of, bound_or, Means}
+use Rattle.tsql_binder.specs.Meaning.{plan_of, unless, reported, bound_but_for, bound_of, bound_or, Means}
 
 -- ---- no faults at all
 
@@ -121,7 +120,7 @@ module _ (schema : Schema) where
 
   -- what a statement is bound to
   pub bound_ready : (statement : Statement) (bound : Bound) → bound_of schema statement ≡ Ok bound → IsReady schema bound
-  bound_ready statement bound e = at (is_postponed statement) (report_in statement) refl e
+  bound_ready statement bound e = at (report_in statement) refl e
     where
       without : (found : Option Fault) → first_fault schema statement ≡ found → unless found (plan_of schema statement) ≡ Ok bound → IsReady schema bound
       without None is h = let same : plan_of schema statement ≡ bound = cc in subst (IsReady schema) same (planned_ready statement (no_faults schema statement is))
@@ -131,10 +130,9 @@ module _ (schema : Schema) where
       with true report is h = let same : report ≡ bound = cc h in subst (IsReady schema) same (report_ready statement report is)
       with false report is h = absurd (cc h)
 
-      at : (is_later : Bool) (report : Option Bound) → report_in statement ≡ report → cond is_later (Err later) (bound_but_for schema statement report) ≡ Ok bound → IsReady schema bound
-      at true report is h = absurd (cc)
-      at false None is h = without (first_fault schema statement) refl h
-      at false (Some report) is h = with (is_whole statement) report is h
+      at : (report : Option Bound) → report_in statement ≡ report → bound_but_for schema statement report ≡ Ok bound → IsReady schema bound
+      at None is h = without (first_fault schema statement) refl h
+      at (Some report) is h = with (is_whole statement) report is h
 
   -- what a text means
   pub meant_ready : (text : List ℕ) (bound : Bound) → Means schema text bound → IsReady schema bound

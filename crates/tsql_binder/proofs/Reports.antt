@@ -78,7 +78,7 @@ module _ (schema : Schema) (report : Bound) (name : List ℕ) (other : (statemen
   only statements.SetSnapshot e = absurd (not_planned statements.SetSnapshot (first_fault schema statements.SetSnapshot) e)
   only (statements.SetStatistics on) e = absurd (not_planned (statements.SetStatistics on) (first_fault schema (statements.SetStatistics on)) e)
   only (statements.SetLockTimeout number) e = absurd (not_planned (statements.SetLockTimeout number) (first_fault schema (statements.SetLockTimeout number)) e)
-  only (statements.AlterIndex index table compress) e = absurd (cc e)
+  only (statements.AlterIndex index table compress) e = absurd (not_planned (statements.AlterIndex index table compress) (first_fault schema (statements.AlterIndex index table compress)) e)
   only (statements.Insert table names source) e = absurd (not_planned (statements.Insert table names source) (first_fault schema (statements.Insert table names source)) e)
   only (statements.Update table sets filter) e = absurd (not_planned (statements.Update table sets filter) (first_fault schema (statements.Update table sets filter)) e)
   only (statements.Delete table filter) e = absurd (not_planned (statements.Delete table filter) (first_fault schema (statements.Delete table filter)) e)

@@ -1,3 +1,2 @@
-pub mod Postponed
 pub mod Reports
 pub mod Meaning

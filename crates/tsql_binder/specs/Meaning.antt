@@ -1,8 +1,8 @@
 -- What the text of a statement means over a schema: its tree's bound form, or its first refusal.
-use Rattle.std.specs.Prelude.{◌≡◌, ◌⊎◌, ℕ, List, Bool, true, false, Option, None, Some, Result, Ok, Err, if◌then◌else◌}
+use Rattle.std.specs.Prelude.{◌≡◌, ◌⊎◌, ℕ, List, Bool, true, false, Option, None, Some, unwrap_or, Result, Ok, Err}
 use Rattle.cs_types.specs.declared.Schema.{Schema}
 use Rattle.cs_model.specs.declared.entry.Bound.{Bound}
-use Rattle.cs_model.specs.declared.entry.Bound.TheVariants.{Begin, Commit, Rollback, Nothing, Statistics, Insert, Update, Delete, Select, Refused}
+use Rattle.cs_model.specs.declared.entry.Bound.TheVariants.{Begin, Commit, Rollback, Nothing, Statistics, Insert, Update, Delete, Select, Reorganize, Refused}
 use Rattle.cs_model.specs.declared.entry.Refusal.TheVariants.{Reading}
 use Rattle.tsql_trees.specs.declared.statement.Statement.{Statement}
 use Rattle.tsql_trees.specs.declared.statement.Statement.TheVariants as statements
@@ -14,17 +14,12 @@ use Rattle.bind_forms.specs.Preds.{filter_of}
 use Rattle.bind_forms.specs.Plans.{insert_plan, update_plan, query}
 use Rattle.tsql_binder.specs.declared.refusal.BindRefusal.{BindRefusal}
 use Rattle.tsql_binder.specs.declared.refusal.BindRefusal.TheVariants.{At, Memory}
-use Rattle.tsql_binder.specs.Postponed.{is_postponed}
 use Rattle.tsql_binder.specs.Reports.{report_in, is_whole}
-
--- 50001 at the first byte, for a form that comes later
-abbrev pub later : Fault
-later = fault 50001 1
 
 abbrev pub refused : Fault → Bound
 refused f = Refused (Reading f.number f.at)
 
--- the bound form of a statement without a fault; the forms that come later have none yet
+-- the bound form of a statement without a fault: a REORGANIZE closes the open store where its WITH says ON, under any index name
 abbrev pub plan_of : Schema → Statement → Bound
 plan_of schema statements.Begin = Begin
 plan_of schema statements.Commit = Commit
@@ -32,11 +27,11 @@ plan_of schema statements.Rollback = Rollback
 plan_of schema statements.SetSnapshot = Nothing
 plan_of schema (statements.SetStatistics on) = Statistics on
 plan_of schema (statements.SetLockTimeout number) = Nothing
+plan_of schema (statements.AlterIndex index table compress) = Reorganize (unwrap_or compress false)
 plan_of schema (statements.Insert table names source) = Insert (insert_plan schema names source)
 plan_of schema (statements.Update table sets filter) = Update (update_plan schema sets filter)
 plan_of schema (statements.Delete table filter) = Delete (filter_of schema filter)
 plan_of schema (statements.Select items table filter groups order) = Select (query schema items filter groups order)
-plan_of schema other = refused later
 
 abbrev pub unless : Option Fault → Bound → Result Bound Fault
 unless None bound = Ok bound
@@ -52,9 +47,9 @@ abbrev pub bound_but_for : Schema → Statement → Option Bound → Result Boun
 bound_but_for schema statement None = unless (first_fault schema statement) (plan_of schema statement)
 bound_but_for schema statement (Some report) = reported (is_whole statement) report
 
--- the bound form of a statement, or its first fault; a form that comes later is refused before all
+-- the bound form of a statement, or its first fault
 abbrev pub bound_of : Schema → Statement → Result Bound Fault
-bound_of schema statement = if is_postponed statement then Err later else bound_but_for schema statement (report_in statement)
+bound_of schema statement = bound_but_for schema statement (report_in statement)
 
 abbrev pub bound_or : Result Bound Fault → Bound
 bound_or (Ok bound) = bound

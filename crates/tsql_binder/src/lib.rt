@@ -2,12 +2,11 @@
 //!
 //! Its one contract: `bind` gives the bound form of a statement, or the first of all its faults, and `bind_text` what a
 //! text means: that of its statement, or where it is refused as none. A report is bound exactly where all of it is read
-//! (`reports_are_asked_for`); other forms on it, and forms that come later, are refused by 50001 at 1. It stands on
-//! `tsql_reader`, `bind_faults` and `bind_forms`.
+//! (`reports_are_asked_for`); other SELECTs from it are refused by 50001 at 1. It stands on `tsql_reader`, `bind_faults` and
+//! `bind_forms`.
 #![tactic(auto)]
 
 mod laws;
-mod postponed;
 mod refusal;
 mod report;
 mod statement;

@@ -8,7 +8,6 @@ ghost use Rattle.tsql_reader.specs.Statements.{IsNoStatement, RefusesStatement};
 ghost use Rattle.bind_faults.specs.declared.fault.Fault.{Fault};
 ghost use Rattle.tsql_binder.specs.Meaning.{plan_of, bound_of, bound_or, Means, GivesBound};
 
-use crate::postponed::is_postponed;
 use crate::refusal::BindRefusal;
 use crate::report::{is_whole, report_in};
 use bind_faults::{Fault, first_fault};
@@ -20,12 +19,6 @@ use std::alloc::Global;
 use tsql_exprs::ReadRefusal;
 use tsql_reader::read_statement;
 use tsql_trees::Statement;
-
-/// What a form that comes later is refused for.
-const LATER: Fault = Fault {
-    number: 50_001,
-    at: 1,
-};
 
 /// What a SELECT from a report is refused for that is not `SELECT * FROM` it.
 const OTHER_REPORT: Fault = Fault {
@@ -43,6 +36,9 @@ fn plan_of(alloc: Global, schema: &Schema, statement: &Statement) -> Result<Boun
         Statement::Rollback => Ok(Bound::Rollback),
         Statement::SetSnapshot | Statement::SetLockTimeout { .. } => Ok(Bound::Nothing),
         Statement::SetStatistics { on } => Ok(Bound::Statistics(*on)),
+        Statement::AlterIndex { compress, .. } => Ok(Bound::Reorganize {
+            all: compress.unwrap_or(false),
+        }),
         Statement::Insert { names, source, .. } => {
             let plan = insert_plan(alloc, schema, names.as_ref(), source)?;
             Ok(Bound::Insert(Boxed::new(alloc, plan)?))
@@ -72,8 +68,6 @@ fn plan_of(alloc: Global, schema: &Schema, statement: &Statement) -> Result<Boun
             )?;
             Ok(Bound::Select(Boxed::new(alloc, query)?))
         }
-        // The forms that come later.
-        _ => Ok(refused(LATER.number, LATER.at)),
     }
 }
 
@@ -93,17 +87,14 @@ fn refusal_at(fault: Fault) -> BindRefusal
     }
 }
 
-/// The bound form of a statement over a schema. `At` with its first fault: 50001 at 1 for a form that comes later, and for
-/// a SELECT from a report that is not `SELECT * FROM` it; then 208 for a table that is not there; then the leftmost fault,
-/// at one place the one of the least number. `Memory` where there is no room for the bound form.
+/// The bound form of a statement over a schema. `At` with its first fault: 50001 at 1 for a SELECT from a report that is not
+/// `SELECT * FROM` it; then 208 for a table that is not there; then the leftmost fault, at one place the one of the least
+/// number. `Memory` where there is no room for the bound form.
 pub fn bind(alloc: Global, schema: &Schema, statement: &Statement) -> Result<Bound, BindRefusal>
     ensures gives { GivesBound (bound_of schema.now statement.now) result }
     // An UPDATE that is bound sets no key.
     ensures ready { IfOk result (IsReady schema.now) }
 {
-    if is_postponed(statement) {
-        return Err(refusal_at(LATER));
-    }
     if let Some(report) = report_in(statement) {
         return if is_whole(statement) {
             Ok(report)

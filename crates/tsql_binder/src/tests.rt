@@ -14,12 +14,14 @@ enum Meant {
     Query,
     /// STATISTICS IO on or off.
     Setting(bool),
+    /// REORGANIZE, and whether the open store is closed.
+    Reorganize(bool),
     /// The number and the place of a refusal.
     Refused(u32, u32),
     Other,
 }
 
-use Meant::{Groups, Other, Query, Refused, Segments, Setting};
+use Meant::{Groups, Other, Query, Refused, Reorganize, Segments, Setting};
 
 fn bytes(alloc: Global, text: &[u8]) -> Result<Bytes, Memory> {
     let mut bytes = Items::new(alloc);
@@ -50,6 +52,7 @@ fn outcome(bound: &Bound) -> Meant {
         Bound::SegmentReport => Segments,
         Bound::Select(_) => Query,
         Bound::Statistics(on) => Setting(*on),
+        Bound::Reorganize { all } => Reorganize(*all),
         Bound::Refused(Refusal::Reading { number, at }) => Refused(*number, *at),
         _ => Other,
     }
@@ -132,7 +135,7 @@ fn a_report_stands_behind_sys_in_a_select_alone(rt: HostRuntime) -> Result<(), F
         (b"DELETE FROM sys.column_store_segments", Refused(208, 13)),
         (
             b"ALTER INDEX ALL ON sys.column_store_segments REORGANIZE",
-            Refused(50001, 1),
+            Refused(208, 20),
         ),
     ];
     check(&rt, rt.alloc(), &schema, &cases)?;
@@ -142,7 +145,7 @@ fn a_report_stands_behind_sys_in_a_select_alone(rt: HostRuntime) -> Result<(), F
 #[test]
 fn a_table_may_have_the_name_of_a_report(rt: HostRuntime) -> Result<(), Fail> {
     let schema = table(rt.alloc(), b"column_store_segments")?;
-    let cases: [(&[u8], Meant); 5] = [
+    let cases: [(&[u8], Meant); 6] = [
         (b"SELECT * FROM sys.column_store_segments", Segments),
         (
             b"SELECT k FROM sys.column_store_segments",
@@ -151,6 +154,10 @@ fn a_table_may_have_the_name_of_a_report(rt: HostRuntime) -> Result<(), Fail> {
         (b"SELECT k FROM column_store_segments", Query),
         (b"SELECT k FROM dbo.COLUMN_STORE_SEGMENTS", Query),
         (b"DELETE FROM sys.column_store_segments", Other),
+        (
+            b"ALTER INDEX ALL ON sys.column_store_segments REORGANIZE",
+            Reorganize(false),
+        ),
     ];
     check(&rt, rt.alloc(), &schema, &cases)?;
     Ok(())
@@ -164,6 +171,39 @@ fn statistics_io_is_a_setting(rt: HostRuntime) -> Result<(), Fail> {
         (b"set statistics io off", Setting(false)),
         (b"SET STATISTICS TIME ON", Refused(102, 16)),
         (b"SET LOCK_TIMEOUT 0", Other),
+    ];
+    check(&rt, rt.alloc(), &schema, &cases)?;
+    Ok(())
+}
+
+#[test]
+fn a_reorganize_closes_the_open_store_where_it_says_on(rt: HostRuntime) -> Result<(), Fail> {
+    let schema = table(rt.alloc(), b"t")?;
+    let cases: [(&[u8], Meant); 9] = [
+        (b"ALTER INDEX ALL ON t REORGANIZE", Reorganize(false)),
+        (
+            b"ALTER INDEX ALL ON t REORGANIZE WITH (COMPRESS_ALL_ROW_GROUPS = ON)",
+            Reorganize(true),
+        ),
+        (
+            b"ALTER INDEX ALL ON t REORGANIZE WITH (COMPRESS_ALL_ROW_GROUPS = OFF)",
+            Reorganize(false),
+        ),
+        (
+            b"alter index cci on [T] reorganize with ( compress_all_row_groups = on ) ;",
+            Reorganize(true),
+        ),
+        (
+            b"ALTER INDEX [no such index] ON dbo.t REORGANIZE",
+            Reorganize(false),
+        ),
+        (b"ALTER INDEX [ALL] ON sys.t REORGANIZE", Reorganize(false)),
+        (b"ALTER INDEX ALL ON u REORGANIZE", Refused(208, 20)),
+        (
+            b"ALTER INDEX cci ON t.u REORGANIZE WITH (COMPRESS_ALL_ROW_GROUPS = ON)",
+            Refused(208, 20),
+        ),
+        (b"ALTER INDEX ALL ON u REBUILD", Refused(50001, 22)),
     ];
     check(&rt, rt.alloc(), &schema, &cases)?;
     Ok(())
