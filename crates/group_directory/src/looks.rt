@@ -99,6 +99,7 @@ impl Directory {
         requires { IsHeld self.old.list }
         ensures closed { result ≡ lowest (λ group. is_opened group.content) (book_of self.old.list).groups }
         ensures book { book_of self.new.list ≡ after_close (book_of self.old.list) }
+        ensures claims { self.new.list.claims.items ≡ self.old.list.claims.items }
         ensures rest { self.new ≡ record self.old { list = self.new.list } }
         ensures held { IsHeld self.new.list }
         ensures stands { (changes : List Change) → Stands self.old changes → Stands self.new changes }

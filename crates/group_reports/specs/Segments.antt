@@ -2,7 +2,7 @@
 use Rattle.std.specs.Prelude.{◌≡◌, ℕ, List, [], All}
 use Rattle.cs_types.specs.declared.Schema.{Schema}
 use Rattle.cs_model.specs.declared.entry.Reply.{Reply}
-use Rattle.cs_model.specs.declared.entry.Reply.TheVariants.{Done, Affected, Rows, Groups, Segments, Refused}
+use Rattle.cs_model.specs.declared.entry.Reply.TheVariants.{Done, Affected, Rows, Groups, Segments, Left, Refused}
 use Rattle.cs_model.specs.declared.report.SegmentLine.{SegmentLine}
 use Rattle.cs_model.specs.Held.{IsHeld}
 use Rattle.row_group.specs.Rows.{PackedRow}
@@ -18,6 +18,7 @@ IsSegmentReport schema groups (Affected count) = ⊥
 IsSegmentReport schema groups (Rows rows segments) = ⊥
 IsSegmentReport schema groups (Groups lines buffered) = ⊥
 IsSegmentReport schema groups (Segments lines) = AreSegmentLines schema groups lines
+IsSegmentReport schema groups (Left left) = ⊥
 IsSegmentReport schema groups (Refused refusal) = ⊥
 
 -- ---- the groups of a view

@@ -1,5 +1,5 @@
 -- Each Start of a log is what its session's next text means, one entry more.
-use Rattle.std.proofs.Common.{◌≡◌, ℕ, ◌+◌, List, [], ◌∷◌, ◌++◌, length, refl, sym, ap, subst, ◌∙◌, false, arith, append_assoc, length-append}
+use Rattle.std.proofs.Common.{◌≡◌, ℕ, List, [], ◌∷◌, ◌++◌, length, refl, sym, ap, subst, ◌∙◌, false, arith, append_assoc, length-append}
 use Rattle.std.specs.Prelude.{◌==◌, Some, slice_get}
 use Rattle.std.proofs.lemmas.List.{append-nil}
 use Rattle.std.proofs.lemmas.Option.{slice_get_read}
@@ -26,7 +26,7 @@ starts_none session (End k) s h = absurd h
 starts_none session (Mover actor work) s h = absurd h
 
 -- what stands at the seam of two lists
-at_seam : {A : Type 0} (xs : List A) (x : A) (ys : List A) → slice_get (xs ++ x ∷ ys) (length xs) ≡ Some x
+pub at_seam : {A : Type 0} (xs : List A) (x : A) (ys : List A) → slice_get (xs ++ x ∷ ys) (length xs) ≡ Some x
 at_seam xs x ys =
     let all = length-append xs (x ∷ ys) in
     slice_get_read (xs ++ x ∷ ys) (length (xs ++ x ∷ ys)) (length xs) x refl (omega (arith, all)) (sym (get_or-append_seam xs x ys x))

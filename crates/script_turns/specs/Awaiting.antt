@@ -8,9 +8,11 @@ use Rattle.log_laws.specs.Started.{Begun, IsStarted}
 use Rattle.statement_core.specs.declared.started.Started.{Started}
 use Rattle.statement_core.specs.Begun.{Hands, MayWork}
 use Rattle.statement_core.specs.Counted.{HasStartCounts}
+use Rattle.statement_core.specs.Reorganizes.{reorganizes, HasLedger}
 use Rattle.statement_core.specs.Terms.{sizes_of, AreTerms}
 
--- a session has begun a statement, and what was started is handed what its work stands on, with the groups of its Start
+-- a session has begun a statement, and what was started is handed what its work stands on, with the groups of its Start; a
+-- REORGANIZE has done nothing yet
 pub record Awaits (sizes : Sizes) (begin : Begin) (log : List Entry) (session : ℕ) (started : Started) : Type 0 where
   pub terms : AreTerms started.terms.value
   pub sized : sizes_of started.terms.value ≡ sizes
@@ -19,3 +21,4 @@ pub record Awaits (sizes : Sizes) (begin : Begin) (log : List Entry) (session : 
   pub works : MayWork begun
   pub is : IsStarted begin log session begun
   pub counts : HasStartCounts (record { begin = begin; sizes = sizes; book = empty }) log session started
+  pub ledger : HasLedger (record { begin = begin; sizes = sizes; book = empty }) log session (reorganizes started.bound.value) started.ledger

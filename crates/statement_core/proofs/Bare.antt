@@ -76,6 +76,7 @@ bare_accepted schema m s (bound.Delete condition) h = bare_wrote m s (m.txns s) 
 bare_accepted schema m s (bound.Select query) h = bare_wrote m s (m.txns s) [] refl h
 bare_accepted schema m s bound.GroupReport h = h
 bare_accepted schema m s bound.SegmentReport h = h
+bare_accepted schema m s (bound.Reorganize all) h = h
 bare_accepted schema m s (bound.Refused refusal) h = h
 
 bare_replied : (schema : Schema) (m : State) (s : ℕ) (b : Bound) (r : Reply) → BareAt s m → BareAt s (replied schema m s b r)
@@ -84,6 +85,7 @@ bare_replied schema m s b (reply.Affected count) h = bare_accepted schema m s b 
 bare_replied schema m s b (reply.Rows rows segments) h = bare_accepted schema m s b h
 bare_replied schema m s b (reply.Groups lines buffered) h = bare_accepted schema m s b h
 bare_replied schema m s b (reply.Segments lines) h = bare_accepted schema m s b h
+bare_replied schema m s b (reply.Left groups) h = bare_accepted schema m s b h
 bare_replied schema m s b (reply.Refused refusal) h = bare_if s (gone m s) m (ends_txn (m.txns s) refusal) (bare_gone m s) h
 
 bare_opened : (o : Option Txn) (next clock : ℕ) (short : Bool) → IsBare o → IsBare (Some (fixed (txn_opened o next) short clock))

@@ -1,7 +1,6 @@
 -- The counts of segments that a reply tells.
 use Rattle.std.proofs.Common.{◌≡◌, ℕ, List, [], ◌∷◌, ◌++◌, refl, sym, ap, subst, ◌∙◌, inl, inr, ◌⊎◌, Bool, true, false, Option, None, Some, Result, Ok, Err, nat_lt, cond}
-use Rattle.std.specs.Prelude.{IfSome, ◌==◌, ◌&&◌}
-use Rattle.std.specs.Map.{values_of}
+use Rattle.std.specs.Prelude.{IfSome, IsSome, ◌==◌, ◌&&◌}
 use Rattle.cs_types.specs.declared.Schema.{Schema}
 use Rattle.cs_model.specs.declared.entry.Bound.{Bound}
 use Rattle.cs_model.specs.declared.entry.Bound.TheVariants as bound
@@ -17,7 +16,7 @@ use Rattle.cs_model.specs.Answers.{writes}
 use Rattle.cs_model.specs.Changes.{Edit, Table, Change}
 use Rattle.cs_model.specs.Kinds.{is_of_table, is_write}
 use Rattle.cs_model.specs.State.{State, Begin, Half, Txn, seen}
-use Rattle.cs_model.specs.Steps.{IsReply, IsFinish, IsOutOfIds, IsWriteReply, IsWriteReplyOf, IsGroups, IsSegments, begin_reply, done_in}
+use Rattle.cs_model.specs.Steps.{IsReply, IsFinish, IsOutOfIds, IsWriteReply, IsWriteReplyOf, IsGroups, IsSegments, IsLeft, begin_reply, done_in}
 use Rattle.log_laws.specs.Started.{Begun, seen_by}
 use Rattle.group_book.specs.Book.{Book}
 use Rattle.group_book.specs.Commits.{Sizes}
@@ -25,7 +24,6 @@ use Rattle.group_log.specs.Counted.{told_counts, AreCounts, AreCountsAt, IsBegun
 use Rattle.group_log.specs.Followed.{Ground}
 use Rattle.group_log.proofs.Counting.{begun_on}
 use Rattle.group_view.specs.declared.view.Pinned.{Pinned}
-use Rattle.group_view.specs.Scanned.{counts_in}
 use Rattle.statement_core.specs.declared.core_state.CoreState.{CoreState}
 use Rattle.statement_core.specs.declared.started.Outcome.{Outcome}
 use Rattle.statement_core.specs.declared.started.Outcome.TheVariants as outcome
@@ -34,7 +32,9 @@ use Rattle.statement_core.specs.Begun.{Hands}
 use Rattle.statement_core.specs.CoreState.{state_of, settings_of}
 use Rattle.statement_core.specs.Counted.{outcome_counts, condition_of, ArePinnedCounts, AreCountsOf, HasCounts, HasStartCounts}
 use Rattle.statement_core.specs.Outcomes.{needs_none, told, IsDecided, IsValued, GivesOn}
+use Rattle.statement_core.specs.Reorganizes.{reorganizes}
 use Rattle.statement_core.specs.Settled.{IsDoneAt}
+use Rattle.statement_core.proofs.Reorganizes.{is_reorganize}
 
 -- ---- a reply to another statement than a query tells none
 
@@ -64,6 +64,7 @@ write_tells schema m session (Some txn) b r h = at (writes schema (seen m.change
     at (Ok edits) (reply.Rows rows segments) h = absurd h
     at (Ok edits) (reply.Groups lines buffered) h = refl
     at (Ok edits) (reply.Segments lines) h = refl
+    at (Ok edits) (reply.Left groups) h = refl
     at (Ok edits) (reply.Refused refusal) h = refl
 
 groups_tell : (r : Reply) → IsGroups r → told_counts r ≡ None
@@ -72,6 +73,7 @@ groups_tell (reply.Affected count) h = refl
 groups_tell (reply.Rows rows segments) h = absurd h
 groups_tell (reply.Groups lines buffered) h = refl
 groups_tell (reply.Segments lines) h = refl
+groups_tell (reply.Left groups) h = refl
 groups_tell (reply.Refused refusal) h = refl
 
 segments_tell : (r : Reply) → IsSegments r → told_counts r ≡ None
@@ -80,7 +82,17 @@ segments_tell (reply.Affected count) h = refl
 segments_tell (reply.Rows rows segments) h = absurd h
 segments_tell (reply.Groups lines buffered) h = refl
 segments_tell (reply.Segments lines) h = refl
+segments_tell (reply.Left groups) h = refl
 segments_tell (reply.Refused refusal) h = refl
+
+left_tells : (r : Reply) → IsLeft r → told_counts r ≡ None
+left_tells reply.Done h = refl
+left_tells (reply.Affected count) h = refl
+left_tells (reply.Rows rows segments) h = absurd h
+left_tells (reply.Groups lines buffered) h = refl
+left_tells (reply.Segments lines) h = refl
+left_tells (reply.Left groups) h = refl
+left_tells (reply.Refused refusal) h = refl
 
 reply_tells : (schema : Schema) (m : State) (session : ℕ) (b : Bound) (r : Reply) → IsNoQuery b → IsReply schema m session b r → told_counts r ≡ None
 reply_tells schema m session bound.Begin r not h = ap told_counts h ∙ begin_tells (m.txns session)
@@ -94,6 +106,7 @@ reply_tells schema m session (bound.Delete condition) r not h = write_tells sche
 reply_tells schema m session (bound.Select query) r not h = absurd (not query refl)
 reply_tells schema m session bound.GroupReport r not h = groups_tell r h
 reply_tells schema m session bound.SegmentReport r not h = segments_tell r h
+reply_tells schema m session (bound.Reorganize all) r not h = left_tells r h
 reply_tells schema m session (bound.Refused refusal) r not h = ap told_counts h
 
 no_query : {A : Type 0} (f : Bound → A) (value : A) (b : Bound) → f b ≡ value → ((query : Query) → f (bound.Select query) ≡ value → ⊥) → IsNoQuery b
@@ -108,6 +121,9 @@ write_asks b is = no_query is_write true b is (λ query e. cc e)
 commit_asks : (b : Bound) → b ≡ bound.Commit → IsNoQuery b
 commit_asks b is = λ query e. cc (is, e)
 
+reorganize_asks : (b : Bound) → IsSome (reorganizes b) → IsNoQuery b
+reorganize_asks b some = let is = is_reorganize b some in λ query e. cc (is.1, e)
+
 -- ---- a Finish
 
 -- what a session is told of counts are those that were given
@@ -118,6 +134,7 @@ told_kept P true (reply.Rows rows segments) h = h
 told_kept P false (reply.Rows rows segments) h = tt
 told_kept P on (reply.Groups lines buffered) h = tt
 told_kept P on (reply.Segments lines) h = tt
+told_kept P on (reply.Left groups) h = tt
 told_kept P on (reply.Refused refusal) h = tt
 
 module _ (begin : Begin) (changes : List Change) (old : CoreState) (session : ℕ) (half : Half) (r : Reply) (P : ℕ × ℕ → Type 0) where
@@ -136,6 +153,8 @@ module _ (begin : Begin) (changes : List Change) (old : CoreState) (session : �
     tells_at (outcome.Writes writes present affected parcel) e x h =
         let g = x.gives in tells_none (reply_tells begin.schema (state_of changes old) session half.bound r (write_asks half.bound (ap is_write (sym x.bound) ∙ g.1)) h)
     tells_at (outcome.Commit parcel) e x h = let g = x.gives in tells_none (reply_tells begin.schema (state_of changes old) session half.bound r (commit_asks half.bound (sym x.bound ∙ g.0)) h)
+    tells_at (outcome.Left groups) e x h =
+        tells_none (reply_tells begin.schema (state_of changes old) session half.bound r (reorganize_asks half.bound (subst (λ (y : Bound). IsSome (reorganizes y)) x.bound x.gives)) h)
     tells_at outcome.Short e x h = refusal_tells Memory (short e)
 
     pub tells_after : (after : State) → IsFinish begin.schema (state_of changes old) session (Some half) r after → IfSome (told_counts r) P
@@ -168,6 +187,7 @@ asked schema (bound.Delete condition) t r counts h e = absurd (cc (valued_tells 
 asked schema (bound.Select query) t r counts h e = (query, refl)
 asked schema bound.GroupReport t r counts h e = absurd h
 asked schema bound.SegmentReport t r counts h e = absurd h
+asked schema (bound.Reorganize all) t r counts h e = absurd h
 asked schema (bound.Refused refusal) t r counts h e = absurd h
 
 -- an outcome of another statement tells none
@@ -180,6 +200,7 @@ others_tell sizes begun (outcome.Answer r) g not P = at (told_counts r) refl
     at (Some counts) e = let is = asked begun.schema begun.bound (seen_by begun) r counts g.1 e in absurd (not is.0 is.1)
 others_tell sizes begun (outcome.Writes list present affected parcel) g not P = tt
 others_tell sizes begun (outcome.Commit parcel) g not P = tt
+others_tell sizes begun (outcome.Left groups) g not P = tt
 others_tell sizes begun outcome.Short g not P = tt
 
 -- counts over what is pinned are those of the groups at the Start
@@ -212,6 +233,7 @@ module _ (origin : Ground) (log : List Entry) (session : ℕ) (started : Started
   start_counts (outcome.Answer r) g of = answer_counts r g (told_counts r) refl of
   start_counts (outcome.Writes list present affected parcel) g of = tt
   start_counts (outcome.Commit parcel) g of = tt
+  start_counts (outcome.Left groups) g of = tt
   start_counts outcome.Short g of = tt
 
 -- what was started has them while others make entries

@@ -64,6 +64,7 @@ told_answer true (Ok rows) (reply.Rows list segments) h = h
 told_answer false (Ok rows) (reply.Rows list segments) h = (h.0, refl)
 told_answer on (Ok rows) (reply.Groups lines buffered) h = absurd h
 told_answer on (Ok rows) (reply.Segments lines) h = absurd h
+told_answer on (Ok rows) (reply.Left groups) h = absurd h
 told_answer on (Ok rows) (reply.Refused refusal) h = absurd h
 
 module _ (schema : Schema) (m : State) (session : ℕ) where
@@ -89,6 +90,7 @@ module _ (schema : Schema) (m : State) (session : ℕ) where
   decided_reply (bound.Select query) r p h = answer_in (m.txns session) m.clock r query (p refl) h
   decided_reply bound.GroupReport r p h = absurd h
   decided_reply bound.SegmentReport r p h = absurd h
+  decided_reply (bound.Reorganize all) r p h = absurd h
   decided_reply (bound.Refused refusal) r p h = absurd h
 
   valued_same : (w : Result (List Edit) Refusal) (b : Bound) (r : Reply) → IsValued w r → wrote_or m session [] r ≡ replied schema m session b r
@@ -101,6 +103,7 @@ module _ (schema : Schema) (m : State) (session : ℕ) where
   select_same query (reply.Rows rows segments) = refl
   select_same query (reply.Groups lines buffered) = refl
   select_same query (reply.Segments lines) = refl
+  select_same query (reply.Left groups) = refl
   select_same query (reply.Refused refusal) = refl
 
   -- counts make no state another
@@ -110,6 +113,7 @@ module _ (schema : Schema) (m : State) (session : ℕ) where
   told_state b on (reply.Rows rows segments) = refl
   told_state b on (reply.Groups lines buffered) = refl
   told_state b on (reply.Segments lines) = refl
+  told_state b on (reply.Left groups) = refl
   told_state b on (reply.Refused refusal) = refl
 
   pub decided_state : (b : Bound) (t : Table) (r : Reply) → IsDecided schema b t r → wrote_or m session [] r ≡ replied schema m session b r
@@ -124,6 +128,7 @@ module _ (schema : Schema) (m : State) (session : ℕ) where
   decided_state (bound.Select query) t r h = select_same query r
   decided_state bound.GroupReport t r h = absurd h
   decided_state bound.SegmentReport t r h = absurd h
+  decided_state (bound.Reorganize all) t r h = absurd h
   decided_state (bound.Refused refusal) t r h = absurd h
 
   -- what is decided of a write is a refusal, and of another statement it writes nothing
@@ -143,6 +148,7 @@ module _ (schema : Schema) (m : State) (session : ℕ) where
   decided_refused (bound.Select query) t r w h = absurd (cc w)
   decided_refused bound.GroupReport t r w h = absurd h
   decided_refused bound.SegmentReport t r w h = absurd h
+  decided_refused (bound.Reorganize all) t r w h = absurd h
   decided_refused (bound.Refused refusal) t r w h = absurd h
 
 -- ---- a write
@@ -153,6 +159,7 @@ kind_of_table kind.Insert e = refl
 kind_of_table kind.Change e = refl
 kind_of_table kind.Query e = absurd (cc e)
 kind_of_table kind.Report e = absurd (cc e)
+kind_of_table kind.Reorganize e = absurd (cc e)
 kind_of_table kind.Refused e = absurd (cc e)
 
 pub write_of_table : (b : Bound) → is_write b ≡ true → is_of_table b ≡ true
@@ -171,6 +178,7 @@ write_reply schema m session (bound.Delete condition) r w h = h
 write_reply schema m session (bound.Select query) r w h = absurd (cc w)
 write_reply schema m session bound.GroupReport r w h = absurd (cc w)
 write_reply schema m session bound.SegmentReport r w h = absurd (cc w)
+write_reply schema m session (bound.Reorganize all) r w h = absurd (cc w)
 write_reply schema m session (bound.Refused refusal) r w h = absurd (cc w)
 
 pub write_accepted : (schema : Schema) (m : State) (session : ℕ) (b : Bound) → is_write b ≡ true → accepted schema m session b ≡ wrote m session (m.txns session) (writes_in schema m.changes (m.txns session) b)
@@ -185,6 +193,7 @@ write_accepted schema m session (bound.Delete condition) w = refl
 write_accepted schema m session (bound.Select query) w = absurd (cc w)
 write_accepted schema m session bound.GroupReport w = absurd (cc w)
 write_accepted schema m session bound.SegmentReport w = absurd (cc w)
+write_accepted schema m session (bound.Reorganize all) w = absurd (cc w)
 write_accepted schema m session (bound.Refused refusal) w = absurd (cc w)
 
 -- another statement writes nothing
@@ -201,4 +210,5 @@ no_writes schema changes (Some txn) (bound.Delete condition) w = absurd (cc w)
 no_writes schema changes (Some txn) (bound.Select query) w = refl
 no_writes schema changes (Some txn) bound.GroupReport w = refl
 no_writes schema changes (Some txn) bound.SegmentReport w = refl
+no_writes schema changes (Some txn) (bound.Reorganize all) w = refl
 no_writes schema changes (Some txn) (bound.Refused refusal) w = refl

@@ -103,6 +103,7 @@ kept_apart schema t (bound.Delete condition) edits up not is =
 kept_apart schema t (bound.Select query) edits up not is = let same : [] ≡ edits = cc is in subst Apart same tt
 kept_apart schema t bound.GroupReport edits up not is = let same : [] ≡ edits = cc is in subst Apart same tt
 kept_apart schema t bound.SegmentReport edits up not is = let same : [] ≡ edits = cc is in subst Apart same tt
+kept_apart schema t (bound.Reorganize all) edits up not is = let same : [] ≡ edits = cc is in subst Apart same tt
 kept_apart schema t (bound.Refused refusal) edits up not is = let same : [] ≡ edits = cc is in subst Apart same tt
 
 -- an INSERT does, where no key is present

@@ -34,6 +34,7 @@ module _ (schema : Schema) (sizes : Sizes) (m : State) (book : Book) (session : 
   wants_accepts (reply.Rows rows segments) lt = refl
   wants_accepts (reply.Groups lines buffered) lt = refl
   wants_accepts (reply.Segments lines) lt = refl
+  wants_accepts (reply.Left groups) lt = refl
   wants_accepts (reply.Refused refusal) lt = absurd (not_above m.clock (refused m session refusal).clock (refused_clock m session refusal) lt)
 
   -- of the defined reply, or of want of memory
@@ -100,6 +101,7 @@ reply_rested schema m session (bound.Delete condition) r h = h
 reply_rested schema m session (bound.Select query) r h = h
 reply_rested schema m session bound.GroupReport r h = h
 reply_rested schema m session bound.SegmentReport r h = h
+reply_rested schema m session (bound.Reorganize all) r h = h
 reply_rested schema m session (bound.Refused refusal) r h = h
 
 rested_reply : (schema : Schema) (m : State) (session : ℕ) (b : Bound) (r : Reply) → IsReply schema m session b r → IsReply schema (rested m session) session b r
@@ -114,6 +116,7 @@ rested_reply schema m session (bound.Delete condition) r h = h
 rested_reply schema m session (bound.Select query) r h = h
 rested_reply schema m session bound.GroupReport r h = h
 rested_reply schema m session bound.SegmentReport r h = h
+rested_reply schema m session (bound.Reorganize all) r h = h
 rested_reply schema m session (bound.Refused refusal) r h = h
 
 module _ (begin : Begin) (changes : List Change) (old mid new : CoreState) (session : ℕ) (half : Half) (r : Reply) (is : (state_of changes old).half session ≡ Some half)
@@ -168,10 +171,11 @@ module _ (begin : Begin) (changes : List Change) (old mid new : CoreState) (sess
     later = leaves.later;
     stands = leaves.stands;
     step = subst (λ (h : Option Half). IsFinish begin.schema (state_of changes old) session h r (state_of leaves.later new)) (sym is) (replies, after_is);
-    moves = λ book. record {
+    moves = λ book free. record {
       commits = moved;
       full = subst (λ (h : Option Half). IsFull (record { begin = begin; sizes = sizes_of old.directory; book = book }) (state_of changes old) (groups_of old) session h r) (sym is) (full book);
       shows = let s = said in s.shows;
+      free = free;
     };
     claims = leaves.claims ∙ same.claims;
     sizes = leaves.sizes ∙ same.sizes;

@@ -1,5 +1,6 @@
 -- The Finish of a COMMIT, and of a statement with its outcome.
 use Rattle.std.proofs.Common.{◌≡◌, ◌≢◌, ◌<◌, ◌≤◌, ◌+◌, ◌++◌, ℕ, List, [], ◌∷◌, refl, sym, ap, subst, ◌∙◌, cond, inl, inr, arith, Bool, true, false, Option, None, Some}
+use Rattle.std.specs.Prelude.{IsSome}
 use Rattle.cs_types.specs.declared.Schema.{Schema}
 use Rattle.cs_model.specs.declared.entry.Bound.{Bound}
 use Rattle.cs_model.specs.declared.entry.Bound.TheVariants as bound
@@ -31,10 +32,12 @@ use Rattle.statement_core.specs.declared.started.Outcome.TheVariants as outcome
 use Rattle.statement_core.specs.CoreState.{settings_of, state_of, groups_of, IsSame, IsBare}
 use Rattle.statement_core.specs.Leaves.{commits_txn, committed_in, Leaves}
 use Rattle.statement_core.specs.Outcomes.{needs_none, IsDecided, GivesOn, told}
+use Rattle.statement_core.specs.Reorganizes.{reorganizes}
 use Rattle.statement_core.specs.Settled.{wrote_or, Ends, Holds, IsDoneAt, IsReadyAt, IsWritingAt, CommitGives}
 use Rattle.statement_core.proofs.Committed.{added}
 use Rattle.statement_core.proofs.Decided.{seen_in, begun_seen, begun_pinned, decided_reply, decided_state, told_state}
 use Rattle.statement_core.proofs.Ending.{said_plain, said_full, ends_settled, ends_short}
+use Rattle.statement_core.proofs.Reorganizes.{is_reorganize, table_other}
 use Rattle.statement_core.proofs.States.{own_model, unwound_commits}
 use Rattle.statement_core.proofs.Stills.{same_leaves}
 
@@ -56,6 +59,7 @@ none_of_table (bound.Delete condition) e = absurd (cc e)
 none_of_table (bound.Select query) e = absurd (cc e)
 none_of_table bound.GroupReport e = refl
 none_of_table bound.SegmentReport e = refl
+none_of_table (bound.Reorganize all) e = refl
 none_of_table (bound.Refused refusal) e = refl
 
 -- what is decided is the reply to a statement of the table
@@ -71,6 +75,7 @@ decided_table schema (bound.Delete condition) t r h = refl
 decided_table schema (bound.Select query) t r h = refl
 decided_table schema bound.GroupReport t r h = absurd h
 decided_table schema bound.SegmentReport t r h = absurd h
+decided_table schema (bound.Reorganize all) t r h = absurd h
 decided_table schema (bound.Refused refusal) t r h = absurd h
 
 -- ---- a COMMIT
@@ -130,6 +135,7 @@ told_prints schema on (reply.Affected count) p = p
 told_prints schema on (reply.Rows rows segments) p = p
 told_prints schema on (reply.Groups lines buffered) p = p
 told_prints schema on (reply.Segments lines) p = p
+told_prints schema on (reply.Left groups) p = p
 told_prints schema on (reply.Refused refusal) p = p
 
 module _ (begin : Begin) (changes : List Change) (held : CoreState) (session : ℕ) (b : Bound) (short : Bool) where
@@ -145,6 +151,20 @@ module _ (begin : Begin) (changes : List Change) (held : CoreState) (session : �
 
   pub is_commit : (parcel : Parcel) → IsDoneAt begin changes held session b short (outcome.Commit parcel) → b ≡ bound.Commit
   is_commit parcel d = let g = d.gives in sym d.bound ∙ g.0
+
+  pub over_of : IsDoneAt begin changes held session b short outcome.Nothing → reorganizes b ≡ None
+  over_of d = ap reorganizes (sym d.bound) ∙ d.over
+
+  pub left_of : (groups : _) → IsDoneAt begin changes held session b short (outcome.Left groups) → (all : Bool) × (b ≡ bound.Reorganize all)
+  left_of groups d = is_reorganize b (subst (λ (x : Bound). IsSome (reorganizes x)) d.bound d.gives)
+
+  -- what was left is told, and nothing else changes
+  pub left_ends : (groups : _) (d : IsDoneAt begin changes held session b short (outcome.Left groups)) → Ends begin.schema changes held session b short (reply.Left groups) held
+  left_ends groups d =
+      let is = left_of groups d in
+      subst (λ (x : Bound). Ends begin.schema changes held session x short (reply.Left groups) held) (sym is.1)
+      (ends_settled begin.schema changes held held session (bound.Reorganize is.0) short (reply.Left groups) d.stands (record { claims = refl; groups = refl; sizes = refl; schema = refl; clock = refl })
+      (never_short b short d.why (ap is_of_table is.1)) (λ k. tt) (record { reply = inr tt; state = refl }))
 
   pub with_outcome : (o x : Outcome) → o ≡ x → IsDoneAt begin changes held session b short o → IsDoneAt begin changes held session b short x
   with_outcome o x e d = subst (IsDoneAt begin changes held session b short) e d
@@ -170,6 +190,9 @@ module _ (begin : Begin) (changes : List Change) (held : CoreState) (session : �
         subst (λ (s : Schema). IsDecided s b (seen_in changes ((state_of changes held).txns session)) given) holds.schema
         (subst (λ (x : Bound). IsDecided d.begun.schema x (seen_in changes ((state_of changes held).txns session)) given) d.bound
         (subst (λ (t : Table). IsDecided d.begun.schema d.begun.bound t given) seen_is g.1))
+
+    pub answer_other : reorganizes b ≡ None
+    answer_other = table_other b (ap is_of_table (sym d.bound) ∙ on_table)
 
     pub found_answer : short ≡ false
     found_answer = let g = d.gives in sym d.short_is ∙ g.0
@@ -234,4 +257,5 @@ done_of begin changes old mid session half o is rest d =
         sees = λ t n. let s = holds.sees t n in record { snapshot = s.snapshot; taken = s.taken; changes = s.changes };
       });
       gives = subst (λ (x : Directory). GivesOn (sizes_of x) d.begun o) (sym rest) d.gives;
+      over = d.over;
     }

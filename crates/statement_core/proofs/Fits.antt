@@ -1,5 +1,6 @@
 -- After a Finish all fits the table, and its reply can be printed.
 use Rattle.std.proofs.Common.{◌≡◌, ℕ, List, [], ◌∷◌, refl, sym, ap, subst, ◌∙◌, inl, inr, ◌⊎◌, Bool, true, false, All, Option, None, Some}
+use Rattle.std.specs.Prelude.{IsSome}
 use Rattle.std.proofs.lemmas.List.Elements.{All-nil, All-cons, All-head, All-tail}
 use Rattle.cs_types.specs.declared.Schema.{Schema}
 use Rattle.cs_model.specs.declared.entry.Bound.{Bound}
@@ -25,10 +26,12 @@ use Rattle.statement_core.specs.declared.started.Outcome.TheVariants as outcome
 use Rattle.statement_core.specs.CoreState.{settings_of, state_of}
 use Rattle.statement_core.specs.Fit.{IsFitting, IsFitState}
 use Rattle.statement_core.specs.Outcomes.{needs_none, told}
+use Rattle.statement_core.specs.Reorganizes.{reorganizes}
 use Rattle.statement_core.specs.Settled.{IsDoneAt}
 use Rattle.statement_core.proofs.Decided.{no_writes, decided_refused}
 use Rattle.statement_core.proofs.Finishing.{none_of_table, writing_of, decided, answered_prints}
 use Rattle.statement_core.proofs.Fitting.{fit_half, fit_replied, refused_prints, plain_prints, judged_prints}
+use Rattle.statement_core.proofs.Reorganizes.{reorganize_writes, reorganize_of_table}
 use Rattle.statement_core.proofs.Written.{txn, has, defined}
 
 both_fit : (schema : Schema) (edits : List Edit) → All (IsFit schema) edits → All (IsWhole schema) edits → All (IsFitting schema) edits
@@ -48,6 +51,7 @@ none_writes (bound.Delete condition) e = absurd (cc e)
 none_writes (bound.Select query) e = absurd (cc e)
 none_writes bound.GroupReport e = refl
 none_writes bound.SegmentReport e = refl
+none_writes (bound.Reorganize all) e = refl
 none_writes (bound.Refused refusal) e = refl
 
 -- the reply to a write, by what its transaction sees
@@ -63,6 +67,7 @@ reply_write schema m session (bound.Delete condition) r w h = h
 reply_write schema m session (bound.Select query) r w h = absurd (cc w)
 reply_write schema m session bound.GroupReport r w h = absurd (cc w)
 reply_write schema m session bound.SegmentReport r w h = absurd (cc w)
+reply_write schema m session (bound.Reorganize all) r w h = absurd (cc w)
 reply_write schema m session (bound.Refused refusal) r w h = absurd (cc w)
 
 written_prints : (schema : Schema) (m : State) (session : ℕ) (snapshot : Option ℕ) (t : _) (b : Bound) (edits : List Edit) (r : Reply) → All (IsFit schema) edits
@@ -72,6 +77,7 @@ written_prints schema m session snapshot t b edits (reply.Affected count) fit h 
 written_prints schema m session snapshot t b edits (reply.Rows rows segments) fit h = absurd h
 written_prints schema m session snapshot t b edits (reply.Groups lines buffered) fit h = absurd h
 written_prints schema m session snapshot t b edits (reply.Segments lines) fit h = absurd h
+written_prints schema m session snapshot t b edits (reply.Left groups) fit h = absurd h
 written_prints schema m session snapshot t b edits (reply.Refused refusal) fit h = judged_prints schema m session snapshot (is_present b edits t) edits refusal fit h
 
 module _ (begin : Begin) (changes : List Change) (old : CoreState) (session : ℕ) (half : Half) (r : Reply) (is : (state_of changes old).half session ≡ Some half) where
@@ -115,6 +121,7 @@ module _ (begin : Begin) (changes : List Change) (old : CoreState) (session : �
     fits_at (outcome.Writes writes present affected parcel) e x =
         inr (subst (All (IsFitting begin.schema)) (sym (written_are writes present affected parcel x)) (both_fit begin.schema _ (edits_fit writes present affected parcel x) (edits_whole writes present affected parcel x)))
     fits_at (outcome.Commit parcel) e x = no_edits (let g = x.gives in ap is_write (sym x.bound ∙ g.0))
+    fits_at (outcome.Left groups) e x = no_edits (reorganize_writes half.bound (subst (λ (y : Bound). IsSome (reorganizes y)) x.bound x.gives))
     fits_at outcome.Short e x = inl (Memory, short e)
 
     plain_at : IsReady begin.schema half.bound → (half.bound ≡ bound.SegmentReport → IsPrintableReply begin.schema r) → is_of_table half.bound ≡ false → IsReply begin.schema (state_of changes old) session half.bound r → IsPrintableReply begin.schema r
@@ -126,6 +133,7 @@ module _ (begin : Begin) (changes : List Change) (old : CoreState) (session : �
     prints_at ready segments (outcome.Answer g) e x h = subst (IsPrintableReply begin.schema) (sym (given g e)) (answered_prints begin changes old session half.bound half.short g x)
     prints_at ready segments (outcome.Writes writes present affected parcel) e x h = write_prints writes present affected parcel x h
     prints_at ready segments (outcome.Commit parcel) e x h = plain_at ready segments (let g = x.gives in ap is_of_table (sym x.bound ∙ g.0)) h
+    prints_at ready segments (outcome.Left groups) e x h = plain_at ready segments (reorganize_of_table half.bound (subst (λ (y : Bound). IsSome (reorganizes y)) x.bound x.gives)) h
     prints_at ready segments outcome.Short e x h = refused_prints begin.schema r Memory (short e) tt
 
     -- ---- the law

@@ -22,7 +22,7 @@ use Rattle.cs_types.proofs.KeyLemmas.{exact_key}
 use Rattle.cs_model.specs.State.{State, Txn, Half, with, txn_set, half_set}
 use Rattle.cs_model.specs.Kinds.{is_of_table}
 use Rattle.cs_model.specs.Obstacles.{keys_of, IsObstacle, IsJudged}
-use Rattle.cs_model.specs.Steps.{IsReply, IsGroups, began, unwound, settled, commits, wrote, writes_in, gone, refused, replied, accepted, ends_txn, staged, is_empty, numbered, begin_reply, done_in, pinned, started, txn_opened}
+use Rattle.cs_model.specs.Steps.{IsReply, IsGroups, IsLeft, began, unwound, settled, commits, wrote, writes_in, gone, refused, replied, accepted, ends_txn, staged, is_empty, numbered, begin_reply, done_in, pinned, started, txn_opened}
 use Rattle.cs_model.specs.Text.{IsPrintableKey, IsPrintableRefusal, IsPrintableReply}
 use Rattle.statement_core.specs.Fit.{IsFitting, AreFitting, IsFitTxn, IsReadyHalf, IsFitState}
 
@@ -116,6 +116,7 @@ module _ (schema : Schema) where
   fit_accepted m i (bound.Select query) fit e = fit_wrote m i (m.txns i) [] fit (fit.txns i) (All-nil (IsFitting schema))
   fit_accepted m i bound.GroupReport fit e = fit
   fit_accepted m i bound.SegmentReport fit e = fit
+  fit_accepted m i (bound.Reorganize all) fit e = fit
   fit_accepted m i (bound.Refused refusal) fit e = fit
 
   -- what the statement writes fits the table, where it is not refused
@@ -126,6 +127,7 @@ module _ (schema : Schema) where
   fit_replied m i b (reply.Rows rows segments) fit (inr e) = fit_accepted m i b fit e
   fit_replied m i b (reply.Groups lines buffered) fit (inr e) = fit_accepted m i b fit e
   fit_replied m i b (reply.Segments lines) fit (inr e) = fit_accepted m i b fit e
+  fit_replied m i b (reply.Left groups) fit (inr e) = fit_accepted m i b fit e
   fit_replied m i b (reply.Refused refusal) fit (inr e) = fit_refused m i refusal fit
 
   -- ---- replies
@@ -160,7 +162,17 @@ module _ (schema : Schema) where
   groups_print (reply.Rows rows segments) h = absurd h
   groups_print (reply.Groups lines buffered) h = tt
   groups_print (reply.Segments lines) h = absurd h
+  groups_print (reply.Left groups) h = absurd h
   groups_print (reply.Refused refusal) h = absurd h
+
+  left_print : (r : Reply) → IsLeft r → IsPrintableReply schema r
+  left_print reply.Done h = tt
+  left_print (reply.Affected count) h = tt
+  left_print (reply.Rows rows segments) h = absurd h
+  left_print (reply.Groups lines buffered) h = tt
+  left_print (reply.Segments lines) h = absurd h
+  left_print (reply.Left groups) h = tt
+  left_print (reply.Refused refusal) h = absurd h
 
   -- the reply to a statement that is none of the table, where a report on segments prints
   pub plain_prints : (m : State) (i : ℕ) (b : Bound) (r : Reply) → is_of_table b ≡ false → IsReady schema b → (b ≡ bound.SegmentReport → IsPrintableReply schema r) → IsReply schema m i b r → IsPrintableReply schema r
@@ -175,6 +187,7 @@ module _ (schema : Schema) where
   plain_prints m i (bound.Select query) r e p k h = absurd (cc e)
   plain_prints m i bound.GroupReport r e p k h = groups_print r h
   plain_prints m i bound.SegmentReport r e p k h = k refl
+  plain_prints m i (bound.Reorganize all) r e p k h = left_print r h
   plain_prints m i (bound.Refused refusal) r e p k h = refused_prints r refusal h (reading_prints refusal p)
 
   keys_fit : (edits : List Edit) → All (IsFit schema) edits → All (IsPrintableKey schema) (keys_of edits)

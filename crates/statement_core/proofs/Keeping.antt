@@ -1,5 +1,5 @@
 -- An event keeps what the core's type keeps.
-use Rattle.std.proofs.Common.{◌≡◌, ℕ, ◌+◌, ◌^◌, ◌<◌, ◌≤◌, List, [], ◌∷◌, ◌++◌, map, length, refl, sym, ap, subst, ◌∙◌, arith, All, Contains, None, Some, true, false}
+use Rattle.std.proofs.Common.{◌≡◌, ℕ, ◌+◌, ◌^◌, ◌<◌, ◌≤◌, List, [], ◌∷◌, ◌++◌, map, length, refl, sym, ap, subst, ◌∙◌, arith, All, Contains, None, Some, true}
 use Rattle.std.specs.declared.alloc.Global.{Global}
 use Rattle.std.specs.declared.sync.Arc.{Arc}
 use Rattle.std.proofs.lemmas.List.{length-append}
@@ -23,8 +23,10 @@ use Rattle.group_book.specs.Commits.{Sizes}
 use Rattle.group_view.specs.Books.{claim_of}
 use Rattle.group_log.specs.Counted.{IsCountedEntry}
 use Rattle.group_log.specs.Followed.{ground_of, Followed, IsBookStep}
+use Rattle.group_log.specs.Reorganizing.{IsReorganizedEntry}
 use Rattle.group_log.proofs.Counting.{counted_on}
 use Rattle.group_log.proofs.Follow.{follows_leads, followed_on}
+use Rattle.group_log.proofs.Reorganizing.{reorganized_on}
 use Rattle.group_directory.specs.Obstacles.{txn_in}
 use Rattle.group_directory.specs.Stands.{Stands}
 use Rattle.statement_core.specs.declared.core_state.CoreState.{CoreState}
@@ -76,6 +78,7 @@ module _ (made : Terms) (held : CoreState) (log : List Entry) (cap : ℕ) (sessi
         why = why_of s (record { bound = d.begun.bound; short = d.begun.short }) shows.half;
         shows = shows;
         gives = subst (λ (sizes : Sizes). GivesOn sizes d.begun o) (sym i.sizes) d.gives;
+        over = d.over;
       }
 
 -- ---- one entry more
@@ -83,8 +86,9 @@ module _ (made : Terms) (held : CoreState) (log : List Entry) (cap : ℕ) (sessi
 pub core_push : (made : Terms) (held after : CoreState) (log : List Entry) (cap new : ℕ) (sessions : List ℕ) (e : Entry) → (i : IsCore made held log cap sessions) → (later : List Change) → Stands after.directory later
     → after.directory.sizes ≡ held.directory.sizes → after.directory.schema ≡ held.directory.schema → IsStep (begin_of made.schema.value) (state_of i.changes held) e (state_of later after)
     → IsBookStep (ground_of made.schema.value (sizes_of made)) (state_of i.changes held) (groups_of held) e (state_of later after) (groups_of after)
-    → IsFitState made.schema.value (state_of later after) → IsPrintableEntry made.schema.value e → IsCountedEntry (ground_of made.schema.value (sizes_of made)) log e → length log + 1 + owed (log ++ e ∷ []) sessions + length (claims_of after) ≤ new → IsCore made after (log ++ e ∷ []) new sessions
-core_push made held after log cap new sessions e i later stands sizes schema step moves fit prints counts len = record {
+    → IsFitState made.schema.value (state_of later after) → IsPrintableEntry made.schema.value e → IsCountedEntry (ground_of made.schema.value (sizes_of made)) log e
+    → IsReorganizedEntry (ground_of made.schema.value (sizes_of made)) log e → length log + 1 + owed (log ++ e ∷ []) sessions + length (claims_of after) ≤ new → IsCore made after (log ++ e ∷ []) new sessions
+core_push made held after log cap new sessions e i later stands sizes schema step moves fit prints counts works len = record {
   terms = i.terms;
   table = i.table;
   schema = ap (λ (s : Arc Schema Global). s.value) schema ∙ i.schema;
@@ -100,6 +104,7 @@ core_push made held after log cap new sessions e i later stands sizes schema ste
   distinct = i.distinct;
   printable = All-push (IsPrintableEntry made.schema.value) log e i.printable prints;
   counted = counted_on (ground_of made.schema.value (sizes_of made)) log e i.counted counts;
+  reorganized = reorganized_on (ground_of made.schema.value (sizes_of made)) log e i.reorganized works;
 }
 
 -- the groups have moved without an entry
@@ -121,6 +126,7 @@ core_same made held after log cap new sessions i stands sizes schema state group
   distinct = i.distinct;
   printable = i.printable;
   counted = i.counted;
+  reorganized = i.reorganized;
 }
 
 -- ---- a new core
@@ -162,4 +168,5 @@ core_new schema most least held made cap sessions n table terms halves settings 
       distinct = distinct;
       printable = All-nil (IsPrintableEntry made.schema.value);
       counted = tt;
+      reorganized = tt;
     }

@@ -3,6 +3,7 @@ pub mod Going
 pub mod States
 pub mod Stills
 pub mod Committed
+pub mod Reorganizes
 pub mod Replies
 pub mod Reports
 pub mod Keyed
@@ -15,9 +16,12 @@ pub mod Written
 pub mod Bare
 pub mod Keeping
 pub mod Taking
+pub mod Leaving
 pub mod Finishing
 pub mod Fits
 pub mod Counting
+pub mod Holding
 pub mod Working
 pub mod Mending
+pub mod Closing
 pub mod Turns

@@ -16,7 +16,7 @@ use Rattle.cs_model.specs.Changes.{Edit, Change}
 use Rattle.cs_model.specs.Kinds.{kind_of}
 use Rattle.cs_model.specs.Queries.{answer}
 use Rattle.cs_model.specs.State.{Txn, State, seen}
-use Rattle.cs_model.specs.Steps.{IsReply, IsWriteReply, IsWriteReplyOf, IsAnswer, IsAnswerIn, began, gone, ends_txn, refused, replied, begin_reply, done_in}
+use Rattle.cs_model.specs.Steps.{IsReply, IsWriteReply, IsWriteReplyOf, IsAnswer, IsAnswerIn, IsLeft, began, gone, ends_txn, refused, replied, begin_reply, done_in}
 use Rattle.group_book.specs.Book.{Book}
 use Rattle.group_log.specs.Followed.{ShowsBook}
 use Rattle.statement_core.specs.Settled.{WantsIds}
@@ -50,6 +50,7 @@ module _ (now : Schema) (changes : List Change) (book : Book) where
       at (Ok edits) (reply.Rows rows segments) h = tt
       at (Ok edits) (reply.Groups lines buffered) h = absurd h
       at (Ok edits) (reply.Segments lines) h = absurd h
+      at (Ok edits) (reply.Left groups) h = absurd h
       at (Ok edits) (reply.Refused refusal) h = tt
 
   answer_shows : (on : Bool) (answered : Result (List (List Loose)) (ℕ × ℕ)) (r : Reply) → IsAnswer on answered r → ShowsBook now changes book r
@@ -59,11 +60,21 @@ module _ (now : Schema) (changes : List Change) (book : Book) where
   answer_shows on (Ok rows) (reply.Rows list segments) h = tt
   answer_shows on (Ok rows) (reply.Groups lines buffered) h = absurd h
   answer_shows on (Ok rows) (reply.Segments lines) h = absurd h
+  answer_shows on (Ok rows) (reply.Left groups) h = absurd h
   answer_shows on (Ok rows) (reply.Refused refusal) h = tt
 
   select_shows : (schema : Schema) (m : State) (session : ℕ) (o : Option Txn) (query : Query) (r : Reply) → IsAnswerIn schema m session o query r → ShowsBook now changes book r
   select_shows schema m session None query r h = absurd h
   select_shows schema m session (Some txn) query r h = answer_shows (m.statistics session) (answer schema query (values_of (seen m.changes txn))) r h
+
+  left_shows : (r : Reply) → IsLeft r → ShowsBook now changes book r
+  left_shows reply.Done h = tt
+  left_shows (reply.Affected count) h = tt
+  left_shows (reply.Rows rows segments) h = tt
+  left_shows (reply.Groups lines buffered) h = absurd h
+  left_shows (reply.Segments lines) h = absurd h
+  left_shows (reply.Left groups) h = tt
+  left_shows (reply.Refused refusal) h = tt
 
   -- a reply that is the defined one shows the book, where a report does
   pub reply_shows : (schema : Schema) (m : State) (session : ℕ) (b : Bound) (r : Reply) → IsReply schema m session b r → (kind_of b ≡ kind.Report → ShowsBook now changes book r) → ShowsBook now changes book r
@@ -78,6 +89,7 @@ module _ (now : Schema) (changes : List Change) (book : Book) where
   reply_shows schema m session (bound.Select query) r h k = select_shows schema m session (m.txns session) query r h
   reply_shows schema m session bound.GroupReport r h k = k refl
   reply_shows schema m session bound.SegmentReport r h k = k refl
+  reply_shows schema m session (bound.Reorganize all) r h k = left_shows r h
   reply_shows schema m session (bound.Refused refusal) r h k = refused_shows r refusal h
 
 -- ---- no defined reply stands in the place of one after which something is committed
@@ -143,6 +155,7 @@ module _ (schema : Schema) (m : State) (session : ℕ) where
   defined_never (bound.Select query) r w h = answer_never (m.txns session) query (subst (λ x. IsAnswerIn schema m session (m.txns session) query x) w.refuses h)
   defined_never bound.GroupReport r w h = subst (IsReply schema m session bound.GroupReport) w.refuses h
   defined_never bound.SegmentReport r w h = subst (IsReply schema m session bound.SegmentReport) w.refuses h
+  defined_never (bound.Reorganize all) r w h = subst (IsReply schema m session (bound.Reorganize all)) w.refuses h
   defined_never (bound.Refused refusal) r w h = no_commit (bound.Refused refusal) w.given refusal w.is_reply w.commits
 
   -- nor is want of memory

@@ -147,6 +147,7 @@ module _ (directory : Directory) (view : GroupView) (changes : List Change) (j :
   look_shows (reply.Rows rows segments) h = absurd h
   look_shows (reply.Groups lines buffered) h = absurd h
   look_shows (reply.Segments lines) h = segments_shown directory view changes lines j look h
+  look_shows (reply.Left groups) h = absurd h
   look_shows (reply.Refused refusal) h = absurd h
 
 -- what a report is where all fits the table

@@ -189,6 +189,7 @@ implicit_ends m i (Some txn) r has e bare not = at r not
     at (reply.Rows rows segments) not = ends
     at (reply.Groups lines buffered) not = ends
     at (reply.Segments lines) not = ends
+    at (reply.Left groups) not = ends
     at (reply.Refused refusal) not = absurd (not refusal refl)
 
 -- a report leaves the state as it is
@@ -198,4 +199,5 @@ segments_kept schema m i (reply.Affected count) h = absurd h
 segments_kept schema m i (reply.Rows rows segments) h = absurd h
 segments_kept schema m i (reply.Groups lines buffered) h = absurd h
 segments_kept schema m i (reply.Segments lines) h = refl
+segments_kept schema m i (reply.Left groups) h = absurd h
 segments_kept schema m i (reply.Refused refusal) h = absurd h

@@ -5,7 +5,6 @@ use Rattle.std.specs.declared.alloc.Global.{Global}
 use Rattle.std.specs.declared.sync.Arc.{Arc}
 use Rattle.cs_types.specs.declared.Schema.{Schema}
 use Rattle.cs_model.specs.declared.entry.Bound.{Bound}
-use Rattle.cs_model.specs.declared.pred.Pred.{Pred}
 use Rattle.cs_model.specs.Changes.{Change, until, table}
 use Rattle.cs_model.specs.Floors as floors
 use Rattle.cs_model.specs.Floors.{IsFloor}
@@ -23,6 +22,7 @@ use Rattle.group_view.specs.Books.{book_of}
 use Rattle.group_view.specs.Scanned.{counts_in}
 use Rattle.group_view.specs.Views.{shown_table, padded_table, IsView, ShowsTables}
 use Rattle.group_directory.specs.declared.directory.Directory.{Directory}
+use Rattle.group_directory.specs.declared.ledger.Ledger.{Ledger}
 use Rattle.group_directory.specs.Laws.{IsLookAt}
 use Rattle.group_directory.specs.Obstacles.{txn_in}
 use Rattle.group_directory.specs.Stands.{width_in, Stands}
@@ -31,6 +31,7 @@ use Rattle.statement_core.specs.declared.core_state.CoreState.{CoreState}
 use Rattle.statement_core.specs.Begun.{Pins, IsPinnedFor}
 use Rattle.statement_core.specs.CoreState.{state_of, groups_of}
 use Rattle.statement_core.specs.Counted.{HasCounts}
+use Rattle.statement_core.specs.Reorganizes.{reorganizes, IsLedgerFor}
 use Rattle.statement_core.specs.Taken.{opened_for, IsPinOf, IsPinOrNone, IsTaken}
 use Rattle.statement_core.proofs.Placing.{with_own}
 use Rattle.statement_core.proofs.States.{own_model}
@@ -75,12 +76,13 @@ pin_of changes mid new session pinned j schema clock book look view shows snap t
 
 -- ---- what was begun
 
-module _ (begin : Begin) (changes : List Change) (old mid new : CoreState) (session : ℕ) (b : Bound) (short : Bool) (pinned : Option Pinned) (own : List Write) (implicit : Bool)
+module _ (begin : Begin) (changes : List Change) (old mid new : CoreState) (session : ℕ) (b : Bound) (short : Bool) (pinned : Option Pinned) (own : List Write) (implicit : Bool) (ledger : Option Ledger)
     (schema : mid.directory.schema.value ≡ begin.schema)
     (opened : state_of changes mid ≡ opened_for (state_of changes old) session b short)
     (halved : state_of changes new ≡ half_set (state_of changes mid) session (Some (record { bound = b; short = short })))
     (why : short ≡ true → is_of_table b ≡ true) (own_is : own ≡ own_of (txn_of mid.directory.txns session)) (implicit_is : implicit ≡ is_implicit ((state_of changes mid).txns session))
-    (pin : is_of_table b ≡ true → short ≡ false → IsPinOrNone changes mid.directory session pinned) (groups : groups_of mid ≡ groups_of old) where
+    (pin : is_of_table b ≡ true → short ≡ false → IsPinOrNone changes mid.directory session pinned) (groups : groups_of mid ≡ groups_of old)
+    (lists : IsLedgerFor (groups_of old) (reorganizes b) ledger) where
   snap_of : Option Pinned → ℕ
   snap_of None = 0
   snap_of (Some p) = p.snapshot
@@ -138,7 +140,7 @@ module _ (begin : Begin) (changes : List Change) (old mid new : CoreState) (sess
       subst (λ (s : Schema). AreCounts s changes (groups_of old) condition (counts_in s p.view condition)) schema
       (subst (λ (book : Book). AreCounts mid.directory.schema.value changes book condition (counts_in mid.directory.schema.value p.view condition)) groups (is.counts condition))
 
-  taken_at : (o : Option Pinned) → pinned ≡ o → IsTaken begin changes old session b (record { pinned = pinned; own = own; short = short; implicit = implicit }) new
+  taken_at : (o : Option Pinned) → pinned ≡ o → IsTaken begin changes old session b (record { pinned = pinned; own = own; short = short; implicit = implicit; ledger = ledger }) new
   taken_at None e = record {
     begun = begun_at 0;
     bound = refl;
@@ -147,6 +149,7 @@ module _ (begin : Begin) (changes : List Change) (old mid new : CoreState) (sess
     short = refl;
     implicit = implicit_is;
     own = own_begun;
+    ledger = lists;
     pinned = λ t n. absurd (none t n);
     counts = λ t n. absurd (none t n);
   }
@@ -161,6 +164,7 @@ module _ (begin : Begin) (changes : List Change) (old mid new : CoreState) (sess
     short = refl;
     implicit = implicit_is;
     own = own_begun;
+    ledger = lists;
     pinned = λ t n. subst (IsPinnedFor (begun_at p.snapshot)) (sym e) (pins p (there t n));
     counts = λ t n. subst (HasCounts begin.schema changes (groups_of old)) (sym e) (has p (there t n));
   }
@@ -168,7 +172,7 @@ module _ (begin : Begin) (changes : List Change) (old mid new : CoreState) (sess
       there : is_of_table b ≡ true → short ≡ false → IsPinOf changes mid.directory session p
       there t n = subst (IsPinOrNone changes mid.directory session) e (pin t n)
 
-  pub taken : IsTaken begin changes old session b (record { pinned = pinned; own = own; short = short; implicit = implicit }) new
+  pub taken : IsTaken begin changes old session b (record { pinned = pinned; own = own; short = short; implicit = implicit; ledger = ledger }) new
   taken = taken_at pinned refl
 
 -- ---- whether a transaction is implicit

@@ -1,5 +1,5 @@
 -- The turns of movers: the entries that they are, what these make of the book, and the room for them.
-use Rattle.std.proofs.Common.{◌≡◌, ◌≢◌, ◌⊎◌, ℕ, ◌+◌, ◌≤◌, List, [], ◌∷◌, ◌++◌, filter, length, not, refl, sym, ap, subst, ◌∙◌, cond, inl, inr, arith, Bool, true, false, Option, None, Some}
+use Rattle.std.proofs.Common.{◌≡◌, ◌≢◌, ℕ, ◌+◌, ◌≤◌, List, [], ◌∷◌, ◌++◌, filter, length, not, refl, sym, ap, subst, ◌∙◌, cond, inl, inr, arith, Bool, true, false, Option, None, Some}
 use Rattle.std.specs.Prelude.{◌==◌, Contains, IfSome, IsSome}
 use Rattle.std.specs.Option.{option_map}
 use Rattle.std.specs.declared.alloc.Global.{Global}
@@ -27,15 +27,16 @@ use Rattle.txn_table.specs.Txns.{txn_of, snapshots_in, snapshot_of as snapshot_i
 use Rattle.delete_bitmap.specs.declared.Marks.{Marks}
 use Rattle.row_group.specs.declared.packed.Packed.{Packed}
 use Rattle.group_book.specs.Book as book
-use Rattle.group_book.specs.Book.{Choice, Ending, Book}
+use Rattle.group_book.specs.Book.{Choice, Ending, Book, is_opened}
 use Rattle.group_book.specs.Book.Choice.{Compress, Flush, Rebuild, Merge, Settle, Clear, Idle}
-use Rattle.group_book.specs.Choices.{choice, choice_work, after_choice, first_of, flushable, id_in, install_work, release_work}
+use Rattle.group_book.specs.Choices.{choice, choice_work, after_choice, first_of, flushable, id_in, install_work, lowest, release_work}
 use Rattle.group_book.specs.Commits.{Sizes}
 use Rattle.group_book.specs.Invariant.{makes_group, AreById, AreSourcesOf, IsClaim}
 use Rattle.group_book.specs.Orders.{IsReordered}
-use Rattle.group_book.specs.Turns.{claim_by, same_actor, made_of, installed, released}
-use Rattle.group_log.specs.Followed.{ground_of, is_mover, Ground, Works}
-use Rattle.group_log.specs.Followed.Works.{chosen, out_of_memory, installed as installed_work, released as released_work}
+use Rattle.group_book.specs.Turns.{after_close, claim_by, same_actor, made_of, installed, released}
+use Rattle.group_log.specs.Followed.{ground_of, Ground, Moment, Works}
+use Rattle.group_log.specs.Followed.Works.{chosen, out_of_memory, installed as installed_work, released as released_work, closed as closed_work}
+use Rattle.group_log.specs.Reorganizing.{IsWorkBy}
 use Rattle.group_view.specs.declared.claim.Claim.{Claim}
 use Rattle.group_view.specs.declared.claim.Product.{Product}
 use Rattle.group_view.specs.Books.{choice_of, claim_of, book_of}
@@ -65,10 +66,12 @@ use Rattle.statement_core.specs.Cores.{IsCore}
 use Rattle.statement_core.specs.CoreState.{state_of, groups_of, claims_of}
 use Rattle.statement_core.specs.Fit.{AreFitting, IsFitState}
 use Rattle.statement_core.specs.Movers.{GivesTurn, IsFirstOf, IsMended, IsOfWork, IsWorkOf}
+use Rattle.statement_core.specs.Reorganizes.{MayClose}
 use Rattle.statement_core.specs.Terms.{sizes_of}
-use Rattle.statement_core.specs.Turns.{entry_of, HasAllClaims, IsFirst, Moment, BeginsTurn, TurnsTo, EndsBy}
+use Rattle.statement_core.specs.Turns.{entry_of, HasAllClaims, IsFirst, BeginsTurn, TurnsTo, EndsBy}
 use Rattle.statement_core.proofs.Keeping.{core_push}
 use Rattle.statement_core.proofs.Mending.{mendable, shared_mendable, shared_product}
+use Rattle.statement_core.proofs.Reorganizes.{close_may, closer}
 
 -- ---- room
 
@@ -322,15 +325,24 @@ module _ (made : Terms) (held : CoreState) (log : List Entry) (cap : ℕ) (sessi
   abbrev pub moment : Moment (ground_of made.schema.value (sizes_of made)) log
   moment = record { state = state_of i.changes held; book = groups_of held; followed = i.followed }
 
-  -- a work of movers moves the groups alone
-  pub core_worked : (after : CoreState) (new : ℕ) (actor : Actor) (w : Work) → is_mover actor ≡ true → Stands after.directory i.changes → after.directory.sizes ≡ held.directory.sizes → after.directory.schema ≡ held.directory.schema
+  -- a work moves the groups alone
+  pub core_worked : (after : CoreState) (new : ℕ) (actor : Actor) (w : Work) → IsWorkBy (ground_of made.schema.value (sizes_of made)) log actor w → Stands after.directory i.changes → after.directory.sizes ≡ held.directory.sizes → after.directory.schema ≡ held.directory.schema
       → state_of i.changes after ≡ state_of i.changes held → Works (directory_sizes held.directory) floor actor (groups_of held) w (groups_of after) → length log + 1 + owed log sessions + length (claims_of after) ≤ new
       → IsCore made after (log ++ Mover actor w ∷ []) new sessions
-  core_worked after new actor w mover stands sizes schema state moves len =
+  core_worked after new actor w may stands sizes schema state moves len =
       core_push made held after log cap new sessions (Mover actor w) i i.changes stands sizes schema state
-      (mover, (floor, floor_of i.changes held floor at_floor, subst (λ (s : Sizes). Works s floor actor (groups_of held) w (groups_of after)) i.sizes moves))
-      (subst (IsFitState made.schema.value) (sym state) i.fit) tt tt
+      (floor, floor_of i.changes held floor at_floor, subst (λ (s : Sizes). Works s floor actor (groups_of held) w (groups_of after)) i.sizes moves)
+      (subst (IsFitState made.schema.value) (sym state) i.fit) tt tt may
       (let same = owed_mover sessions log actor w in omega (arith, len, same))
+
+  -- a close of the open store
+  pub core_closed : (after : CoreState) (new : ℕ) (actor : Actor) (id : ℕ) → MayClose (ground_of made.schema.value (sizes_of made)) log actor → claim_by actor (groups_of held) ≡ None
+      → lowest (λ (group : book.Group). is_opened group.content) (groups_of held).groups ≡ Some id → groups_of after ≡ after_close (groups_of held) → Stands after.directory i.changes → after.directory.sizes ≡ held.directory.sizes
+      → after.directory.schema ≡ held.directory.schema → state_of i.changes after ≡ state_of i.changes held → length log + 1 + owed log sessions + length (claims_of after) ≤ new
+      → IsCore made after (log ++ Mover actor (work.Close id) ∷ []) new sessions
+  core_closed after new actor id may none is moved stands sizes schema state len =
+      core_worked after new actor (work.Close id) (close_may (ground_of made.schema.value (sizes_of made)) log actor id may) stands sizes schema state
+      (subst (Works (directory_sizes held.directory) floor actor (groups_of held) (work.Close id)) (sym moved) (closed_work (closer (ground_of made.schema.value (sizes_of made)) log actor may) none is)) len
 
   -- the first event of a turn
   module _ (actor : Actor) (after : Book) where

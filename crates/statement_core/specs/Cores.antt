@@ -13,6 +13,7 @@ use Rattle.log_laws.specs.Started.{Begun, IsStarted}
 use Rattle.group_book.specs.Commits.{Sizes}
 use Rattle.group_log.specs.Counted.{IsCounted}
 use Rattle.group_log.specs.Followed.{ground_of, Followed}
+use Rattle.group_log.specs.Reorganizing.{IsReorganized}
 use Rattle.group_directory.specs.Laws.{sizes_of as directory_sizes}
 use Rattle.group_directory.specs.Stands.{Stands}
 use Rattle.statement_core.specs.declared.core_state.CoreState.{CoreState}
@@ -20,12 +21,13 @@ use Rattle.statement_core.specs.declared.started.Outcome.{Outcome}
 use Rattle.statement_core.specs.declared.started.Terms.{Terms}
 use Rattle.statement_core.specs.CoreState.{state_of, groups_of, claims_of, IsBare}
 use Rattle.statement_core.specs.Outcomes.{GivesOn}
+use Rattle.statement_core.specs.Reorganizes.{IsOver}
 use Rattle.statement_core.specs.Fit.{IsFitState}
 use Rattle.statement_core.specs.Terms.{sizes_of, AreTerms}
 
 -- the log is followed, and leads to the state and the book that the fields stand for, with some committed changes; all of it
--- fits the table; answers tell the counts of their Starts' groups; and there is room for every Finish and End that is still owed, and
--- for the install of every claim that is out
+-- fits the table; answers tell the counts of their Starts' groups; sessions work as their REORGANIZE may, and are told what it
+-- leaves; and there is room for every Finish and End that is still owed, and for the install of every claim that is out
 pub record IsCore (made : Terms) (held : CoreState) (log : List Entry) (capacity : ℕ) (sessions : List ℕ) : Type 0 where
   pub terms : AreTerms made
   pub table : IsSchema made.schema.value
@@ -42,6 +44,7 @@ pub record IsCore (made : Terms) (held : CoreState) (log : List Entry) (capacity
   pub distinct : AreDistinct sessions
   pub printable : All (IsPrintableEntry made.schema.value) log
   pub counted : IsCounted (ground_of made.schema.value (sizes_of made)) log
+  pub reorganized : IsReorganized (ground_of made.schema.value (sizes_of made)) log
 
 -- the entry is the Start of this statement in a session
 abbrev pub IsStartOf : ℕ → Bound → Bool → Entry → Type 0
@@ -50,8 +53,9 @@ IsStartOf session b short (Finish s reply) = ⊥
 IsStartOf session b short (End s) = ⊥
 IsStartOf session b short (Mover actor work) = ⊥
 
--- the outcome is what the definitions give on what the session has begun
+-- the outcome is what the definitions give on what the session has begun, and ends it
 pub record IsDone (begin : Begin) (sizes : Sizes) (log : List Entry) (session : ℕ) (outcome : Outcome) : Type 0 where
   pub begun : Begun
   pub started : IsStarted begin log session begun
   pub gives : GivesOn sizes begun outcome
+  pub over : IsOver begun.bound outcome

@@ -7,7 +7,7 @@ use Rattle.cs_model.specs.declared.entry.Entry.{Entry}
 use Rattle.cs_model.specs.declared.pred.Pred.{Pred}
 use Rattle.cs_model.specs.Changes.{Change}
 use Rattle.cs_model.specs.Kinds.{is_of_table}
-use Rattle.cs_model.specs.State.{State, Begin}
+use Rattle.cs_model.specs.State.{State}
 use Rattle.group_book.specs.Book.{Book}
 use Rattle.group_log.specs.Counted.{told_counts, AreCounts, IsBegunAt}
 use Rattle.group_log.specs.Followed.{Ground}
@@ -23,6 +23,7 @@ outcome_counts outcome.Nothing = None
 outcome_counts (outcome.Answer r) = told_counts r
 outcome_counts (outcome.Writes list present affected parcel) = None
 outcome_counts (outcome.Commit parcel) = None
+outcome_counts (outcome.Left groups) = None
 outcome_counts outcome.Short = None
 
 -- the condition of a query
@@ -38,6 +39,7 @@ condition_of (bound.Delete condition) = None
 condition_of (bound.Select query) = query.filter
 condition_of bound.GroupReport = None
 condition_of bound.SegmentReport = None
+condition_of (bound.Reorganize all) = None
 condition_of (bound.Refused refusal) = None
 
 -- the counts are those of a condition over what is pinned

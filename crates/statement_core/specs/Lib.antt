@@ -2,6 +2,7 @@ pub mod Seats
 pub mod CoreState
 pub mod Leaves
 pub mod Terms
+pub mod Reorganizes
 pub mod Outcomes
 pub mod Counted
 pub mod Begun

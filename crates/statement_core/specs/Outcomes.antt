@@ -1,5 +1,5 @@
 -- What the work of a statement gives on what was started.
-use Rattle.std.specs.Prelude.{◌≡◌, ◌≢◌, ℕ, List, [], map, filter, length, Bool, true, false, All, Contains, Result, Ok, Err, Option, None, Some, if◌then◌else◌}
+use Rattle.std.specs.Prelude.{◌≡◌, ◌≢◌, ℕ, List, [], map, filter, length, Bool, true, false, All, Contains, Result, Ok, Err, Option, None, Some, IsSome, if◌then◌else◌}
 use Rattle.std.specs.Map.{values_of}
 use Rattle.cs_types.specs.declared.Key.{Key}
 use Rattle.cs_types.specs.declared.Schema.{Schema}
@@ -25,6 +25,7 @@ use Rattle.group_view.specs.Parcels.{IsParcelFor}
 use Rattle.edit_laws.specs.Edits.{edits_of}
 use Rattle.statement_core.specs.declared.started.Outcome.{Outcome}
 use Rattle.statement_core.specs.declared.started.Outcome.TheVariants as outcome
+use Rattle.statement_core.specs.Reorganizes.{reorganizes}
 
 -- ---- replies
 
@@ -46,6 +47,7 @@ IsDecided schema (bound.Delete condition) table r = IsValued (writes schema tabl
 IsDecided schema (bound.Select query) table r = IsAnswer true (answer schema query (values_of table)) r
 IsDecided schema bound.GroupReport table r = ⊥
 IsDecided schema bound.SegmentReport table r = ⊥
+IsDecided schema (bound.Reorganize all) table r = ⊥
 IsDecided schema (bound.Refused refusal) table r = ⊥
 
 -- a reply as its session is told it: without counts of segments where the setting is off
@@ -55,6 +57,7 @@ told on (reply.Affected count) = reply.Affected count
 told on (reply.Rows rows segments) = reply.Rows rows (if on then segments else None)
 told on (reply.Groups lines buffered) = reply.Groups lines buffered
 told on (reply.Segments lines) = reply.Segments lines
+told on (reply.Left groups) = reply.Left groups
 told on (reply.Refused refusal) = reply.Refused refusal
 
 -- ---- writes
@@ -93,7 +96,7 @@ pub record GivesWrites (sizes : Sizes) (begun : Begun) (list : List Write) (pres
 
 -- ---- outcomes
 
--- the statement needs no work before its Finish
+-- the statement needs no work of a desk before its Finish
 abbrev pub needs_none : Bound → Bool
 needs_none bound.Begin = true
 needs_none bound.Commit = false
@@ -106,7 +109,17 @@ needs_none (bound.Delete condition) = false
 needs_none (bound.Select query) = false
 needs_none bound.GroupReport = true
 needs_none bound.SegmentReport = true
+needs_none (bound.Reorganize all) = true
 needs_none (bound.Refused refusal) = true
+
+-- a desk's outcome: it tells of no REORGANIZE what that left
+abbrev pub IsOfDesk : Outcome → Type 0
+IsOfDesk outcome.Nothing = Unit {0}
+IsOfDesk (outcome.Answer r) = Unit {0}
+IsOfDesk (outcome.Writes list present affected parcel) = Unit {0}
+IsOfDesk (outcome.Commit parcel) = Unit {0}
+IsOfDesk (outcome.Left groups) = ⊥
+IsOfDesk outcome.Short = Unit {0}
 
 -- the outcome is what the definitions give of a statement on what was begun, or Short
 abbrev pub GivesOn : Sizes → Begun → Outcome → Type 0
@@ -116,3 +129,4 @@ GivesOn sizes begun (outcome.Answer r) = (begun.short ≡ false) × IsDecided be
 GivesOn sizes begun (outcome.Writes list present affected parcel) =
     (begun.short ≡ false) × (is_write begun.bound ≡ true) × GivesWrites sizes begun list.items present.items affected parcel
 GivesOn sizes begun (outcome.Commit parcel) = (begun.bound ≡ bound.Commit) × IsParcelFor begun.schema sizes begun.own parcel
+GivesOn sizes begun (outcome.Left groups) = IsSome (reorganizes begun.bound)

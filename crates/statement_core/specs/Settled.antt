@@ -1,5 +1,5 @@
 -- What a Finish replies and leaves, once the statement is no longer half done.
-use Rattle.std.specs.Prelude.{◌≡◌, ◌≢◌, ◌⊎◌, ◌<◌, ℕ, List, [], Bool, true, false, Option}
+use Rattle.std.specs.Prelude.{◌≡◌, ◌≢◌, ◌⊎◌, ◌<◌, ℕ, List, [], Bool, true, false, Option, None}
 use Rattle.cs_types.specs.declared.Key.{Key}
 use Rattle.cs_types.specs.declared.Schema.{Schema}
 use Rattle.write_set.specs.declared.write.Write.{Write}
@@ -9,6 +9,7 @@ use Rattle.cs_model.specs.declared.entry.Refusal.{Refusal}
 use Rattle.cs_model.specs.declared.entry.Refusal.TheVariants.{Reading, Memory}
 use Rattle.cs_model.specs.declared.entry.Reply.{Reply}
 use Rattle.cs_model.specs.declared.entry.Reply.TheVariants as reply
+use Rattle.cs_model.specs.declared.work.Actor.TheVariants.{Session}
 use Rattle.cs_model.specs.Changes.{Edit, Change}
 use Rattle.cs_model.specs.Kinds.{is_of_table, is_write}
 use Rattle.cs_model.specs.State.{State, Begin}
@@ -19,6 +20,7 @@ use Rattle.edit_laws.specs.Edits.{edits_of}
 use Rattle.txn_table.specs.Txns.{txn_of, own_of}
 use Rattle.group_book.specs.Book.{Book}
 use Rattle.group_book.specs.Commits.{Sizes, draws_past}
+use Rattle.group_book.specs.Turns.{claim_by}
 use Rattle.group_log.specs.Followed.{book_with, committed_edits, ShowsBook, Finishes}
 use Rattle.group_view.specs.declared.claim.Parcel.{Parcel}
 use Rattle.group_directory.specs.Laws.{sizes_of}
@@ -28,6 +30,7 @@ use Rattle.statement_core.specs.declared.started.Outcome.{Outcome}
 use Rattle.statement_core.specs.CoreState.{state_of, groups_of, IsStill, IsBare, claims_of}
 use Rattle.statement_core.specs.Leaves.{committed_in, Leaves}
 use Rattle.statement_core.specs.Outcomes.{GivesWrites, GivesOn}
+use Rattle.statement_core.specs.Reorganizes.{IsOver}
 
 -- ---- replies
 
@@ -43,6 +46,7 @@ wrote_or m session edits (reply.Affected count) = wrote m session (m.txns sessio
 wrote_or m session edits (reply.Rows rows segments) = wrote m session (m.txns session) edits
 wrote_or m session edits (reply.Groups lines buffered) = wrote m session (m.txns session) edits
 wrote_or m session edits (reply.Segments lines) = wrote m session (m.txns session) edits
+wrote_or m session edits (reply.Left groups) = wrote m session (m.txns session) edits
 wrote_or m session edits (reply.Refused refusal) = refused m session refusal
 
 -- in the place of a reply after which something would be committed, error 50001 at 1
@@ -85,6 +89,7 @@ pub record IsDoneAt (begin : Begin) (changes : List Change) (held : CoreState) (
   pub why : short ≡ true → is_of_table b ≡ true
   pub holds : Holds begin (state_of changes held) session begun
   pub gives : GivesOn (sizes_of held.directory) begun outcome
+  pub over : IsOver begun.bound outcome
 
 -- the same where the statement is still half done
 pub record IsReadyAt (begin : Begin) (changes : List Change) (held : CoreState) (session : ℕ) (outcome : Outcome) : Type 0 where
@@ -96,13 +101,15 @@ pub record IsReadyAt (begin : Begin) (changes : List Change) (held : CoreState) 
   pub why : begun.short ≡ true → is_of_table begun.bound ≡ true
   pub shows : Shows begin (state_of changes held) session begun
   pub gives : GivesOn (sizes_of held.directory) begun outcome
+  pub over : IsOver begun.bound outcome
 
--- a Finish from the changes that the core stood for: it stands for later ones, by the steps of the row model and of the book
+-- a Finish from the changes that the core stood for: it stands for later ones, by the steps of the row model and, where the session
+-- holds no claim, of the book
 pub record IsFinished (begin : Begin) (changes : List Change) (old : CoreState) (session : ℕ) (r : Reply) (new : CoreState) : Type 0 where
   pub later : List Change
   pub stands : Stands new.directory later
   pub step : IsStep begin (state_of changes old) (Finish session r) (state_of later new)
-  pub moves : (book : Book) → Finishes (record { begin = begin; sizes = sizes_of old.directory; book = book }) (state_of changes old) (groups_of old) session r (state_of later new) (groups_of new)
+  pub moves : (book : Book) → claim_by (Session session) (groups_of old) ≡ None → Finishes (record { begin = begin; sizes = sizes_of old.directory; book = book }) (state_of changes old) (groups_of old) session r (state_of later new) (groups_of new)
   pub claims : claims_of new ≡ claims_of old
   pub sizes : new.directory.sizes ≡ old.directory.sizes
   pub schema : new.directory.schema ≡ old.directory.schema

@@ -18,6 +18,7 @@ use Rattle.statement_core.specs.declared.core_state.CoreState.{CoreState}
 use Rattle.statement_core.specs.Begun.{IsPinnedFor}
 use Rattle.statement_core.specs.CoreState.{state_of, groups_of}
 use Rattle.statement_core.specs.Counted.{HasCounts}
+use Rattle.statement_core.specs.Reorganizes.{reorganizes, IsLedgerFor}
 
 -- what is pinned shows the tables of these changes, has the snapshot and the own writes of the session's transaction, and has the
 -- counts of the directory's groups
@@ -48,5 +49,6 @@ pub record IsTaken (begin : Begin) (changes : List Change) (old : CoreState) (se
   pub short : taken.short ≡ begun.short
   pub implicit : taken.implicit ≡ begun.implicit
   pub own : edits_of taken.own ≡ begun.own
+  pub ledger : IsLedgerFor (groups_of old) (reorganizes b) taken.ledger
   pub pinned : is_of_table begun.bound ≡ true → begun.short ≡ false → IsPinnedFor begun taken.pinned
   pub counts : is_of_table begun.bound ≡ true → begun.short ≡ false → HasCounts begin.schema changes (groups_of old) taken.pinned

@@ -6,21 +6,14 @@ use Rattle.cs_model.specs.declared.work.Actor.{Actor}
 use Rattle.cs_model.specs.declared.work.Work.{Work}
 use Rattle.cs_model.specs.declared.work.Work.TheVariants.{Memory}
 use Rattle.cs_model.specs.Floors.{IsFloor, snapshots}
-use Rattle.cs_model.specs.State.{State}
-use Rattle.group_book.specs.Book.{Choice, Claim, Book}
+use Rattle.group_book.specs.Book.{Choice, Claim}
 use Rattle.group_book.specs.Choices.{choice, choice_work, install_work, release_work}
 use Rattle.group_book.specs.Turns.{claim_by}
-use Rattle.group_log.specs.Followed.{Ground, Followed}
+use Rattle.group_log.specs.Followed.{Ground, Moment}
 use Rattle.group_view.specs.declared.claim.Claim as lent
 use Rattle.group_directory.specs.Installing.{held_by}
 use Rattle.statement_core.specs.declared.movers.Turned.{Turned}
 use Rattle.statement_core.specs.Movers.{IsWorkOf}
-
--- the state and the book that a log leads to
-pub record Moment (origin : Ground) (log : List Entry) : Type 0 where
-  pub state : State
-  pub book : Book
-  pub followed : Followed origin log state book
 
 -- these are all claims at the moment that the log leads to: in its book who holds none of them holds none
 pub record HasAllClaims (origin : Ground) (log : List Entry) (claims : List (Actor × lent.Claim)) : Type 0 where

@@ -6,12 +6,14 @@ ghost use Rattle.cs_model.specs.State.{Begin};
 ghost use Rattle.cs_model.specs.Steps.{pinned};
 ghost use Rattle.txn_table.specs.Txns.{txn_of, own_of};
 ghost use Rattle.group_directory.specs.Stands.{Stands};
-ghost use Rattle.statement_core.specs.CoreState.{state_of, IsWithin, IsStill};
+ghost use Rattle.statement_core.specs.CoreState.{state_of, groups_of, IsWithin, IsStill};
+ghost use Rattle.statement_core.specs.Reorganizes.{reorganizes, IsLedgerFor};
 ghost use Rattle.statement_core.specs.Taken.{opened_for, IsPinOrNone, IsTaken};
 
 use crate::core_state::{CoreState, HalfDone, open, set_half};
 use cs_base::Memory;
 use cs_model::{Bound, Kind};
+use group_directory::Ledger;
 use group_view::Pinned;
 use std::sync::Arc;
 use write_set::Own;
@@ -23,6 +25,7 @@ pub struct Taken {
     pub own: Own,
     pub short: bool,
     pub implicit: bool,
+    pub ledger: Option<Ledger>,
 }
 
 fn is_of_table(bound: &Bound) -> bool
@@ -30,7 +33,7 @@ fn is_of_table(bound: &Bound) -> bool
 {
     match bound.kind() {
         Kind::Insert | Kind::Change | Kind::Query => true,
-        Kind::Control | Kind::Report | Kind::Refused => false,
+        Kind::Control | Kind::Report | Kind::Reorganize | Kind::Refused => false,
     }
 }
 
@@ -82,6 +85,17 @@ fn take(held: &mut CoreState, session: u32, bound: &Bound) -> (Option<Pinned>, b
     (pinned, short)
 }
 
+/// The groups by their counts, for a REORGANIZE; none for another statement.
+fn ledger_for(held: &CoreState, bound: &Bound) -> Result<Option<Ledger>, Memory>
+    requires stands { (changes : List Change) × Stands held.now.directory changes }
+    ensures { IfOk result (IsLedgerFor (groups_of held.now) (reorganizes bound.now)) }
+{
+    match bound {
+        Bound::Reorganize { .. } => Ok(Some(held.directory.ledger()?)),
+        _ => Ok(None),
+    }
+}
+
 /// A Start, but for its entry: what the work of its statement is handed. A statement of the table opens an implicit transaction
 /// where there is none, and takes its snapshot; where that finds no memory the Start is short. `Memory`: nothing has changed.
 pub fn start(held: &mut CoreState, session: u32, bound: Arc<Bound>) -> Result<Taken, Memory>
@@ -93,6 +107,7 @@ pub fn start(held: &mut CoreState, session: u32, bound: Arc<Bound>) -> Result<Ta
     ensures still { IsStill held.old held.new }
 {
     let own = held.directory.own(session)?;
+    let ledger = ledger_for(held, &bound)?;
     let (pinned, short) = take(held, session, &bound);
     let implicit = held.directory.depth(session) == Some(0);
     set_half(held, session, Some(HalfDone { bound, short }));
@@ -101,5 +116,6 @@ pub fn start(held: &mut CoreState, session: u32, bound: Arc<Bound>) -> Result<Ta
         own,
         short,
         implicit,
+        ledger,
     })
 }

@@ -5,6 +5,7 @@ ghost use Rattle.cs_model.specs.declared.entry.Entry.TheVariants.{Finish, End};
 ghost use Rattle.cs_model.specs.declared.entry.Entry.{Entry};
 ghost use Rattle.cs_model.specs.declared.entry.Reply.{Reply};
 ghost use Rattle.cs_model.specs.declared.work.Actor.{Actor};
+ghost use Rattle.cs_model.specs.declared.work.Actor.TheVariants.{Session};
 ghost use Rattle.cs_model.specs.State.{State, begin_of};
 ghost use Rattle.cs_model.specs.Actors.{entries_of, is_begun, has_ended};
 ghost use Rattle.cs_model.specs.Changes.{table};
@@ -17,7 +18,8 @@ ghost use Rattle.group_book.specs.Book.{Book};
 ghost use Rattle.group_book.specs.Choices as spec;
 ghost use Rattle.group_book.specs.Turns.{same_actor};
 ghost use Rattle.group_log.specs.Counted.{AreCountsAt, IsCounted};
-ghost use Rattle.group_log.specs.Followed.{ground_of, is_mover, Followed};
+ghost use Rattle.group_log.specs.Followed.{ground_of, Followed};
+ghost use Rattle.group_log.specs.Reorganizing.{IsReorganized};
 ghost use Rattle.group_directory.specs.Installing.{held_by};
 ghost use Rattle.statement_core.specs.Begun.{Hands, MayWork};
 ghost use Rattle.statement_core.specs.Cores.{IsDone, IsStartOf};
@@ -25,19 +27,20 @@ ghost use Rattle.statement_core.specs.Counted.{outcome_counts, HasStartCounts};
 ghost use Rattle.statement_core.specs.Ended.{HaveEnded};
 ghost use Rattle.statement_core.specs.Movers.{GivesTurn, IsMended};
 ghost use Rattle.statement_core.specs.NewTable.{IsNewTable};
+ghost use Rattle.statement_core.specs.Reorganizes.{reorganizes, HasLedger, IsClosing, IsLedgerAt, LeavesBy, IsToldBy, MayBegin, MayClose, MayEnd};
 ghost use Rattle.statement_core.specs.Terms.{sizes_of, AreTerms, AreTermsOf};
 ghost use Rattle.statement_core.specs.Turns.{TurnsTo, EndsBy, HasAllClaims};
 
 use crate::begin::start;
 use crate::core_state::CoreState;
 use crate::finish::{end, finish};
-use crate::movers::{Turned, claim, install_work, release_work};
+use crate::movers::{Turned, claim, close_opened, install_work, release_work};
 use crate::seats::Seats;
 use crate::started::{Outcome, Started, Terms};
 use cs_base::Memory;
-use cs_model::{Actor, Bound, Entry};
+use cs_model::{Actor, Bound, Entry, Work};
 use cs_types::Schema;
-use group_directory::{Directory, Sizes};
+use group_directory::{Directory, Ledger, Sizes};
 use group_view::Product;
 use std::alloc::Global;
 use std::marker::Model;
@@ -153,8 +156,8 @@ impl Core {
     }
 
     /// The Start of a statement. A statement of the table opens a transaction where there is none, takes its snapshot, and pins the
-    /// row groups of this moment; where that finds no memory the Start is short, with a transaction and no snapshot more.
-    /// `Memory`: no event was made.
+    /// row groups of this moment; where that finds no memory the Start is short, with a transaction and no snapshot more. A
+    /// REORGANIZE takes the groups by their counts. `Memory`: no event was made.
     pub fn start(&mut self, session: u32, bound: Bound) -> Result<Started, Memory>
         requires known { Contains self.old.sessions session }
         requires rests { is_begun (entries_of session self.old.log) ≡ false }
@@ -165,6 +168,7 @@ impl Core {
         ensures terms { IfOk result (λ started. AreTerms started.terms.value × (sizes_of started.terms.value ≡ self.new.sizes)) }
         ensures started { IfOk result (λ started. (begun : Begun) × Hands begun started × MayWork begun × IsStarted (begin_of self.new.schema) self.new.log session begun) }
         ensures counts { IfOk result (HasStartCounts (ground_of self.new.schema self.new.sizes) self.new.log session) }
+        ensures ledger { IfOk result (λ started. HasLedger (ground_of self.new.schema self.new.sizes) self.new.log session (reorganizes started.bound.value) started.ledger) }
         ensures schema { self.new.schema ≡ self.old.schema }
         ensures sizes { self.new.sizes ≡ self.old.sizes }
         ensures sessions { self.new.sessions ≡ self.old.sessions }
@@ -193,17 +197,21 @@ impl Core {
             short: taken.short,
             implicit: taken.implicit,
             terms,
+            ledger: taken.ledger,
         })
     }
 
     /// The Finish of the session's statement: its reply is in the log then, with the counts of segments of an answer exactly where
-    /// the session's setting of STATISTICS IO is on. Where memory for the reply or its effect is not
+    /// the session's setting of STATISTICS IO is on, and with what a REORGANIZE left. Where memory for the reply or its effect is not
     /// there, it is error 701; and 50001 at 1 where a commit would draw a group id above 2^62. It takes no memory for its entry.
+    /// Conditions: the session holds no claim, and the groups that the outcome tells as left are those that its REORGANIZE leaves.
     pub fn finish(&mut self, session: u32, outcome: Outcome)
         requires known { Contains self.old.sessions session }
         requires outcome { IsDone (begin_of self.old.schema) self.old.sizes self.old.log session outcome }
         requires counts { IfSome (outcome_counts outcome) (AreCountsAt (ground_of self.old.schema self.old.sizes) self.old.log session) }
-        ensures log { (reply : Reply) × (self.new.log ≡ self.old.log ++ Finish session reply ∷ []) }
+        requires left { LeavesBy (ground_of self.old.schema self.old.sizes) self.old.log session outcome }
+        requires free { held_by (Session session) self.old.claims ≡ None }
+        ensures log { (reply : Reply) × (self.new.log ≡ self.old.log ++ Finish session reply ∷ []) × IsToldBy outcome reply }
         ensures schema { self.new.schema ≡ self.old.schema }
         ensures sizes { self.new.sizes ≡ self.old.sizes }
         ensures sessions { self.new.sessions ≡ self.old.sessions }
@@ -240,9 +248,9 @@ impl Core {
     /// The first event of an actor's turn, by the first of the seven choices that there is (Larson et al., PVLDB 2015, section 4):
     /// groups are lent, or ends become plain, or tombstones go; want of memory in the place of that; or none where there is
     /// nothing to do. Room for the event that ends the turn is taken. `Memory`: the log had no room, and no event was made.
-    /// Conditions: the actor is a mover, and holds no claim.
+    /// Conditions: the actor is a mover, or a session whose REORGANIZE may begin a turn, and holds no claim.
     pub fn claim(&mut self, actor: Actor) -> Result<Turned, Memory>
-        requires mover { is_mover actor ≡ true }
+        requires may { MayBegin (ground_of self.old.schema self.old.sizes) self.old.log actor }
         requires free { held_by actor self.old.claims ≡ None }
         ensures begins { IfOk result (λ turned. (piece : List Entry) × (self.new.log ≡ self.old.log ++ piece) × TurnsTo (ground_of self.old.schema self.old.sizes) self.old.log actor turned piece) }
         ensures turned { IfOk result (GivesTurn actor self.old.claims self.new.claims) }
@@ -261,9 +269,9 @@ impl Core {
     }
 
     /// The install of what the work on the actor's claim gave; the claim is over. It takes no memory. Conditions: the actor is a
-    /// mover that holds a claim, and the product is of a share of it.
+    /// mover, or a session with a REORGANIZE half done, and holds a claim, and the product is of a share of it.
     pub fn install(&mut self, actor: Actor, product: Product)
-        requires mover { is_mover actor ≡ true }
+        requires may { MayEnd (ground_of self.old.schema self.old.sizes) self.old.log actor }
         requires product { IsMended (held_by actor self.old.claims) product }
         ensures ends { (piece : List Entry) × (self.new.log ≡ self.old.log ++ piece) × EndsBy spec.install_work (ground_of self.old.schema self.old.sizes) self.old.log actor piece }
         ensures claims { self.new.claims ≡ filter (λ held. not (same_actor held.0 actor)) self.old.claims }
@@ -280,9 +288,9 @@ impl Core {
     }
 
     /// The release of the actor's claim: what it lent stays as it is, and the group that it was to make is gone. It takes no
-    /// memory. Conditions: the actor is a mover that holds a claim.
+    /// memory. Conditions: the actor is a mover, or a session with a REORGANIZE half done, and holds a claim.
     pub fn release(&mut self, actor: Actor)
-        requires mover { is_mover actor ≡ true }
+        requires may { MayEnd (ground_of self.old.schema self.old.sizes) self.old.log actor }
         requires holds { IsSome (held_by actor self.old.claims) }
         ensures ends { (piece : List Entry) × (self.new.log ≡ self.old.log ++ piece) × EndsBy spec.release_work (ground_of self.old.schema self.old.sizes) self.old.log actor piece }
         ensures claims { self.new.claims ≡ filter (λ held. not (same_actor held.0 actor)) self.old.claims }
@@ -296,6 +304,36 @@ impl Core {
         };
         self.held.directory.release(actor);
         self.log.push_reserved(Entry::Mover { actor, work });
+    }
+
+    /// The first look of a session's REORGANIZE that is to close the open store: that is closed, and the answer is its id; None, and no
+    /// event, where no store is open. `Memory`: the log had no room, and no event was made. Conditions: the session has nothing else
+    /// done yet in its REORGANIZE, and holds no claim.
+    pub fn close_opened(&mut self, actor: Actor) -> Result<Option<u64>, Memory>
+        requires may { MayClose (ground_of self.old.schema self.old.sizes) self.old.log actor }
+        requires free { held_by actor self.old.claims ≡ None }
+        ensures closes { IfOk result (λ closed. IsClosing (ground_of self.old.schema self.old.sizes) self.old.log actor closed self.new.log) }
+        ensures claims { self.new.claims ≡ self.old.claims }
+        ensures schema { self.new.schema ≡ self.old.schema }
+        ensures sizes { self.new.sizes ≡ self.old.sizes }
+        ensures sessions { self.new.sessions ≡ self.old.sessions }
+        ensures err { OnErr result (self.new ≡ self.old) }
+    {
+        let claims = self.held.directory.list.claims.len();
+        self.log.reserve(2 * SESSIONS + 2 + claims)?;
+        let closed = close_opened(&mut self.held);
+        if let Some(group) = closed {
+            let work = Work::Close { group };
+            self.log.push_reserved(Entry::Mover { actor, work });
+        }
+        Ok(closed)
+    }
+
+    /// The groups by their counts, and who holds which, at this moment. It makes no event.
+    pub fn ledger(&self) -> Result<Ledger, Memory>
+        ensures { IfOk result (IsLedgerAt (ground_of self.now.schema self.now.sizes) self.now.log) }
+    {
+        self.held.directory.ledger()
     }
 
     /// The table that it serves.
@@ -330,6 +368,8 @@ impl Core {
         ensures printable { All (IsPrintableEntry self.now.schema) self.now.log }
         // Counts of segments in an answer are those of the groups at its statement's Start.
         ensures counted { IsCounted (ground_of self.now.schema self.now.sizes) self.now.log }
+        // Sessions work only as their REORGANIZE may, and each is told what that leaves.
+        ensures reorganized { IsReorganized (ground_of self.now.schema self.now.sizes) self.now.log }
         // In the book that it leads to, an actor that holds none of the claims has no turn to end.
         ensures claims { HasAllClaims (ground_of self.now.schema self.now.sizes) self.now.log self.now.claims }
     {

@@ -6,6 +6,7 @@ ghost use Rattle.cs_model.specs.declared.entry.Bound.{Bound};
 ghost use Rattle.cs_model.specs.declared.entry.Bound.TheVariants as statement;
 ghost use Rattle.cs_model.specs.declared.entry.Entry.TheVariants.{End};
 ghost use Rattle.cs_model.specs.declared.kind.Kind.TheVariants as kind;
+ghost use Rattle.cs_model.specs.declared.work.Actor.{Actor};
 ghost use Rattle.cs_model.specs.Changes.{Change};
 ghost use Rattle.cs_model.specs.Held.{AreFit};
 ghost use Rattle.cs_model.specs.Kinds.{kind_of};
@@ -21,6 +22,7 @@ ghost use Rattle.statement_core.specs.declared.started.Outcome.TheVariants as ou
 ghost use Rattle.cs_model.specs.declared.entry.Reply.{Reply};
 ghost use Rattle.statement_core.specs.CoreState.{halves_of, settings_of, state_of, groups_of, IsBare, IsWithin, IsStill};
 ghost use Rattle.statement_core.specs.Outcomes.{needs_none};
+ghost use Rattle.statement_core.specs.Reorganizes.{reorganizes};
 ghost use Rattle.statement_core.specs.Outcomes as spec;
 ghost use Rattle.statement_core.specs.Settled.{wrote_or, Settles, Ends, IsDoneAt, IsReadyAt, IsFinished};
 
@@ -174,6 +176,7 @@ fn plain(alloc: Global, held: &mut CoreState, session: u32, bound: &Bound) -> Re
     requires table { IsSchema held.old.directory.schema.value }
     requires stands { (changes : List Change) × Stands held.old.directory changes }
     requires none { needs_none bound.now ≡ true }
+    requires over { reorganizes bound.now ≡ None }
     ensures settles { (schema : Schema) (changes : List Change) → Settles schema (state_of changes held.old) session bound.now result (state_of changes held.new) }
     ensures shows { (changes : List Change) → Stands held.old.directory changes → kind_of bound.now ≡ kind.Report → ShowsBook held.old.directory.schema.value changes (groups_of held.old) result }
     ensures printable { (changes : List Change) → Stands held.old.directory changes → AreFit held.old.directory.schema.value changes → bound.now ≡ statement.SegmentReport → IsPrintableReply held.old.directory.schema.value result }
@@ -187,8 +190,12 @@ fn plain(alloc: Global, held: &mut CoreState, session: u32, bound: &Bound) -> Re
         Bound::GroupReport => group_report(held, session),
         Bound::SegmentReport => segment_report(alloc, held, session),
         Bound::Refused(refusal) => refuse(held, session, *refusal),
-        Bound::Commit | Bound::Insert(_) | Bound::Update(_) | Bound::Delete(_) | Bound::Select(_) =>
-            unreachable!(),
+        Bound::Commit
+        | Bound::Insert(_)
+        | Bound::Update(_)
+        | Bound::Delete(_)
+        | Bound::Select(_)
+        | Bound::Reorganize { .. } => unreachable!(),
     }
 }
 
@@ -256,6 +263,8 @@ fn settle(
     ensures printable { (changes : List Change) → Stands held.old.directory changes → AreFit held.old.directory.schema.value changes → bound.now ≡ statement.SegmentReport → IsPrintableReply held.old.directory.schema.value result }
     ensures short { outcome ≡ Outcome.Short → result ≡ Reply.Refused Refusal.Memory }
     ensures given { (given : Reply) → outcome ≡ Outcome.Answer given → result ≡ spec.told (settings_of held.old.settings session) given }
+    ensures left { (groups : List (ℕ × Actor)) → result ≡ Reply.Left groups → outcome ≡ Outcome.Left groups }
+    ensures tells { (groups : List (ℕ × Actor)) → outcome ≡ Outcome.Left groups → result ≡ Reply.Left groups }
 {
     match outcome {
         Outcome::Nothing => plain(alloc, held, session, bound),
@@ -267,6 +276,7 @@ fn settle(
             parcel,
         } => wrote(alloc, held, session, writes, present, affected, parcel),
         Outcome::Commit(parcel) => unwind(held, session, parcel),
+        Outcome::Left(groups) => Reply::Left(groups),
         Outcome::Short => refuse(held, session, Refusal::Memory),
     }
 }
@@ -280,6 +290,8 @@ pub fn finish(alloc: Global, held: &mut CoreState, session: u32, outcome: Outcom
     ensures printable { (changes : List Change) → Stands held.old.directory changes → AreFit held.old.directory.schema.value changes → halves_of held.old.halves session ≡ Some (record { bound = statement.SegmentReport; short = false }) → IsPrintableReply held.old.directory.schema.value result }
     ensures short { outcome ≡ Outcome.Short → result ≡ Reply.Refused Refusal.Memory }
     ensures given { (given : Reply) → outcome ≡ Outcome.Answer given → result ≡ spec.told (settings_of held.old.settings session) given }
+    ensures left { (groups : List (ℕ × Actor)) → result ≡ Reply.Left groups → outcome ≡ Outcome.Left groups }
+    ensures tells { (groups : List (ℕ × Actor)) → outcome ≡ Outcome.Left groups → result ≡ Reply.Left groups }
 {
     match set_half(held, session, None) {
         Some(half) => settle(alloc, held, session, &half.bound, outcome),

@@ -1,5 +1,5 @@
 //! The transactional core: up to 64 sessions over one table, under SNAPSHOT isolation, with statements half done, and movers that
-//! work on its row groups.
+//! work on its row groups, as a session does in a REORGANIZE.
 //!
 //! Its one contract: each call of `Core` adds one event, or none, to a log that stays legal by the row model of `cs_model`, from
 //! the empty state on, and that the row groups follow, from the empty book on. The work of a statement or of a claim is done

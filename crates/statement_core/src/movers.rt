@@ -5,12 +5,12 @@ ghost use Rattle.cs_model.specs.declared.work.Actor.{Actor};
 ghost use Rattle.cs_model.specs.Changes.{Change};
 ghost use Rattle.cs_model.specs.Floors.{IsFloor};
 ghost use Rattle.txn_table.specs.Txns.{txn_of, snapshots_in};
-ghost use Rattle.group_book.specs.Book.{Book};
+ghost use Rattle.group_book.specs.Book.{Book, is_opened};
 ghost use Rattle.group_book.specs.Book.Choice.{Flush};
 ghost use Rattle.group_book.specs.Choices as spec;
-ghost use Rattle.group_book.specs.Choices.{choice, choice_work, flushable, id_in};
+ghost use Rattle.group_book.specs.Choices.{choice, choice_work, flushable, id_in, lowest};
 ghost use Rattle.group_book.specs.Invariant.{makes_group};
-ghost use Rattle.group_book.specs.Turns.{claim_by, made_of};
+ghost use Rattle.group_book.specs.Turns.{after_close, claim_by, made_of};
 ghost use Rattle.group_directory.specs.Stands.{Stands};
 ghost use Rattle.group_view.specs.declared.claim.Claim.{Claim};
 ghost use Rattle.group_view.specs.Books.{choice_of, claim_of};
@@ -165,4 +165,18 @@ pub fn claim(held: &mut CoreState, actor: Actor) -> (Turned, Option<Work>)
         Ok(Claimed::Nothing) => (Turned::Idle, None),
         Err(_) => (Turned::Short, Some(Work::Memory)),
     }
+}
+
+/// Closes the open store, and answers its id; None, with nothing changed, where no store is open.
+pub fn close_opened(held: &mut CoreState) -> Option<u64>
+    requires stands { (changes : List Change) × Stands held.old.directory changes }
+    ensures closed { result ≡ lowest (λ group. is_opened group.content) (groups_of held.old).groups }
+    ensures book { groups_of held.new ≡ after_close (groups_of held.old) }
+    ensures state { (changes : List Change) → state_of changes held.new ≡ state_of changes held.old }
+    ensures claims { claims_of held.new ≡ claims_of held.old }
+    ensures sizes { held.new.directory.sizes ≡ held.old.directory.sizes }
+    ensures schema { held.new.directory.schema ≡ held.old.directory.schema }
+    ensures stands { (changes : List Change) → Stands held.old.directory changes → Stands held.new.directory changes }
+{
+    held.directory.close_opened()
 }

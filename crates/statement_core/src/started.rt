@@ -1,17 +1,18 @@
 // A statement that was started, and what its work gives.
-ghost use Rattle.std.specs.Prelude.{IfOk};
-ghost use Rattle.std.specs.Thread.{IsSync};
+ghost use Rattle.std.specs.Prelude.{◌≡◌, IfOk};
 ghost use Rattle.group_book.specs.Commits.{Sizes};
 ghost use Rattle.group_view.specs.Claims.{IsMendable, IsProductOf};
 ghost use Rattle.log_laws.specs.Started.{Begun};
 ghost use Rattle.statement_core.specs.Begun.{Hands, MayWork};
 ghost use Rattle.statement_core.specs.Counted.{AreCountsOf};
-ghost use Rattle.statement_core.specs.Outcomes.{GivesOn};
+ghost use Rattle.statement_core.specs.Outcomes.{GivesOn, IsOfDesk};
+ghost use Rattle.statement_core.specs.Reorganizes.{reorganizes};
 ghost use Rattle.statement_core.specs.Terms.{sizes_of, AreTerms};
 
-use cs_base::Memory;
-use cs_model::{Bound, Reply};
+use cs_base::{Items, Memory};
+use cs_model::{Actor, Bound, Reply};
 use cs_types::{Key, Schema};
+use group_directory::Ledger;
 use group_view::{Claim, Parcel, Pinned, Product};
 use std::alloc::Global;
 use std::sync::{Arc, Wait};
@@ -42,12 +43,26 @@ pub struct Started {
     /// Whether the statement's transaction is an implicit one, which ends with it.
     pub implicit: bool,
     pub terms: Arc<Terms>,
+    /// The groups by their counts at the Start of a REORGANIZE. None for another statement.
+    pub ledger: Option<Ledger>,
+}
+
+impl Started {
+    /// Whether the statement is a REORGANIZE, and then whether it closes the open store.
+    pub fn reorganizes(&self) -> Option<bool>
+        ensures { result ≡ reorganizes self.now.bound.value }
+    {
+        match &*self.bound {
+            Bound::Reorganize { all } => Some(*all),
+            _ => None,
+        }
+    }
 }
 
 /// What the work between a Start and its Finish gives.
 #[derive(Drop)]
 pub enum Outcome {
-    /// There is nothing to do before the Finish: the statement is none of the table and no COMMIT.
+    /// There is nothing for a desk to do before the Finish: the statement is none of the table and no COMMIT.
     Nothing,
     /// The reply: the answer of a query, with the counts of segments that its scan read and skipped, or the first value refusal of
     /// a write.
@@ -65,6 +80,9 @@ pub enum Outcome {
     },
     /// The rows of the own writes as a commit takes them, for a COMMIT.
     Commit(Parcel),
+    /// What a REORGANIZE left: of the stores that were closed at its Start, or that it closed, those that another actor held at its
+    /// last look, by id, each with that actor. No desk gives this.
+    Left(Items<(u64, Actor)>),
     /// Memory was not there.
     Short,
 }
@@ -73,12 +91,12 @@ pub enum Outcome {
 pub trait Desk: Sync {
     /// The outcome of a statement that was started, over what it reads. It may start threads that do parts of the work, and wait for
     /// them.
-    fn work<R: Threads + Wait + Sync>(&self, rt: &R, alloc: Global, started: &Started) -> Outcome
-        requires shared { IsSync R.row }
+    fn work<R: Threads + Wait>(&self, rt: &R, alloc: Global, started: &Started) -> Outcome
         requires terms { AreTerms started.now.terms.value }
         requires begun { (begun : Begun) × Hands begun started.now × MayWork begun }
         ensures gives { (begun : Begun) → Hands begun started.now → MayWork begun → GivesOn (sizes_of started.now.terms.value) begun result }
-        ensures counted { AreCountsOf started.now result };
+        ensures counted { AreCountsOf started.now result }
+        ensures worked { IsOfDesk result };
 
     /// The product of the work on a claim that a core has lent: a new group, or new bitmaps. `Memory` where there is no room for
     /// it.

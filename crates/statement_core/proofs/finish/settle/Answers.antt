@@ -1,12 +1,16 @@
-use Rattle.std.proofs.Common.{◌≡◌, ◌∙◌, ap, sym, subst}
+use Rattle.std.proofs.Common.{◌≡◌, ◌∙◌, refl, ap, sym, subst}
 use Rattle.cs_types.specs.declared.Schema.{Schema}
+use Rattle.cs_model.specs.declared.entry.Bound.TheVariants as bound
 use Rattle.group_log.specs.Followed.{ShowsBook}
 use Rattle.statement_core.specs.declared.started.Outcome.TheVariants as outcome
-use Rattle.statement_core.specs.CoreState.{groups_of, settings_of}
+use Rattle.statement_core.specs.CoreState.{groups_of, settings_of, state_of}
 use Rattle.statement_core.specs.Outcomes.{told}
 use Rattle.statement_core.specs.Settled.{Ends, IsDoneAt}
+use Rattle.statement_core.proofs.Decided.{write_of_table}
 use Rattle.statement_core.proofs.Ending.{ends_settled}
-use Rattle.statement_core.proofs.Finishing.{never_short, none_of_table, needs_none_of, is_commit, with_outcome, answered_ends, writing_of}
+use Rattle.statement_core.proofs.Finishing.{never_short, none_of_table, needs_none_of, is_commit, left_ends, over_of, with_outcome, answered_ends, writing_of}
+use Rattle.statement_core.proofs.Leaving.{settled_never, never_left}
+use Rattle.statement_core.proofs.Reorganizes.{table_other}
 use Rattle.statement_core.proofs.finish.settle.Goals as goal
 
 pub returns-in-Nothing-clause-ends : goal.returns-in-Nothing-clause-ends
@@ -18,6 +22,22 @@ returns-in-Nothing-clause-ends c = λ begin changes short d.
     ends_settled begin.schema changes held c.plain.new.held c.args.session b short c.plain.result (still.stands changes d.stands) still.same
     (never_short b short d.why (none_of_table b (needs_none_of begin changes held c.args.session b short d')))
     (λ k. subst (λ (s : Schema). ShowsBook s changes (groups_of held) c.plain.result) d.schema (c.plain.ensures.shows changes d.stands k)) (c.plain.ensures.settles begin.schema changes)
+
+pub returns-in-Nothing-clause-left : goal.returns-in-Nothing-clause-left
+returns-in-Nothing-clause-left c = λ groups is.
+    let done = c.requires.done in
+    let begin = done.0 in
+    let changes = done.1 in
+    let held = c.args.held.now in
+    let b = c.args.bound.now in
+    let other = over_of begin changes held c.args.session b done.2 (with_outcome begin changes held c.args.session b done.2 c.args.outcome outcome.Nothing c.in-Nothing.is done.3) in
+    let settles = c.plain.ensures.settles begin.schema changes in
+    absurd (settled_never groups begin.schema (state_of changes held) c.args.session b c.plain.result other settles.reply is)
+
+pub plain-requires-clause-over : goal.plain-requires-clause-over
+plain-requires-clause-over c =
+    let done = c.requires.done in
+    over_of done.0 done.1 c.args.held.now c.args.session c.args.bound.now done.2 (with_outcome done.0 done.1 c.args.held.now c.args.session c.args.bound.now done.2 c.args.outcome outcome.Nothing c.in-Nothing.is done.3)
 
 pub returns-in-Answer-clause-ends : goal.returns-in-Answer-clause-ends
 returns-in-Answer-clause-ends c = λ begin changes short d.
@@ -43,6 +63,18 @@ returns-in-Writes-clause-ends c = λ begin changes short d.
     let d' = with_outcome begin changes held c.args.session b short c.args.outcome (outcome.Writes x.writes x.present x.affected x.parcel) x.is d in
     c.wrote.ensures begin changes b short (writing_of begin changes held c.args.session b short x.writes x.present x.affected x.parcel d')
 
+pub returns-in-Writes-clause-left : goal.returns-in-Writes-clause-left
+returns-in-Writes-clause-left c = λ groups is.
+    let done = c.requires.done in
+    let begin = done.0 in
+    let changes = done.1 in
+    let held = c.args.held.now in
+    let b = c.args.bound.now in
+    let x = c.in-Writes in
+    let d' = with_outcome begin changes held c.args.session b done.2 c.args.outcome (outcome.Writes x.writes x.present x.affected x.parcel) x.is done.3 in
+    let w = writing_of begin changes held c.args.session b done.2 x.writes x.present x.affected x.parcel d' in
+    absurd (never_left groups begin.schema changes held c.args.session b done.2 c.wrote.result c.wrote.new.held (c.wrote.ensures begin changes b done.2 w) (table_other b (write_of_table b w.writes)) is)
+
 pub returns-in-Commit-clause-ends : goal.returns-in-Commit-clause-ends
 returns-in-Commit-clause-ends c = λ begin changes short d.
     let held = c.args.held.now in
@@ -51,3 +83,23 @@ returns-in-Commit-clause-ends c = λ begin changes short d.
     let is = is_commit begin changes held c.args.session b short c.in-Commit.parcel d' in
     subst (λ x. Ends begin.schema changes held c.args.session x short c.unwind.result c.unwind.new.held) (sym is)
     (c.unwind.ensures begin changes short (subst (λ x. IsDoneAt begin changes held c.args.session x short (outcome.Commit c.in-Commit.parcel)) is d'))
+
+pub returns-in-Left-clause-ends : goal.returns-in-Left-clause-ends
+returns-in-Left-clause-ends c = λ begin changes short d.
+    let held = c.args.held.now in
+    let b = c.args.bound.now in
+    let groups = c.in-Left.groups in
+    let d' = with_outcome begin changes held c.args.session b short c.args.outcome (outcome.Left groups) c.in-Left.is d in
+    left_ends begin changes held c.args.session b short groups d'
+
+pub returns-in-Commit-clause-left : goal.returns-in-Commit-clause-left
+returns-in-Commit-clause-left c = λ groups is.
+    let done = c.requires.done in
+    let begin = done.0 in
+    let changes = done.1 in
+    let held = c.args.held.now in
+    let b = c.args.bound.now in
+    let d' = with_outcome begin changes held c.args.session b done.2 c.args.outcome (outcome.Commit c.in-Commit.parcel) c.in-Commit.is done.3 in
+    let commit = is_commit begin changes held c.args.session b done.2 c.in-Commit.parcel d' in
+    absurd (never_left groups begin.schema changes held c.args.session bound.Commit done.2 c.unwind.result c.unwind.new.held
+    (c.unwind.ensures begin changes done.2 (subst (λ x. IsDoneAt begin changes held c.args.session x done.2 (outcome.Commit c.in-Commit.parcel)) commit d')) refl is)

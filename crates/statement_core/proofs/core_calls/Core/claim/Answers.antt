@@ -15,9 +15,11 @@ use Rattle.statement_core.specs.CoreValue.{CoreValue}
 use Rattle.statement_core.specs.CoreState.{groups_of, claims_of}
 use Rattle.statement_core.specs.Fit.{AreFitting}
 use Rattle.statement_core.specs.Movers.{GivesTurn, IsFirstOf}
+use Rattle.statement_core.specs.Terms.{sizes_of}
 use Rattle.statement_core.specs.Turns.{TurnsTo}
 use Rattle.statement_core.proofs.Going.{going_stays}
 use Rattle.statement_core.proofs.Keeping.{core_same}
+use Rattle.statement_core.proofs.Reorganizes.{begin_may, first_begins}
 use Rattle.statement_core.proofs.Turns.{core_worked, first_none, first_works, free_in_book, turn_told, turned_claims}
 use Rattle.statement_core.proofs.core_calls.Core.claim.Goals as goal
 use Rattle.statement_core.proofs.core_calls.Core.claim.Goals.{in-Some, in_default}
@@ -45,7 +47,10 @@ invariant_of-self-in-Some c =
     let turned = gives.turned i.changes j (subst IsSchema (sym i.schema) i.table) (subst (λ (s : Schema). AreFitting s i.changes) (sym i.schema) fits.changes) in
     let more = turned_claims actor (claims_of old) (claims_of new) given turned in
     rw (c.push_reserved.ensures.items, c.in_ok-reserve.ensures.items) (
-      core_worked made old inside.log.items _ inside.sessions.items i new _ actor w c.requires.mover (gives.stands i.changes j) gives.sizes gives.schema (gives.state i.changes)
+      core_worked made old inside.log.items _ inside.sessions.items i new _ actor w
+          (begin_may (ground_of made.schema.value (sizes_of made)) inside.log.items actor w (rw (← c.self.view_is) at c.requires.may)
+          (first_begins (choice j.floor old.directory.sizes.group_rows actor (groups_of old)) j.floor (groups_of old) given w first.0))
+          (gives.stands i.changes j) gives.sizes gives.schema (gives.state i.changes)
           (first_works (directory_sizes old.directory) j.floor actor (groups_of old) (groups_of new) given w none first)
           (omega (arith, most, few, more, c.len-claims.ensures, c.push_reserved.ensures.capacity, c.in_ok-reserve.ensures.ok)),
       c.self.invariant.1 ∙ sym (going_stays inside.sessions.items inside.log.items (Mover actor w) refl),

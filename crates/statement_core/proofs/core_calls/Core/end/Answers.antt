@@ -57,7 +57,7 @@ invariant_of-self c =
     let was = c.self.invariant.1 in
     rw c.push_reserved.ensures.items (
       core_push made inside.held c.end.new.held inside.log.items _ _ inside.sessions.items (End c.args.session) i i.changes (still.stands i.changes i.stands) same.sizes same.schema step same.groups
-          (subst (IsFitState schema) (sym step.1) (fit_gone schema (state_of i.changes inside.held) c.args.session i.fit)) tt tt
+          (subst (IsFitState schema) (sym step.1) (fit_gone schema (state_of i.changes inside.held) c.args.session i.fit)) tt tt tt
           (omega (arith, less, room, cap, ap length same.claims)),
       omega (arith, fewer, was),
     )

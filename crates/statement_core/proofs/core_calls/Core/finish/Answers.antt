@@ -1,4 +1,4 @@
-use Rattle.std.proofs.Common.{◌≡◌, arith, length, sym, subst, ◌∙◌, ap, false, Some, refl}
+use Rattle.std.proofs.Common.{◌≡◌, ◌++◌, ◌∷◌, [], arith, length, sym, subst, ◌∙◌, ap, false, Some, refl}
 use Rattle.cs_types.specs.declared.Schema.{Schema}
 use Rattle.cs_types.specs.Schemas.{IsSchema}
 use Rattle.cs_model.specs.declared.entry.Bound.TheVariants.{SegmentReport}
@@ -6,6 +6,7 @@ use Rattle.cs_model.specs.Held.{AreFit}
 use Rattle.cs_model.specs.Kinds.{is_of_table}
 use Rattle.cs_model.specs.Text.{IsPrintableReply}
 use Rattle.cs_model.specs.declared.entry.Entry.TheVariants.{Finish}
+use Rattle.cs_model.specs.declared.work.Actor.TheVariants.{Session}
 use Rattle.cs_model.specs.State.{begin_of, Half}
 use Rattle.cs_model.specs.Steps.{IsFinish}
 use Rattle.log_laws.proofs.Beginnings.{may_begin}
@@ -25,6 +26,8 @@ use Rattle.statement_core.proofs.Finishing.{never_short, done_of}
 use Rattle.statement_core.proofs.Fits.{fits_after, prints_after}
 use Rattle.statement_core.proofs.Reports.{changes_fit}
 use Rattle.statement_core.proofs.Keeping.{core_legal, within, ready_at, core_push}
+use Rattle.statement_core.proofs.Leaving.{leaving, told_by}
+use Rattle.statement_core.proofs.Turns.{free_in_book}
 use Rattle.statement_core.proofs.core_calls.Core.finish.Goals as goal
 
 report_half : (half : Half) → half.bound ≡ SegmentReport → half.short ≡ false → half ≡ record { bound = SegmentReport; short = false }
@@ -59,6 +62,15 @@ push_reserved-requires c =
     let room = i.room in
     omega (arith, less, room, inside.log.ok.0)
 
+pub returns-clause-log : goal.returns-clause-log
+returns-clause-log c =
+    let r = c.finish-reply.result in
+    let tells = c.finish-reply.ensures in (
+      r,
+      c.push_reserved.ensures.items ∙ ap (λ (v : CoreValue). v.log ++ Finish c.args.session r ∷ []) c.self.view_is,
+      told_by c.args.outcome r tells.left tells.tells tells.short,
+    )
+
 pub returns-clause-claims : goal.returns-clause-claims
 returns-clause-claims c =
     let inside = c.self.inside in
@@ -81,6 +93,8 @@ invariant_of-self c =
     let known = rw (← c.self.view_is) at c.requires.known in
     let done = rw (← c.self.view_is) at c.requires.outcome in
     let counts = rw (← c.self.view_is) at c.requires.counts in
+    let left = rw (← c.self.view_is) at c.requires.left in
+    let free = free_in_book old.directory (Session s) (rw (← c.self.view_is) at c.requires.free) in
     let legal = core_legal made old inside.log.items _ inside.sessions.items i in
     let shows = done.started (state_of i.changes old) legal in
     let begun = shows_begun (begin_of schema) inside.log.items (state_of i.changes old) s done.begun (may_begin schema) legal shows in
@@ -94,7 +108,7 @@ invariant_of-self c =
     let x = subst (λ h. IsFinish schema (state_of i.changes old) s h r (state_of f.later new)) shows.half f.step in
     let fit = i.fit in
     let bound_ready = subst (IsReadyHalf schema) shows.half (fit.halves s) in
-    let moves = subst (λ (sizes : Sizes). Finishes (record { begin = begin_of schema; sizes = sizes; book = empty }) (state_of i.changes old) (groups_of old) s r (state_of f.later new) (groups_of new)) i.sizes (f.moves empty) in
+    let moves = subst (λ (sizes : Sizes). Finishes (record { begin = begin_of schema; sizes = sizes; book = empty }) (state_of i.changes old) (groups_of old) s r (state_of f.later new) (groups_of new)) i.sizes (f.moves empty free) in
     let segments = λ (e : done.begun.bound ≡ SegmentReport).
     let found : done.begun.short ≡ false = never_short done.begun.bound done.begun.short bound_ready.1 (ap is_of_table e) in
     let report : Some half ≡ Some (record { bound = SegmentReport; short = false }) = (λ k. Some (report_half half e found k)) in
@@ -105,6 +119,7 @@ invariant_of-self c =
           (fits_after (begin_of schema) i.changes old s half r shows.half c.args.outcome at c.finish-reply.ensures.short c.finish-reply.ensures.given (state_of f.later new) x fit)
           (prints_after (begin_of schema) i.changes old s half r shows.half c.args.outcome at c.finish-reply.ensures.short c.finish-reply.ensures.given (state_of f.later new) x bound_ready.0 segments)
           (tells_after (begin_of schema) i.changes old s half r (AreCountsAt (ground_of schema (sizes_of made)) inside.log.items s) c.args.outcome at c.finish-reply.ensures.short c.finish-reply.ensures.given counts (state_of f.later new) x)
+          (leaving (ground_of schema (sizes_of made)) inside.log.items s c.args.outcome r c.finish-reply.ensures.left left)
           (omega (arith, less, room, cap, ap length f.claims)),
       c.self.invariant.1 ∙ sym (going_stays inside.sessions.items inside.log.items (Finish s r) refl),
     )

@@ -3,6 +3,7 @@ use Rattle.cs_model.specs.State.{begin_of}
 use Rattle.cs_model.specs.Steps.{Legal}
 use Rattle.group_log.specs.Counted.{IsCounted}
 use Rattle.group_log.specs.Followed.{ground_of, Followed}
+use Rattle.group_log.specs.Reorganizing.{IsReorganized}
 use Rattle.statement_core.specs.CoreValue.{CoreValue}
 use Rattle.statement_core.specs.CoreState.{state_of, groups_of}
 use Rattle.statement_core.specs.Turns.{HasAllClaims}
@@ -26,6 +27,11 @@ pub returns-clause-counted : goal.returns-clause-counted
 returns-clause-counted c =
     let i = c.self.invariant.0 in
     subst (λ (v : CoreValue). IsCounted (ground_of v.schema v.sizes) v.log) c.self.view_is i.counted
+
+pub returns-clause-reorganized : goal.returns-clause-reorganized
+returns-clause-reorganized c =
+    let i = c.self.invariant.0 in
+    subst (λ (v : CoreValue). IsReorganized (ground_of v.schema v.sizes) v.log) c.self.view_is i.reorganized
 
 pub returns-clause-claims : goal.returns-clause-claims
 returns-clause-claims c =

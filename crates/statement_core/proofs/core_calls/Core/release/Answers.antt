@@ -6,15 +6,17 @@ use Rattle.group_book.specs.Book as book
 use Rattle.group_book.specs.Choices.{release_work}
 use Rattle.group_log.specs.Followed.{ground_of}
 use Rattle.group_view.specs.declared.claim.Claim.{Claim}
-use Rattle.group_view.specs.Books.{choice_of, book_of}
+use Rattle.group_view.specs.Books.{choice_of, claim_of, book_of}
 use Rattle.group_directory.specs.declared.directory.Directory.{Directory}
 use Rattle.group_directory.specs.Installing.{held_by}
 use Rattle.group_directory.specs.Laws.{sizes_of as directory_sizes}
 use Rattle.statement_core.specs.declared.core_state.CoreState.{CoreState}
 use Rattle.statement_core.specs.CoreValue.{CoreValue}
 use Rattle.statement_core.specs.Movers.{IsOfWork}
+use Rattle.statement_core.specs.Terms.{sizes_of}
 use Rattle.statement_core.specs.Turns.{EndsBy}
 use Rattle.statement_core.proofs.Going.{going_stays}
+use Rattle.statement_core.proofs.Reorganizes.{release_may}
 use Rattle.statement_core.proofs.Turns.{fewer_claims, state_listed, core_worked, held_found, held_in_book, held_release, held_work, works_release, turn_ended}
 use Rattle.statement_core.proofs.core_calls.Core.release.Goals as goal
 
@@ -61,7 +63,9 @@ invariant_of-self c =
     let room = i.room in
     let cap = c.push_reserved.ensures.capacity in
     rw c.push_reserved.ensures.items (
-      core_worked inside.terms.value old inside.log.items _ inside.sessions.items i new _ actor w c.requires.mover (gives.stands i.changes j) (ap (λ (x : Directory). x.sizes) gives.rest) (ap (λ (x : Directory). x.schema) gives.rest)
+      core_worked inside.terms.value old inside.log.items _ inside.sessions.items i new _ actor w
+          (release_may (ground_of inside.terms.value.schema.value (sizes_of inside.terms.value)) inside.log.items actor (choice_of kept.0.1.choice) (claim_of kept.0) w (rw (← c.self.view_is) at c.requires.may) is_work)
+          (gives.stands i.changes j) (ap (λ (x : Directory). x.sizes) gives.rest) (ap (λ (x : Directory). x.schema) gives.rest)
           (state_listed i.changes old d gives.rest) (works_release old.directory i.changes j actor kept.0 kept.1 (directory_sizes old.directory) j.floor w (book_of d.list) is_work gives.book)
           (omega (arith, fewer, less, room, cap)),
       c.self.invariant.1 ∙ sym (going_stays inside.sessions.items inside.log.items (Mover actor w) refl),

@@ -16,10 +16,12 @@ use Rattle.group_log.proofs.Counting.{begun_first}
 use Rattle.statement_core.specs.declared.started.Terms.{Terms}
 use Rattle.statement_core.specs.CoreState.{state_of, groups_of}
 use Rattle.statement_core.specs.Fit.{IsFitState}
+use Rattle.statement_core.specs.Reorganizes.{reorganizes, HasLedger, IsLedgerFor}
 use Rattle.statement_core.specs.Terms.{sizes_of}
 use Rattle.statement_core.proofs.Going.{going_stays}
 use Rattle.statement_core.proofs.Fitting.{started_fits}
 use Rattle.statement_core.proofs.Keeping.{core_legal, core_sound, within, core_push}
+use Rattle.statement_core.proofs.Reorganizes.{ledger_begun}
 use Rattle.statement_core.proofs.Working.{may_work}
 use Rattle.statement_core.proofs.core_calls.Core.start.Goals as goal
 
@@ -58,7 +60,7 @@ invariant_of-self-2 c =
     let kept = still.same in
     rw (c.push_reserved.ensures.items, c.in_ok-reserve.ensures.items) (
       core_push made old new inside.log.items _ _ inside.sessions.items (Start s shared taken.short) i i.changes (still.stands i.changes i.stands) kept.sizes kept.schema step kept.groups
-          (subst (IsFitState schema) (sym starts.state) (started_fits schema m s t.begun.bound t.begun.short i.fit is_ready starts.why)) tt tt
+          (subst (IsFitState schema) (sym starts.state) (started_fits schema m s t.begun.bound t.begun.short i.fit is_ready starts.why)) tt tt tt
           (omega (arith, more, most, few, ap length kept.claims, c.push_reserved.ensures.capacity, c.in_ok-reserve.ensures.ok, inside.log.ok.0)),
       c.self.invariant.1 ∙ sym (going_stays inside.sessions.items inside.log.items (Start s shared taken.short) refl),
     )
@@ -130,3 +132,23 @@ returns-clause-counts c =
           (begun_first origin inside.log.items s shared taken.short (state_of i.changes old) (groups_of old) i.followed));
       has = λ on_table found. t.counts (ap is_of_table is ∙ on_table) (sym t.short ∙ found);
     }
+
+pub returns-clause-ledger : goal.returns-clause-ledger
+returns-clause-ledger c =
+    let inside = c.self.inside in
+    let i = c.self.invariant.0 in
+    let made = inside.terms.value in
+    let schema = made.schema.value in
+    let origin = ground_of schema (sizes_of made) in
+    let old = inside.held in
+    let m = state_of i.changes old in
+    let s = c.args.session in
+    let shared = c.in_ok-in_log.in_log in
+    let bound = c.in-Ok.bound in
+    let taken = c.in_ok-taken.taken in
+    let t = c.in_ok-taken.ensures.ok (begin_of schema) i.changes i.stands i.schema in
+    let log = c.push_reserved.ensures.items ∙ ap (λ items. items ++ Start s shared taken.short ∷ []) c.in_ok-reserve.ensures.items in
+    subst (λ l. HasLedger origin l s (reorganizes bound.value) taken.ledger) (sym log)
+    (subst (λ b. HasLedger origin (inside.log.items ++ Start s shared taken.short ∷ []) s (reorganizes b) taken.ledger) c.in_ok-in_log.ensures
+    (ledger_begun origin (inside.log.items ++ Start s shared taken.short ∷ []) s shared.value m (groups_of old) (begun_first origin inside.log.items s shared taken.short m (groups_of old) i.followed) taken.ledger refl
+    (subst (λ b. IsLedgerFor (groups_of old) (reorganizes b) taken.ledger) (c.in_ok-in_half.ensures ∙ sym c.in_ok-in_log.ensures) t.ledger)))
