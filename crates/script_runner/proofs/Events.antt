@@ -67,7 +67,7 @@ turn_piece origin now log mid new mover same x y = (
 )
 
 pub waits_begins : (origin : Ground) (sizes : Sizes) (begin : Begin) (log new : List Entry) (mover : ℕ) (waiting : ℕ → Option Started) → Waits sizes begin log waiting → Begins origin log new mover → Waits sizes begin new waiting
-waits_begins origin sizes begin log new mover waiting waits x = waits_works sizes begin log new x.0 waiting waits x.1 (begins_works origin log (Mover mover) x.0 x.2)
+waits_begins origin sizes begin log new mover waiting waits x = waits_works sizes begin log new x.0 waiting waits x.1 (begins_works origin log mover x.0 x.2)
 
 pub waits_ends : (origin : Ground) (sizes : Sizes) (begin : Begin) (log new : List Entry) (mover : ℕ) (waiting : ℕ → Option Started) → Waits sizes begin log waiting → Ends origin log new mover → Waits sizes begin new waiting
-waits_ends origin sizes begin log new mover waiting waits x = waits_works sizes begin log new x.0 waiting waits x.1 (ends_works origin log (Mover mover) x.0 x.2)
+waits_ends origin sizes begin log new mover waiting waits x = waits_works sizes begin log new x.0 waiting waits x.1 (ends_works origin log mover x.0 x.2)

@@ -1,14 +1,19 @@
 -- What the definitions of logs and schedules say, at examples.
-use Rattle.std.proofs.Common.{◌≡◌, ◌≤◌, ℕ, List, [], ◌∷◌, ◌++◌, length, map, take, drop, refl, sym, ap, subst, Bool, false, inl, inr, arith, length-append, Global}
+use Rattle.std.proofs.Common.{◌≡◌, ◌≤◌, ℕ, List, [], ◌∷◌, ◌++◌, length, map, take, drop, refl, sym, ap, subst, Bool, true, false, inl, inr, arith, length-append, Global}
 use Rattle.std.proofs.lemmas.List.{append-nil, map-append, take-append-drop, take_all}
 use Rattle.std.proofs.Common.{append_assoc, ◌∙◌}
-use Rattle.std.specs.Prelude.{None}
+use Rattle.std.specs.Prelude.{All, filter, None, IsPermutation}
+use Rattle.std.proofs.lemmas.List.Elements.{All-nil, All-append}
+use Rattle.std.proofs.lemmas.List.Sorted.{IsNonDecreasingBy-short, IsPermutation-refl}
 use Rattle.std.specs.declared.sync.Arc.{Arc}
 use Rattle.cs_model.specs.declared.work.Actor.{Actor}
 use Rattle.cs_model.specs.declared.work.Actor.TheVariants as actor
 use Rattle.cs_model.specs.declared.work.Work.{Work}
+use Rattle.cs_model.specs.declared.work.Work.TheVariants as work
 use Rattle.cs_model.specs.declared.entry.Bound.{Bound}
+use Rattle.cs_model.specs.declared.entry.Bound.TheVariants.{Reorganize}
 use Rattle.cs_model.specs.declared.entry.Reply.{Reply}
+use Rattle.cs_model.specs.declared.entry.Reply.TheVariants.{Left}
 use Rattle.cs_model.specs.declared.entry.Entry.{Entry}
 use Rattle.cs_model.specs.declared.entry.Entry.TheVariants.{Start, Finish, End, Mover}
 use Rattle.cs_model.specs.Actors.{turns_of}
@@ -18,7 +23,8 @@ use Rattle.group_book.specs.Book.{Book, empty}
 use Rattle.group_book.specs.Choices.{choice, choice_work}
 use Rattle.group_book.specs.Commits.{Sizes}
 use Rattle.group_book.specs.Turns.{claim_by}
-use Rattle.group_log.specs.Followed.{Ground, ground_of, Followed}
+use Rattle.group_log.specs.Followed.{Ground, ground_of, Followed, Moment}
+use Rattle.group_log.specs.Reorganizing.{closed_ids, held_groups, is_kept, works_of, AreLeft, AreReorganizedAfter, IsHalfDone, IsIdle, IsReorganized, LeavesFrom}
 use Rattle.cs_types.specs.declared.Schema.{Schema}
 use Rattle.script_reader.specs.declared.script.Script.{Script}
 use Rattle.script_reader.specs.declared.script.Step.TheVariants.{Whole, Finished, Turn, Claiming, Installing}
@@ -26,10 +32,13 @@ use Rattle.script_reader.specs.Scripts.{IsRunnable}
 use Rattle.script_runner.specs.Running.{MayRun}
 use Rattle.group_log.specs.Counted.{AreCountedAfter, IsCounted}
 use Rattle.script_turns.specs.Turns.{Turns, IsBoundAfter, IsFinishOf, AreTurns, AreMeant}
-use Rattle.script_runner.specs.Schedule.{AreMoves, IsPiece, ArePieces}
+use Rattle.script_runner.specs.Schedule.{AreMoves, IsFinishing, IsPiece, IsOwnWork, ArePieces}
 use Rattle.script_runner.specs.Logs.{IsLogOf, IsMadeOf}
 use Rattle.statement_core.specs.CoreValue.{CoreValue}
-use Rattle.statement_core.specs.Turns.{Moment, BeginsTurn, EndsTurn, IsFirst}
+use Rattle.statement_core.specs.Reorganizes.{IsNoneLeft}
+use Rattle.statement_core.specs.Turns.{BeginsTurn, EndsTurn, IsFirst}
+use Rattle.script_runner.proofs.Giving.{none_tells}
+use Rattle.script_runner.proofs.Moving.{own_one}
 use Rattle.script_runner.proofs.Turning.{has_turns, has_front_turns, turns_cut}
 
 -- a run that stopped before its first line has made no step
@@ -37,33 +46,42 @@ none_made : (sizes : Sizes) (script : Script) → IsRunnable script → IsMadeOf
 none_made sizes script can = inr (record {
   lines = 0;
   ended = 0;
-  history = record { state = start; book = empty; followed = (refl, refl); counted = tt; turns = has_front_turns sizes script 0 [] can refl };
+  history = record { state = start; book = empty; followed = (refl, refl); counted = tt; reorganized = tt; turns = has_front_turns sizes script 0 [] can refl };
   last = λ some. absurd (omega (arith, some));
   events = [];
   pieces = refl;
   ends = refl;
 })
 
+-- a Finish without moves, which tells of none
+no_moves : (origin : Ground) (before : List Entry) (session : ℕ) (reply : Reply) → IsNoneLeft reply → IsFinishing origin before session (Finish session reply ∷ [])
+no_moves origin before session reply none = ([], Finish session reply, refl, record { own = All-nil (IsOwnWork session); told = none_tells origin before session [] reply refl none }, refl)
+
 -- a script of one statement of session 1
 abbrev one_line : Schema → List ℕ → Script
 one_line schema text = record { schema = schema; lines = Whole 1 text ∷ []; sessions = 1 ∷ [] }
 
-module _ (sizes : Sizes) (schema : Schema) (text : List ℕ) (can : IsRunnable (one_line schema text)) (bound : Arc Bound Global) (means : IsBoundAfter (begin_of schema) [] text bound.value) (reply : Reply) (m : State) (book : Book) where
+module _ (sizes : Sizes) (schema : Schema) (text : List ℕ) (can : IsRunnable (one_line schema text)) (bound : Arc Bound Global) (means : IsBoundAfter (begin_of schema) [] text bound.value) (reply : Reply) (none : IsNoneLeft reply) (m : State) (book : Book) where
   -- its whole log, which is the log of a run also where the text of it found no room
   whole_made : Followed (ground_of schema sizes) (Start 1 bound false ∷ Finish 1 reply ∷ End 1 ∷ []) m book → IsCounted (ground_of schema sizes) (Start 1 bound false ∷ Finish 1 reply ∷ End 1 ∷ [])
-      → IsMadeOf (ground_of schema sizes) (one_line schema text) (Start 1 bound false ∷ Finish 1 reply ∷ End 1 ∷ [])
-  whole_made followed counted = inl (record {
-    history = record { state = m; book = book; followed = followed; counted = counted; turns = has_turns sizes (one_line schema text) (Start 1 bound false ∷ Finish 1 reply ∷ End 1 ∷ []) (Start 1 bound false ∷ Finish 1 reply ∷ []) can pieces refl };
+      → IsReorganized (ground_of schema sizes) (Start 1 bound false ∷ Finish 1 reply ∷ End 1 ∷ []) → IsMadeOf (ground_of schema sizes) (one_line schema text) (Start 1 bound false ∷ Finish 1 reply ∷ End 1 ∷ [])
+  whole_made followed counted reorganized = inl (record {
+    history = record { state = m; book = book; followed = followed; counted = counted; reorganized = reorganized; turns = has_turns sizes (one_line schema text) (Start 1 bound false ∷ Finish 1 reply ∷ End 1 ∷ []) (Start 1 bound false ∷ Finish 1 reply ∷ []) can pieces refl };
     scheduled = (Start 1 bound false ∷ Finish 1 reply ∷ [], pieces, refl);
   })
     where
       pieces : ArePieces (ground_of schema sizes) [] (Whole 1 text ∷ []) (Start 1 bound false ∷ Finish 1 reply ∷ [])
-      pieces = (Start 1 bound false ∷ Finish 1 reply ∷ [], [], refl, (Start 1 bound false, Finish 1 reply ∷ [], refl, (refl, means), ([], Finish 1 reply, refl, refl, refl)), refl)
+      pieces = (Start 1 bound false ∷ Finish 1 reply ∷ [], [], refl, (Start 1 bound false, Finish 1 reply ∷ [], refl, (refl, means), no_moves (ground_of schema sizes) (Start 1 bound false ∷ []) 1 reply none), refl)
 
 -- the first entries are counted where all are
 counted_front : (origin : Ground) (before log more : List Entry) → AreCountedAfter origin before (log ++ more) → AreCountedAfter origin before log
 counted_front origin before [] more x = tt
 counted_front origin before (e ∷ log) more x = (x.0, counted_front origin (before ++ e ∷ []) log more x.1)
+
+-- so it is with the moves of sessions
+reorganized_front : (origin : Ground) (before log more : List Entry) → AreReorganizedAfter origin before (log ++ more) → AreReorganizedAfter origin before log
+reorganized_front origin before [] more x = tt
+reorganized_front origin before (e ∷ log) more x = (x.0, reorganized_front origin (before ++ e ∷ []) log more x.1)
 
 -- the log of a whole run, cut among its Ends, is that of a run that stopped
 module _ (origin : Ground) (script : Script) (log : List Entry) (whole : IsLogOf origin script log) (ended : ℕ) (m : State) (book : Book) where
@@ -79,6 +97,7 @@ module _ (origin : Ground) (script : Script) (log : List Entry) (whole : IsLogOf
       book = book;
       followed = followed;
       counted = counted_front origin [] begun_ends (map End (drop ended script.sessions)) (subst (IsCounted origin) cut whole.history.counted);
+      reorganized = reorganized_front origin [] begun_ends (map End (drop ended script.sessions)) (subst (IsReorganized origin) cut whole.history.reorganized);
       turns = turns_cut origin.begin script begun_ends (map End (drop ended script.sessions)) (subst (Turns origin.begin script) cut whole.history.turns);
     };
     last = λ some. omega arith;
@@ -152,11 +171,11 @@ module _ (bound : Arc Bound Global) (short : Bool) (claimed installed : Work) (r
   no_session_65 = refl
 
 -- a claim, the Finish of a session, and the install are three lines
-module _ (origin : Ground) (before claims installs : List Entry) (reply : Reply) (begins : BeginsTurn origin before (actor.Mover 1) claims)
+module _ (origin : Ground) (before claims installs : List Entry) (reply : Reply) (none : IsNoneLeft reply) (begins : BeginsTurn origin before (actor.Mover 1) claims)
     (ends : EndsTurn origin ((before ++ claims) ++ Finish 1 reply ∷ []) (actor.Mover 1) installs) where
   three_lines : ArePieces origin before (Claiming 1 ∷ Finished 1 ∷ Installing 1 ∷ []) (claims ++ Finish 1 reply ∷ (installs ++ []))
   three_lines =
-      (claims, Finish 1 reply ∷ (installs ++ []), refl, begins, (Finish 1 reply ∷ [], installs ++ [], refl, ([], Finish 1 reply, refl, refl, refl), (installs, [], refl, ends, refl)))
+      (claims, Finish 1 reply ∷ (installs ++ []), refl, begins, (Finish 1 reply ∷ [], installs ++ [], refl, no_moves origin (before ++ claims) 1 reply none, (installs, [], refl, ends, refl)))
 
 -- movers are 1 to 8, and no other has a line, not even the last half of a turn
 module _ (core : CoreValue) where
@@ -181,3 +200,55 @@ module _ (origin : Ground) (before : List Entry) (mover : ℕ) (moment : Moment 
     begins = record { moment = moment; floor = floor; is_floor = is; free = free; first = subst (λ work. IsFirst (actor.Mover mover) work []) (sym nothing) refl };
     ends = subst (λ log. EndsTurn origin log (actor.Mover mover) []) (sym (append-nil before)) (inr (inr (record { moment = moment; free = free; none = refl })));
   }
+
+-- ---- a REORGANIZE
+
+-- in one line it closes the open store, packs it, finds nothing more to do, and leaves nothing where nobody holds a group
+module _ (origin : Ground) (before : List Entry) (text : List ℕ) (bound : Arc Bound Global) (means : IsBoundAfter origin.begin before text bound.value) (all : bound.value ≡ Reorganize true) (m : State) (book : Book)
+    (followed : Followed origin before m book) (id fresh rows : ℕ) where
+  abbrev packs : List Entry
+  packs = Mover (actor.Session 1) (work.Close id) ∷ Mover (actor.Session 1) (work.ClaimCompress id fresh) ∷ Mover (actor.Session 1) (work.InstallCompress id fresh rows) ∷ []
+
+  abbrev begun : List Entry
+  begun = before ++ Start 1 bound false ∷ []
+
+  closed_and_packed : (moment : Moment origin (begun ++ packs)) → IsIdle origin.sizes 1 moment.state moment.book → held_groups moment.book ≡ []
+      → IsPiece origin before (Whole 1 text) (Start 1 bound false ∷ (packs ++ Finish 1 (Left []) ∷ []))
+  closed_and_packed moment idle none =
+      let half : IsHalfDone origin begun 1 = record {
+        all = true;
+        state = m;
+        book = book;
+        begun = record { before = before; bound = bound; short = false; behind = []; split = refl; others = refl; is = all; followed = followed };
+      } in
+      let are : AreLeft (closed_ids book ++ id ∷ []) (actor.Session 1) moment.book [] = record {
+        by_id = IsNonDecreasingBy-short (λ (held : ℕ × Actor). held.0) [] (omega arith);
+        are = subst (λ held. IsPermutation (filter (is_kept (closed_ids book ++ id ∷ []) (actor.Session 1)) held) []) (sym none) (IsPermutation-refl []);
+      } in
+      let last : List Entry = Mover (actor.Session 1) (work.InstallCompress id fresh rows) ∷ [] in
+      let claim : List Entry = Mover (actor.Session 1) (work.ClaimCompress id fresh) ∷ [] in
+      let own : All (IsOwnWork 1) packs =
+      All-append (IsOwnWork 1) (Mover (actor.Session 1) (work.Close id) ∷ []) (claim ++ last) (own_one 1 (work.Close id))
+      (All-append (IsOwnWork 1) claim last (own_one 1 (work.ClaimCompress id fresh)) (own_one 1 (work.InstallCompress id fresh rows))) in
+      whole_line origin before packs 1 text bound false (Left []) means (record {
+        own = own;
+        told = record {
+          half = half;
+          leaves = record {
+            looked = λ _. inl (id, work.ClaimCompress id fresh ∷ work.InstallCompress id fresh rows ∷ [], refl);
+            well = refl;
+            since = packs;
+            rest = [];
+            split = refl;
+            last = refl;
+            stopped = inr (record { since = packs; rest = []; split = refl; after = refl; moment = moment; holds = idle });
+            moment = moment;
+            are = are;
+          };
+        };
+      })
+
+-- it leaves no group in a Finish before whose last look it still had a claim to make good: what stands behind the look is no work
+no_work_behind : (origin : Ground) (all : Bool) (start : Book) (from before : List Entry) (w : Work) (left : List (ℕ × Actor)) (leaves : LeavesFrom origin 1 all start from (before ++ Mover (actor.Session 1) w ∷ []) left)
+    → leaves.rest ≡ Mover (actor.Session 1) w ∷ [] → ⊥
+no_work_behind origin all start from before w left leaves is = let none : works_of 1 (Mover (actor.Session 1) w ∷ []) ≡ [] = sym (ap (works_of 1) is) ∙ leaves.last in absurd (cc none)

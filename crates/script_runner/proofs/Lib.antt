@@ -2,6 +2,8 @@ pub mod Waiting
 pub mod Pieces
 pub mod Claims
 pub mod Events
+pub mod Moving
+pub mod Giving
 pub mod Meanings
 pub mod Turning
 pub mod Endings

@@ -15,11 +15,11 @@ use Rattle.script_reader.specs.declared.script.Step.TheVariants.{Whole, Begun, F
 use Rattle.script_turns.specs.Turns.{started_in, texts_of, IsMeant, AreMeant}
 use Rattle.script_turns.proofs.Meanings.{starts, starts_none, meant_append, finish_meant, start_meant}
 use Rattle.script_runner.specs.Schedule.{ArePieces}
-use Rattle.script_runner.proofs.Pieces.{IsWork, AreWorks, IsPlain, plain}
+use Rattle.script_runner.proofs.Pieces.{IsWork, AreWorks, IsPlain, IsPlainFinish, plain}
 
 -- ---- how many statements a session began
 
--- works of movers begin no statement
+-- works begin no statement
 work_counted : (s : ℕ) (e : Entry) → IsWork e → is_start_of s e ≡ false
 work_counted s (Start k b short) w = absurd w
 work_counted s (Finish k r) w = refl
@@ -33,12 +33,19 @@ works_counted s (e ∷ es) w =
     ∙ ap (λ b. (0 + cond b 1 0) + statements_of s es) (work_counted s e w.0)
     ∙ ap (λ n. 0 + n) (works_counted s es w.1)
 
+-- nor does a Finish, with works before it
+finish_counted : (s session : ℕ) (piece : List Entry) → IsPlainFinish session piece → statements_of s piece ≡ 0
+finish_counted s session piece f =
+    ap (statements_of s) f.2
+    ∙ sum_by-append (λ x. cond (is_start_of s x) 1 0) f.0 (f.1 ∷ [])
+    ∙ (λ i. works_counted s f.0 f.3 i + (0 + cond (starts_none session f.1 s f.4 i) 1 0))
+
 -- the events of a step begin the statements whose texts it has
 piece_counted : (begin : Begin) (before : List Entry) (step : Step) (piece : List Entry) (s : ℕ) → IsPlain begin before step piece → statements_of s piece ≡ length (texts_of s (step ∷ []))
 piece_counted begin before (Whole session text) piece s p =
     ap (statements_of s) p.2
-    ∙ ap (λ b. (0 + cond b 1 0) + cond (is_start_of s p.1) 1 0) (starts begin before session text p.0 s p.3)
-    ∙ ap (λ b. (0 + cond (session == s) 1 0) + cond b 1 0) (starts_none session p.1 s p.4)
+    ∙ sum_by-append (λ x. cond (is_start_of s x) 1 0) (p.0 ∷ []) p.1
+    ∙ (λ i. (0 + cond (starts begin before session text p.0 s p.3 i) 1 0) + finish_counted s session p.1 p.4 i)
     ∙ at (session == s)
   where
     at : (t : Bool) → (0 + cond t 1 0) + 0 ≡ length (cons_option (cond t (Some text) None) [])
@@ -49,7 +56,7 @@ piece_counted begin before (Begun session text) piece s p = ap (statements_of s)
     at : (t : Bool) → 0 + cond t 1 0 ≡ length (cons_option (cond t (Some text) None) [])
     at true = refl
     at false = refl
-piece_counted begin before (Finished session) piece s p = ap (statements_of s) p.1 ∙ ap (λ b. 0 + cond b 1 0) (starts_none session p.0 s p.2)
+piece_counted begin before (Finished session) piece s p = finish_counted s session piece p
 piece_counted begin before (Turn mover) piece s p = works_counted s piece p
 piece_counted begin before (Claiming mover) piece s p = works_counted s piece p
 piece_counted begin before (Installing mover) piece s p = works_counted s piece p
@@ -75,6 +82,11 @@ module _ (origin : Ground) (steps : List Step) where
   works_meant before [] w = tt
   works_meant before (e ∷ es) w = (work_meant before e w.0, works_meant (before ++ e ∷ []) es w.1)
 
+  finishing_meant : (before : List Entry) (session : ℕ) (piece : List Entry) → IsPlainFinish session piece → AreMeant origin.begin steps before piece
+  finishing_meant before session piece f =
+      subst (AreMeant origin.begin steps before) (sym f.2)
+      (meant_append origin.begin steps before f.0 (f.1 ∷ []) (works_meant before f.0 f.3) (finish_meant origin.begin steps (before ++ f.0) session f.1 f.4, tt))
+
   -- where the session's texts stand, at a step that has one
   texts_at : (done left : List Step) (step : Step) (session : ℕ) (text : List ℕ) → steps ≡ done ++ step ∷ left → started_in session step ≡ Some text
       → texts_of session steps ≡ texts_of session done ++ text ∷ texts_of session left
@@ -88,13 +100,13 @@ module _ (origin : Ground) (steps : List Step) where
       → AreMeant origin.begin steps before piece
   piece_meant before done left (Whole session text) piece split counted p = subst (AreMeant origin.begin steps before) (sym p.2) (
     start_meant origin.begin steps before session text (texts_of session done) (texts_of session left) p.0 (counted session) (texts_at done left (Whole session text) session text split (starts_text session text)) p.3,
-    (finish_meant origin.begin steps (before ++ p.0 ∷ []) session p.1 p.4, tt),
+    finishing_meant (before ++ p.0 ∷ []) session p.1 p.4,
   )
   piece_meant before done left (Begun session text) piece split counted p = subst (AreMeant origin.begin steps before) (sym p.1) (
     start_meant origin.begin steps before session text (texts_of session done) (texts_of session left) p.0 (counted session) (texts_at done left (Begun session text) session text split (starts_text session text)) p.2,
     tt,
   )
-  piece_meant before done left (Finished session) piece split counted p = subst (AreMeant origin.begin steps before) (sym p.1) (finish_meant origin.begin steps before session p.0 p.2, tt)
+  piece_meant before done left (Finished session) piece split counted p = finishing_meant before session piece p
   piece_meant before done left (Turn mover) piece split counted p = works_meant before piece p
   piece_meant before done left (Claiming mover) piece split counted p = works_meant before piece p
   piece_meant before done left (Installing mover) piece split counted p = works_meant before piece p

@@ -17,6 +17,7 @@ use Rattle.group_book.specs.Turns.{same_actor}
 use Rattle.group_directory.specs.Installing.{held_by}
 use Rattle.group_log.specs.Counted.{IsCounted}
 use Rattle.group_log.specs.Followed.{Ground, ground_of, Followed}
+use Rattle.group_log.specs.Reorganizing.{IsReorganized}
 use Rattle.group_view.specs.declared.claim.Claim.{Claim}
 use Rattle.cs_model.specs.Actors.{entries_of, is_begun, has_ended}
 use Rattle.script_reader.specs.declared.script.Script.{Script}
@@ -38,6 +39,7 @@ running_first origin core lines e none paired = record {
   begun = λ s. ap (λ es. is_begun (entries_of s es)) e ∙ sym (half_empty (Session s));
   going = λ s. ap (λ es. has_ended (entries_of s es)) e;
   free = λ m half. ap (held_by (Mover m)) none;
+  none = λ s. ap (held_by (Session s)) none;
   paired = paired;
 }
 
@@ -54,7 +56,7 @@ session_free done step s old new by free is =
 
 -- the step of a mover, which holds no claim after it, if it has none half done
 mover_free : (done : List Step) (step : Step) (mover : ℕ) (old new : List (Actor × Claim)) → taken_by step ≡ Mover mover → AreFreeBehind done old
-    → (half_done (Mover mover) (done ++ step ∷ []) ≡ false → held_by (Mover mover) new ≡ None) → OthersKeep mover old new → AreFreeBehind (done ++ step ∷ []) new
+    → (half_done (Mover mover) (done ++ step ∷ []) ≡ false → held_by (Mover mover) new ≡ None) → OthersKeep (Mover mover) old new → AreFreeBehind (done ++ step ∷ []) new
 mover_free done step mover old new by free its others = λ m half. at m (m == mover) refl half
   where
     at : (m : ℕ) (t : Bool) → (m == mover) ≡ t → half_done (Mover m) (done ++ step ∷ []) ≡ false → held_by (Mover m) new ≡ None
@@ -63,7 +65,7 @@ mover_free done step mover old new by free its others = λ m half. at m (m == mo
         subst (λ n. held_by (Mover n) new ≡ None) same (its (ap (λ n. half_done (Mover n) (done ++ step ∷ [])) same ∙ half))
     at m false t half =
         let apart : (mover == m) ≡ false = grind (arith, nat_tests) in
-        others m t ∙ free m (sym (half_other (Mover m) done step (ap (λ by. same_actor by (Mover m)) by ∙ apart)) ∙ half)
+        others (Mover m) apart ∙ free m (sym (half_other (Mover m) done step (ap (λ by. same_actor by (Mover m)) by ∙ apart)) ∙ half)
 
 -- a turn that was begun alone is half done
 claiming_half : (done : List Step) (mover : ℕ) → half_done (Mover mover) (done ++ Claiming mover ∷ []) ≡ true
@@ -77,6 +79,15 @@ step_free done (Turn m) old new free is = mover_free done (Turn m) m old new ref
 step_free done (Claiming m) old new free is = mover_free done (Claiming m) m old new refl free (λ half. let begun = claiming_half done m in absurd (cc (half, begun))) is
 step_free done (Installing m) old new free is = mover_free done (Installing m) m old new refl free (λ half. is.0) is.1
 
+-- between steps no session holds a claim
+step_none : (step : Step) (old new : List (Actor × Claim)) → ((s : ℕ) → held_by (Session s) old ≡ None) → LeavesClaims step old new → (s : ℕ) → held_by (Session s) new ≡ None
+step_none (Whole n text) old new none is = λ s. ap (held_by (Session s)) is ∙ none s
+step_none (Begun n text) old new none is = λ s. ap (held_by (Session s)) is ∙ none s
+step_none (Finished n) old new none is = λ s. ap (held_by (Session s)) is ∙ none s
+step_none (Turn m) old new none is = λ s. is.1 (Session s) refl ∙ none s
+step_none (Claiming m) old new none is = λ s. is (Session s) refl ∙ none s
+step_none (Installing m) old new none is = λ s. is.1 (Session s) refl ∙ none s
+
 -- ---- one step more
 
 pub running_push : (origin : Ground) (core new : CoreValue) (done left : List Step) (step : Step) (piece : List Entry)
@@ -86,6 +97,7 @@ running_push origin core new done left step piece run p is leaves = record {
   begun = λ s. ap (λ es. is_begun (entries_of s es)) is ∙ piece_begun origin.begin step piece core.log s (plain origin core.log step piece p) ∙ at s (same_actor (taken_by step) (Session s)) refl;
   going = λ s. ap (λ es. has_ended (entries_of s es)) is ∙ piece_going origin.begin step piece core.log s (plain origin core.log step piece p) ∙ run.going s;
   free = step_free done step core.claims new.claims run.free leaves;
+  none = step_none step core.claims new.claims run.none leaves;
   paired = run.paired.1;
 }
   where
@@ -129,9 +141,10 @@ module _ (origin : Ground) (lines : List Step) (i : ℕ) (step : Step) (within :
 pub all_rest : (origin : Ground) (core : CoreValue) (done : List Step) → Running origin core done [] → (s : ℕ) → is_begun (entries_of s core.log) ≡ false
 all_rest origin core done run s = run.begun s ∙ run.paired (Session s)
 
--- and no mover holds a claim
+-- and nobody holds a claim
 pub all_free : (origin : Ground) (core : CoreValue) (done : List Step) (claims : List (Actor × Claim)) → Running origin core done [] → claims ≡ core.claims → AreFree claims
-all_free origin core done claims run is = λ m. ap (held_by (Mover m)) is ∙ run.free m (run.paired (Mover m))
+all_free origin core done claims run is (Session s) = ap (held_by (Session s)) is ∙ run.none s
+all_free origin core done claims run is (Mover m) = ap (held_by (Mover m)) is ∙ run.free m (run.paired (Mover m))
 
 -- an actor of the script is served by a core with its sessions
 served_of : (own sessions : List ℕ) (by : Actor) → All (λ session. Contains sessions session) own → IsServed own by → IsServed sessions by
@@ -164,21 +177,22 @@ front_of script first sizes steps log of_first of_steps x = (
 -- ---- the log
 
 pub log_of : (sizes : Sizes) (script : Script) (schema : Schema) (now : Sizes) (log : List Entry) → IsRunnable script → schema ≡ script.schema → now ≡ sizes
-    → (m : State) × (book : Book) × Followed (ground_of schema now) log m book → IsCounted (ground_of schema now) log → Scheduled (ground_of script.schema sizes) script log → IsLogOf (ground_of script.schema sizes) script log
-log_of sizes script schema now log can same sized legal counted x = record {
+    → (m : State) × (book : Book) × Followed (ground_of schema now) log m book → IsCounted (ground_of schema now) log → IsReorganized (ground_of schema now) log → Scheduled (ground_of script.schema sizes) script log → IsLogOf (ground_of script.schema sizes) script log
+log_of sizes script schema now log can same sized legal counted reorganized x = record {
   history = record {
     state = legal.0;
     book = legal.1;
     followed = subst (λ s. Followed (ground_of s sizes) log legal.0 legal.1) same (subst (λ z. Followed (ground_of schema z) log legal.0 legal.1) sized legal.2);
     counted = subst (λ s. IsCounted (ground_of s sizes) log) same (subst (λ z. IsCounted (ground_of schema z) log) sized counted);
+    reorganized = subst (λ s. IsReorganized (ground_of s sizes) log) same (subst (λ z. IsReorganized (ground_of schema z) log) sized reorganized);
     turns = has_turns sizes script log x.0 can x.1 x.2;
   };
   scheduled = x;
 }
 
 pub front_log_of : (sizes : Sizes) (script : Script) (schema : Schema) (now : Sizes) (log : List Entry) → IsRunnable script → schema ≡ script.schema → now ≡ sizes
-    → (m : State) × (book : Book) × Followed (ground_of schema now) log m book → IsCounted (ground_of schema now) log → IsFrontRun (ground_of script.schema sizes) script.lines log → IsFrontLogOf (ground_of script.schema sizes) script log
-front_log_of sizes script schema now log can same sized legal counted x = record {
+    → (m : State) × (book : Book) × Followed (ground_of schema now) log m book → IsCounted (ground_of schema now) log → IsReorganized (ground_of schema now) log → IsFrontRun (ground_of script.schema sizes) script.lines log → IsFrontLogOf (ground_of script.schema sizes) script log
+front_log_of sizes script schema now log can same sized legal counted reorganized x = record {
   lines = x.0;
   ended = 0;
   history = record {
@@ -186,6 +200,7 @@ front_log_of sizes script schema now log can same sized legal counted x = record
     book = legal.1;
     followed = subst (λ s. Followed (ground_of s sizes) log legal.0 legal.1) same (subst (λ z. Followed (ground_of schema z) log legal.0 legal.1) sized legal.2);
     counted = subst (λ s. IsCounted (ground_of s sizes) log) same (subst (λ z. IsCounted (ground_of schema z) log) sized counted);
+    reorganized = subst (λ s. IsReorganized (ground_of s sizes) log) same (subst (λ z. IsReorganized (ground_of schema z) log) sized reorganized);
     turns = has_front_turns sizes script x.0 log can x.1;
   };
   last = λ some. absurd (omega (arith, some));

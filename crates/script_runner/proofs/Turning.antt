@@ -24,7 +24,7 @@ use Rattle.script_runner.specs.Schedule.{ArePieces}
 use Rattle.script_reader.proofs.Halves.{half_same, half_other, half_empty}
 use Rattle.script_runner.specs.Logs.{first_lines}
 use Rattle.script_turns.proofs.Entries.{Does, start_does, start_in, finish_does}
-use Rattle.script_runner.proofs.Pieces.{AreWorks, IsPlain, is_not, plain}
+use Rattle.script_runner.proofs.Pieces.{AreWorks, IsPlain, IsPlainFinish, is_not, plain}
 use Rattle.script_runner.proofs.Meanings.{all_meant, whole_meant}
 use Rattle.script_turns.proofs.Sessions.{sessions_distinct}
 use Rattle.script_runner.proofs.Endings.{ends_one, ends_none, apart_all}
@@ -64,7 +64,7 @@ module _ (origin : Ground) (session : ℕ) (rest : List Entry) where
 
   -- ---- a step of another actor
 
-  -- works of movers are no turns
+  -- works are no turns
   no_turns : (piece others : List Entry) → AreWorks piece → turns_of session (piece ++ others) ≡ turns_of session others
   no_turns [] others w = refl
   no_turns (Start n b short ∷ es) others w = absurd w.0
@@ -72,12 +72,18 @@ module _ (origin : Ground) (session : ℕ) (rest : List Entry) where
   no_turns (End n ∷ es) others w = absurd w.0
   no_turns (Mover by work ∷ es) others w = no_turns es others w.1
 
+  -- a Finish with works before it is its session's one turn among them
+  finish_turn : (s : ℕ) (piece others : List Entry) (t : Bool) → (s == session) ≡ t → (f : IsPlainFinish s piece) → turns_of session (piece ++ others) ≡ cond t (f.1 ∷ turns_of session others) (turns_of session others)
+  finish_turn s piece others t e f =
+      ap (λ es. turns_of session (es ++ others)) f.2 ∙ ap (turns_of session) (append_assoc f.0 (f.1 ∷ []) others)
+      ∙ no_turns f.0 (f.1 ∷ others) f.3 ∙ turn_in s false f.1 others t (finish_does s f.1 f.4) e
+
   no_turn : (log : List Entry) (step : Step) (piece others : List Entry) → same_actor (taken_by step) (actor.Session session) ≡ false → IsPlain origin.begin log step piece → turns_of session (piece ++ others) ≡ turns_of session others
   no_turn log (Whole s text) piece others e p =
       ap (λ es. turns_of session (es ++ others)) p.2
-      ∙ turn_in s true p.0 (p.1 ∷ others) false (start_does origin.begin log s text p.0 p.3) e ∙ turn_in s false p.1 others false (finish_does s p.1 p.4) e
+      ∙ turn_in s true p.0 (p.1 ++ others) false (start_does origin.begin log s text p.0 p.3) e ∙ finish_turn s p.1 others false e p.4
   no_turn log (Begun s text) piece others e p = ap (λ es. turns_of session (es ++ others)) p.1 ∙ turn_in s true p.0 others false (start_does origin.begin log s text p.0 p.2) e
-  no_turn log (Finished s) piece others e p = ap (λ es. turns_of session (es ++ others)) p.1 ∙ turn_in s false p.0 others false (finish_does s p.0 p.2) e
+  no_turn log (Finished s) piece others e p = finish_turn s piece others false e p
   no_turn log (Turn m) piece others e p = no_turns piece others p
   no_turn log (Claiming m) piece others e p = no_turns piece others p
   no_turn log (Installing m) piece others e p = no_turns piece others p
@@ -112,17 +118,18 @@ module _ (origin : Ground) (session : ℕ) (rest : List Entry) where
   its_turn log (Whole s text) before lines piece others true half e may p next = let rests = half_is s before false e (is_not (half_done (actor.Session s) before) may) in absurd (cc (half, rests))
   its_turn log (Whole s text) before lines piece others false half e may p next =
       let same : s ≡ session = eqb-true s session e in
-      let turns : turns_of session (piece ++ others) ≡ p.0 ∷ p.1 ∷ turns_of session others =
+      let f = p.4 in
+      let turns : turns_of session (piece ++ others) ≡ p.0 ∷ f.1 ∷ turns_of session others =
       ap (λ es. turns_of session (es ++ others)) p.2
-      ∙ turn_in s true p.0 (p.1 ∷ others) true (start_does origin.begin log s text p.0 p.3) e
-      ∙ ap (λ es. p.0 ∷ es) (turn_in s false p.1 others true (finish_does s p.1 p.4) e) in
+      ∙ turn_in s true p.0 (p.1 ++ others) true (start_does origin.begin log s text p.0 p.3) e
+      ∙ ap (λ es. p.0 ∷ es) (finish_turn s p.1 others true e f) in
       subst (λ n. AreTurns session n (turns_of session (piece ++ others) ++ rest)) (sym (more_texts s text lines e)) (
         p.0,
-        p.1,
+        f.1,
         turns_of session others ++ rest,
         ap (λ es. es ++ rest) turns,
         subst (λ k. IsStartIn k p.0) same (start_in origin.begin log s text p.0 p.3),
-        subst (λ k. IsFinishOf k p.1) same p.4,
+        subst (λ k. IsFinishOf k f.1) same f.4,
         next false (half_same (actor.Session session) before (Whole s text) e),
       )
   its_turn log (Begun s text) before lines piece others true half e may p next = let rests = half_is s before false e (is_not (half_done (actor.Session s) before) may) in absurd (cc (half, rests))
@@ -143,9 +150,8 @@ module _ (origin : Ground) (session : ℕ) (rest : List Entry) where
   its_turn log (Finished s) before lines piece others false half e may p next = let begun = half_is s before true e may in absurd (cc (half, begun))
   its_turn log (Finished s) before lines piece others true half e may p next =
       let same : s ≡ session = eqb-true s session e in
-      let turns : turns_of session (piece ++ others) ≡ p.0 ∷ turns_of session others =
-      ap (λ es. turns_of session (es ++ others)) p.1 ∙ turn_in s false p.0 others true (finish_does s p.0 p.2) e in
-      (p.0, turns_of session others ++ rest, ap (λ es. es ++ rest) turns, subst (λ k. IsFinishOf k p.0) same p.2, next false (half_same (actor.Session session) before (Finished s) e))
+      let turns : turns_of session (piece ++ others) ≡ p.1 ∷ turns_of session others = finish_turn s piece others true e p in
+      (p.1, turns_of session others ++ rest, ap (λ es. es ++ rest) turns, subst (λ k. IsFinishOf k p.1) same p.4, next false (half_same (actor.Session session) before (Finished s) e))
   its_turn log (Turn m) before lines piece others t half e may p next = absurd (cc e)
   its_turn log (Claiming m) before lines piece others t half e may p next = absurd (cc e)
   its_turn log (Installing m) before lines piece others t half e may p next = absurd (cc e)

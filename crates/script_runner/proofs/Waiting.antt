@@ -1,7 +1,8 @@
 -- What was started stands ready, one entry more.
 use Rattle.std.proofs.Common.{◌≡◌, ℕ, List, [], ◌∷◌, ◌++◌, refl, sym, ap, subst, ◌∙◌, cond, Bool, true, false, arith, append_assoc}
 use Rattle.std.proofs.lemmas.List.{append-nil}
-use Rattle.std.specs.Prelude.{Option, None, Some, ◌==◌, ◌&&◌}
+use Rattle.std.specs.Prelude.{All, Option, None, Some, ◌==◌, ◌&&◌}
+use Rattle.std.proofs.lemmas.List.Elements.{All-head, All-tail}
 use Rattle.std.proofs.lemmas.Bool.Decides.{nat_tests}
 use Rattle.cs_model.specs.declared.entry.Bound.{Bound}
 use Rattle.cs_model.specs.declared.entry.Reply.{Reply}
@@ -9,7 +10,10 @@ use Rattle.cs_model.specs.declared.entry.Entry.{Entry}
 use Rattle.cs_model.specs.declared.entry.Entry.TheVariants.{Start, Finish, End, Mover}
 use Rattle.cs_types.specs.declared.Schema.{Schema}
 use Rattle.cs_model.specs.State.{Begin, begin_of, with}
-use Rattle.cs_model.specs.Actors.{actor_of, is_turn, entries_of, begun_by, is_begun}
+use Rattle.cs_model.specs.declared.work.Actor.TheVariants as actor
+use Rattle.cs_model.specs.Actors.{actor_of, number_of, is_turn, entries_of, begun_by, is_begun}
+use Rattle.group_log.specs.Reorganizing.{works_of}
+use Rattle.reorganize.proofs.Works.{works_others}
 use Rattle.group_book.specs.Commits.{Sizes}
 use Rattle.statement_core.specs.declared.started.Started.{Started}
 use Rattle.statement_core.specs.Cores.{IsStartOf}
@@ -17,25 +21,31 @@ use Rattle.script_turns.specs.Awaiting.{Awaits}
 use Rattle.script_runner.specs.Running.{IsWaiting, Waits}
 use Rattle.script_turns.proofs.Awaiting.{awaits_on}
 use Rattle.script_turns.proofs.Entries.{Does, begun_after, finish_does, start_of_does}
-use Rattle.script_runner.proofs.Pieces.{IsWork, AreWorks, work_begun}
+use Rattle.script_runner.specs.Schedule.{IsOwnWork}
+use Rattle.script_runner.proofs.Pieces.{AreMoverWorks, IsMoverWork, work_begun, work_mover}
 
 and_false : (b : Bool) → (b && false) ≡ false
 and_false true = refl
 and_false false = refl
 
--- a statement waits as before where the entry is no turn of its session
-waiting_on : (sizes : Sizes) (begin : Begin) (log : List Entry) (e : Entry) (s : ℕ) (o : Option Started) → (is_turn e && (actor_of e == s)) ≡ false → IsWaiting sizes begin log s o → IsWaiting sizes begin (log ++ e ∷ []) s o
-waiting_on sizes begin log e s None other k = k
-waiting_on sizes begin log e s (Some started) other k = awaits_on sizes begin log e s started other k
+-- a statement waits as before where the entry is no turn of its session, and no work of it
+waiting_on : (sizes : Sizes) (begin : Begin) (log : List Entry) (e : Entry) (s : ℕ) (o : Option Started) → (is_turn e && (actor_of e == s)) ≡ false → works_of s (e ∷ []) ≡ [] → IsWaiting sizes begin log s o
+    → IsWaiting sizes begin (log ++ e ∷ []) s o
+waiting_on sizes begin log e s None other none k = k
+waiting_on sizes begin log e s (Some started) other none k = awaits_on sizes begin log e s started other none k
+
+-- it waits where it is half done
+abbrev IsWaitingIf : Sizes → Begin → List Entry → ℕ → Option Started → Type 0
+IsWaitingIf sizes begin log s o = is_begun (entries_of s log) ≡ true → IsWaiting sizes begin log s o
 
 -- another session's statement waits as before
-others_wait : (sizes : Sizes) (begin : Begin) (log : List Entry) (e : Entry) (n s : ℕ) (o o' : Option Started) (waiting : ℕ → Option Started) → (n == s) ≡ false → actor_of e ≡ n → waiting s ≡ o → o' ≡ o
-    → Waits sizes begin log waiting → is_begun (entries_of s (log ++ e ∷ [])) ≡ true → IsWaiting sizes begin (log ++ e ∷ []) s o'
-others_wait sizes begin log e n s o o' waiting other actor at_s is waits begun =
+others_wait : (sizes : Sizes) (begin : Begin) (log : List Entry) (e : Entry) (n s : ℕ) (o o' : Option Started) → (n == s) ≡ false → actor_of e ≡ n → o' ≡ o
+    → IsWaitingIf sizes begin log s o → IsWaitingIf sizes begin (log ++ e ∷ []) s o'
+others_wait sizes begin log e n s o o' other actor is waits begun =
     let apart : (actor_of e == s) ≡ false = ap (λ k. k == s) actor ∙ other in
     let was : is_begun (entries_of s log) ≡ true = sym (begun_after log e s ∙ ap (λ t. cond t (begun_by (is_begun (entries_of s log)) e) (is_begun (entries_of s log))) apart) ∙ begun in
-    subst (λ x. IsWaiting sizes begin (log ++ e ∷ []) s x) (at_s ∙ sym is)
-    (waiting_on sizes begin log e s (waiting s) (ap (λ b. is_turn e && b) apart ∙ and_false (is_turn e)) (waits s was))
+    subst (λ x. IsWaiting sizes begin (log ++ e ∷ []) s x) (sym is)
+    (waiting_on sizes begin log e s o (ap (λ b. is_turn e && b) apart ∙ and_false (is_turn e)) (works_others s (e ∷ []) (ap (λ b. cond b (e ∷ []) []) apart)) (waits was))
 
 waits_start : (sizes : Sizes) (begin : Begin) (log : List Entry) (e : Entry) (n : ℕ) (waiting after : ℕ → Option Started) (started : Started) → Waits sizes begin log waiting → Does n true e
     → IsWaiting sizes begin (log ++ e ∷ []) n (Some started) → after ≡ with waiting n (Some started) → Waits sizes begin (log ++ e ∷ []) after
@@ -49,9 +59,10 @@ waits_start sizes begin log e n waiting after started waits d is put = λ s begu
     at s false t begun =
         let other : (n == s) ≡ false = grind (arith, nat_tests) in
         let has : after s ≡ waiting s = (λ i. put i s) ∙ ap (λ b. cond b (Some started) (waiting s)) t in
-        others_wait sizes begin log e n s (waiting s) (after s) waiting other d.actor refl has waits begun
+        others_wait sizes begin log e n s (waiting s) (after s) other d.actor has (waits s) begun
 
-waits_finish : (sizes : Sizes) (begin : Begin) (log : List Entry) (e : Entry) (n : ℕ) (waiting after : ℕ → Option Started) → Waits sizes begin log waiting → Does n false e
+-- behind a Finish of session n that one waits no more, and the others as before
+waits_finish : (sizes : Sizes) (begin : Begin) (log : List Entry) (e : Entry) (n : ℕ) (waiting after : ℕ → Option Started) → ((s : ℕ) → (n == s) ≡ false → IsWaitingIf sizes begin log s (waiting s)) → Does n false e
     → after ≡ with waiting n None → Waits sizes begin (log ++ e ∷ []) after
 waits_finish sizes begin log e n waiting after waits d put = λ s begun. at s (s == n) refl begun
   where
@@ -64,7 +75,21 @@ waits_finish sizes begin log e n waiting after waits d put = λ s begun. at s (s
     at s false t begun =
         let other : (n == s) ≡ false = grind (arith, nat_tests) in
         let has : after s ≡ waiting s = (λ i. put i s) ∙ ap (λ b. cond b None (waiting s)) t in
-        others_wait sizes begin log e n s (waiting s) (after s) waiting other d.actor refl has waits begun
+        others_wait sizes begin log e n s (waiting s) (after s) other d.actor has (waits s other) begun
+
+-- so it is behind works of session n
+own_actor : (n : ℕ) (e : Entry) → IsOwnWork n e → actor_of e ≡ n
+own_actor n (Start s b short) own = absurd own
+own_actor n (Finish s r) own = absurd own
+own_actor n (End s) own = absurd own
+own_actor n (Mover by work) own = ap number_of own
+
+moves_wait : (sizes : Sizes) (begin : Begin) (log moves : List Entry) (n s : ℕ) (o : Option Started) → All (IsOwnWork n) moves → (n == s) ≡ false → IsWaitingIf sizes begin log s o → IsWaitingIf sizes begin (log ++ moves) s o
+moves_wait sizes begin log [] n s o own other waits = subst (λ es. IsWaitingIf sizes begin es s o) (sym (append-nil log)) waits
+moves_wait sizes begin log (e ∷ moves) n s o own other waits =
+    subst (λ es. IsWaitingIf sizes begin es s o) (append_assoc log (e ∷ []) moves)
+    (moves_wait sizes begin (log ++ e ∷ []) moves n s o (All-tail (IsOwnWork n) e moves own) other
+    (others_wait sizes begin log e n s o o other (own_actor n e (All-head (IsOwnWork n) e moves own)) refl waits))
 
 -- ---- a Start, a Finish
 
@@ -75,10 +100,11 @@ waits_begun sizes schema log new n b waiting after started waits x is put =
     (waits_start sizes (begin_of schema) log x.0 n waiting after started waits (start_of_does n b started.short x.0 x.2)
     (subst (λ es. Awaits sizes (begin_of schema) es n started) x.1 is) put)
 
-pub waits_finished : (sizes : Sizes) (begin : Begin) (log new : List Entry) (n : ℕ) (waiting after : ℕ → Option Started) → Waits sizes begin log waiting → (r : Reply) × (new ≡ log ++ Finish n r ∷ [])
-    → after ≡ with waiting n None → Waits sizes begin new after
-waits_finished sizes begin log new n waiting after waits x put =
-    subst (λ es. Waits sizes begin es after) (sym x.1) (waits_finish sizes begin log (Finish n x.0) n waiting after waits (finish_does n (Finish n x.0) refl) put)
+pub waits_finished : (sizes : Sizes) (begin : Begin) (log moves new : List Entry) (n : ℕ) (r : Reply) (waiting after : ℕ → Option Started) → Waits sizes begin log waiting → All (IsOwnWork n) moves
+    → new ≡ (log ++ moves) ++ Finish n r ∷ [] → after ≡ with waiting n None → Waits sizes begin new after
+waits_finished sizes begin log moves new n r waiting after waits own is put =
+    subst (λ es. Waits sizes begin es after) (sym is)
+    (waits_finish sizes begin (log ++ moves) (Finish n r) n waiting after (λ s other. moves_wait sizes begin log moves n s (waiting s) own other (waits s)) (finish_does n (Finish n r) refl) put)
 
 -- what waits in the seat of a session that has begun a statement
 pub waits_there : (sizes : Sizes) (begin : Begin) (log : List Entry) (waiting : ℕ → Option Started) (s : ℕ) (started : Started) → Waits sizes begin log waiting → is_begun (entries_of s log) ≡ true → waiting s ≡ Some started
@@ -101,25 +127,33 @@ waits_end sizes begin log new n waiting waits is = subst (λ es. Waits sizes beg
     at s true t begun =
         let none : is_begun (entries_of s (log ++ End n ∷ [])) ≡ false = begun_after log (End n) s ∙ ap (λ b. cond b false (is_begun (entries_of s log))) t in
         absurd (cc (none, begun))
-    at s false t begun = others_wait sizes begin log (End n) n s (waiting s) (waiting s) waiting t refl refl refl waits begun
+    at s false t begun = others_wait sizes begin log (End n) n s (waiting s) (waiting s) t refl refl (waits s) begun
 
 -- ---- works of movers
 
 -- a work is no turn of a session
-no_turn : (e : Entry) (s : ℕ) → IsWork e → (is_turn e && (actor_of e == s)) ≡ false
+no_turn : (e : Entry) (s : ℕ) → IsMoverWork e → (is_turn e && (actor_of e == s)) ≡ false
 no_turn (Start n b short) s w = absurd w
 no_turn (Finish n r) s w = absurd w
 no_turn (End n) s w = absurd w
 no_turn (Mover by work) s w = refl
 
-work_waits : (sizes : Sizes) (begin : Begin) (log : List Entry) (e : Entry) (waiting : ℕ → Option Started) → IsWork e → Waits sizes begin log waiting → Waits sizes begin (log ++ e ∷ []) waiting
-work_waits sizes begin log e waiting w waits = λ s begun. waiting_on sizes begin log e s (waiting s) (no_turn e s w) (waits s (sym (work_begun log e s w) ∙ begun))
+-- nor is a mover's a session's work
+no_work : (e : Entry) (s : ℕ) → IsMoverWork e → works_of s (e ∷ []) ≡ []
+no_work (Start n b short) s w = absurd w
+no_work (Finish n r) s w = absurd w
+no_work (End n) s w = absurd w
+no_work (Mover (actor.Session n) work) s w = absurd w
+no_work (Mover (actor.Mover m) work) s w = refl
+
+work_waits : (sizes : Sizes) (begin : Begin) (log : List Entry) (e : Entry) (waiting : ℕ → Option Started) → IsMoverWork e → Waits sizes begin log waiting → Waits sizes begin (log ++ e ∷ []) waiting
+work_waits sizes begin log e waiting w waits = λ s begun. waiting_on sizes begin log e s (waiting s) (no_turn e s w) (no_work e s w) (waits s (sym (work_begun log e s (work_mover e w)) ∙ begun))
 
 -- what was started waits as before behind works of movers
-works_wait : (sizes : Sizes) (begin : Begin) (log piece : List Entry) (waiting : ℕ → Option Started) → AreWorks piece → Waits sizes begin log waiting → Waits sizes begin (log ++ piece) waiting
+works_wait : (sizes : Sizes) (begin : Begin) (log piece : List Entry) (waiting : ℕ → Option Started) → AreMoverWorks piece → Waits sizes begin log waiting → Waits sizes begin (log ++ piece) waiting
 works_wait sizes begin log [] waiting w waits = subst (λ es. Waits sizes begin es waiting) (sym (append-nil log)) waits
 works_wait sizes begin log (e ∷ es) waiting w waits =
     subst (λ xs. Waits sizes begin xs waiting) (append_assoc log (e ∷ []) es) (works_wait sizes begin (log ++ e ∷ []) es waiting w.1 (work_waits sizes begin log e waiting w.0 waits))
 
-pub waits_works : (sizes : Sizes) (begin : Begin) (log new piece : List Entry) (waiting : ℕ → Option Started) → Waits sizes begin log waiting → new ≡ log ++ piece → AreWorks piece → Waits sizes begin new waiting
+pub waits_works : (sizes : Sizes) (begin : Begin) (log new piece : List Entry) (waiting : ℕ → Option Started) → Waits sizes begin log waiting → new ≡ log ++ piece → AreMoverWorks piece → Waits sizes begin new waiting
 waits_works sizes begin log new piece waiting waits is w = subst (λ es. Waits sizes begin es waiting) (sym is) (works_wait sizes begin log piece waiting w waits)

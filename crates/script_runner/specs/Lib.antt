@@ -1,3 +1,4 @@
 pub mod Schedule
+pub mod Moves
 pub mod Running
 pub mod Logs

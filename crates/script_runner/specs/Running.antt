@@ -1,5 +1,5 @@
 -- A run of a script's steps so far.
-use Rattle.std.specs.Prelude.{◌≡◌, ◌≤◌, ◌<◌, ℕ, List, [], ◌++◌, ◌==◌, length, map, take, All, Bool, true, false, Option, None, Some}
+use Rattle.std.specs.Prelude.{◌≡◌, ◌≤◌, ◌<◌, ℕ, List, [], ◌++◌, length, map, take, All, Bool, true, false, Option, None, Some}
 use Rattle.cs_model.specs.declared.entry.Entry.{Entry}
 use Rattle.cs_model.specs.declared.entry.Entry.TheVariants.{End}
 use Rattle.cs_model.specs.declared.work.Actor.{Actor}
@@ -7,13 +7,13 @@ use Rattle.cs_model.specs.declared.work.Actor.TheVariants.{Session, Mover}
 use Rattle.cs_model.specs.Actors.{entries_of, is_begun, has_ended}
 use Rattle.cs_model.specs.State.{Begin}
 use Rattle.group_book.specs.Commits.{Sizes}
+use Rattle.group_book.specs.Turns.{same_actor}
 use Rattle.group_log.specs.Followed.{Ground}
 use Rattle.group_view.specs.declared.claim.Claim.{Claim}
 use Rattle.group_view.specs.Claims.{IsMendable}
 use Rattle.group_directory.specs.Claiming.{IsShareOf}
 use Rattle.group_directory.specs.Installing.{held_by}
 use Rattle.log_laws.specs.Laws.{AreDistinct}
-use Rattle.log_laws.specs.Started.{Begun}
 use Rattle.script_reader.specs.declared.script.Step.{Step}
 use Rattle.script_reader.specs.declared.script.Step.TheVariants as step
 use Rattle.script_reader.specs.Scripts.{taken_by, text_of, half_done, ArePaired, IsServed}
@@ -59,25 +59,27 @@ IsReadyFor None lent = lent ≡ None
 IsReadyFor (Some held) None = ⊥
 IsReadyFor (Some held) (Some lent) = IsShareOf held.1 lent × IsMendable lent
 
-abbrev pub AreReady : List (Actor × Claim) → (ℕ → Option Claim) → Type 0
-AreReady claims waiting = (mover : ℕ) → mover < 65 → IsReadyFor (held_by (Mover mover) claims) (waiting mover)
+-- so it is for each mover; and between steps no session holds a claim
+pub record AreReady (claims : List (Actor × Claim)) (waiting : ℕ → Option Claim) : Type 0 where
+  pub movers : (mover : ℕ) → mover < 65 → IsReadyFor (held_by (Mover mover) claims) (waiting mover)
+  pub sessions : (session : ℕ) → held_by (Session session) claims ≡ None
 
--- the claims of the other movers are as before
-abbrev pub OthersKeep : ℕ → List (Actor × Claim) → List (Actor × Claim) → Type 0
-OthersKeep mover old new = (other : ℕ) → (other == mover) ≡ false → held_by (Mover other) new ≡ held_by (Mover other) old
+-- the claims of all others are as before
+abbrev pub OthersKeep : Actor → List (Actor × Claim) → List (Actor × Claim) → Type 0
+OthersKeep by old new = (other : Actor) → same_actor by other ≡ false → held_by other new ≡ held_by other old
 
 -- what a step makes of the claims: a session's, nothing; a mover's is over, but after the first event of a turn alone
 abbrev pub LeavesClaims : Step → List (Actor × Claim) → List (Actor × Claim) → Type 0
 LeavesClaims (step.Whole session text) old new = new ≡ old
 LeavesClaims (step.Begun session text) old new = new ≡ old
 LeavesClaims (step.Finished session) old new = new ≡ old
-LeavesClaims (step.Turn mover) old new = (held_by (Mover mover) new ≡ None) × OthersKeep mover old new
-LeavesClaims (step.Claiming mover) old new = OthersKeep mover old new
-LeavesClaims (step.Installing mover) old new = (held_by (Mover mover) new ≡ None) × OthersKeep mover old new
+LeavesClaims (step.Turn mover) old new = (held_by (Mover mover) new ≡ None) × OthersKeep (Mover mover) old new
+LeavesClaims (step.Claiming mover) old new = OthersKeep (Mover mover) old new
+LeavesClaims (step.Installing mover) old new = (held_by (Mover mover) new ≡ None) × OthersKeep (Mover mover) old new
 
--- no mover holds a claim
+-- nobody holds a claim
 abbrev pub AreFree : List (Actor × Claim) → Type 0
-AreFree claims = (mover : ℕ) → held_by (Mover mover) claims ≡ None
+AreFree claims = (actor : Actor) → held_by actor claims ≡ None
 
 -- ---- steps
 
@@ -93,6 +95,7 @@ pub record Running (origin : Ground) (core : CoreValue) (done left : List Step) 
   pub begun : (session : ℕ) → is_begun (entries_of session core.log) ≡ half_done (Session session) done
   pub going : (session : ℕ) → has_ended (entries_of session core.log) ≡ false
   pub free : (mover : ℕ) → half_done (Mover mover) done ≡ false → held_by (Mover mover) core.claims ≡ None
+  pub none : (session : ℕ) → held_by (Session session) core.claims ≡ None
   pub paired : ArePaired done left
 
 -- the log follows the first of these steps

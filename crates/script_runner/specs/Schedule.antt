@@ -1,18 +1,58 @@
 -- Which events a script asks for, line by line.
-use Rattle.std.specs.Prelude.{◌≡◌, ℕ, List, [], ◌∷◌, ◌++◌, map}
+use Rattle.std.specs.Prelude.{◌≡◌, ◌⊎◌, ℕ, List, [], ◌∷◌, ◌++◌, map, All}
 use Rattle.cs_model.specs.declared.entry.Entry.{Entry}
-use Rattle.cs_model.specs.declared.entry.Entry.TheVariants.{End}
+use Rattle.cs_model.specs.declared.entry.Entry.TheVariants.{Start, Finish, End, Mover}
+use Rattle.cs_model.specs.declared.entry.Reply.{Reply}
+use Rattle.cs_model.specs.declared.entry.Reply.TheVariants as reply
+use Rattle.cs_model.specs.declared.work.Actor.{Actor}
 use Rattle.cs_model.specs.declared.work.Actor.TheVariants as actor
 use Rattle.group_log.specs.Followed.{Ground}
+use Rattle.group_log.specs.Reorganizing.{HasLooked, IsHalfDone, LeavesFrom}
 use Rattle.script_reader.specs.declared.script.Script.{Script}
 use Rattle.script_reader.specs.declared.script.Step.{Step}
 use Rattle.script_reader.specs.declared.script.Step.TheVariants.{Whole, Begun, Finished, Turn, Claiming, Installing}
 use Rattle.script_turns.specs.Turns.{IsStart, IsFinishOf}
 use Rattle.statement_core.specs.Turns.{BeginsTurn, EndsTurn}
 
--- the moves of a session after this log, and before this Finish of its statement; no statement makes any so far
-abbrev pub AreMoves : Ground → List Entry → ℕ → List Entry → Entry → Type 0
-AreMoves origin before session moves finish = moves ≡ []
+-- a work of the session
+abbrev pub IsOwnWork : ℕ → Entry → Type 0
+IsOwnWork session (Start s bound short) = ⊥
+IsOwnWork session (Finish s r) = ⊥
+IsOwnWork session (End s) = ⊥
+IsOwnWork session (Mover by w) = by ≡ actor.Session session
+
+-- the session has a REORGANIZE half done, which has looked for the open store among these moves, where it is to close that
+pub record LooksAmong (origin : Ground) (before : List Entry) (session : ℕ) (moves : List Entry) : Type 0 where
+  pub half : IsHalfDone origin before session
+  pub looked : HasLooked origin session half.all before moves
+
+-- it leaves these groups by what it did and saw among these moves
+pub record LeavesAmong (origin : Ground) (before : List Entry) (session : ℕ) (moves : List Entry) (left : List (ℕ × Actor)) : Type 0 where
+  pub half : IsHalfDone origin before session
+  pub leaves : LeavesFrom origin session half.all half.book before moves left
+
+-- what the Finish of a statement tells of its moves
+abbrev pub TellsOf : Ground → List Entry → ℕ → List Entry → Reply → Type 0
+TellsOf origin before session moves reply.Done = moves ≡ []
+TellsOf origin before session moves (reply.Affected count) = moves ≡ []
+TellsOf origin before session moves (reply.Rows rows segments) = moves ≡ []
+TellsOf origin before session moves (reply.Groups lines buffered) = moves ≡ []
+TellsOf origin before session moves (reply.Segments lines) = moves ≡ []
+TellsOf origin before session moves (reply.Left groups) = LeavesAmong origin before session moves groups
+TellsOf origin before session moves (reply.Refused refusal) = (moves ≡ []) ⊎ LooksAmong origin before session moves
+
+-- this is the reply of a Finish
+abbrev pub RepliesBy : (Reply → Type 0) → Entry → Type 0
+RepliesBy Told (Start s bound short) = ⊥
+RepliesBy Told (Finish s r) = Told r
+RepliesBy Told (End s) = ⊥
+RepliesBy Told (Mover by w) = ⊥
+
+-- the moves of a session after this log, and before this Finish of its statement: the works of a REORGANIZE, which looks at the groups
+-- before, among and after them
+pub record AreMoves (origin : Ground) (before : List Entry) (session : ℕ) (moves : List Entry) (finish : Entry) : Type 0 where
+  pub own : All (IsOwnWork session) moves
+  pub told : RepliesBy (TellsOf origin before session moves) finish
 
 -- the moves and the Finish of a statement
 abbrev pub IsFinishing : Ground → List Entry → ℕ → List Entry → Type 0

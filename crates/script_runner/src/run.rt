@@ -18,7 +18,7 @@ use std::sync::Wait;
 use std::thread::Threads;
 
 /// Runs the steps, in order.
-fn run_steps<R: Threads + Wait + Sync, D: Desk>(
+fn run_steps<R: Threads + Wait, D: Desk>(
     rt: &R,
     runner: &mut Runner,
     steps: &[Step],
@@ -58,7 +58,7 @@ fn end_sessions(runner: &mut Runner, sessions: &[u32])
 }
 
 /// Runs the steps of a script, and then ends its sessions.
-fn run_script<R: Threads + Wait + Sync, D: Desk>(
+fn run_script<R: Threads + Wait, D: Desk>(
     rt: &R,
     runner: &mut Runner,
     script: &Script,
@@ -84,7 +84,7 @@ fn run_script<R: Threads + Wait + Sync, D: Desk>(
 /// Runs the steps of a script, and then ends its sessions in the order of their numbers. `Memory` comes where there is no room
 /// for a Start or a mover's claim; the log has the events of the lines before it then. Conditions: the runner is new, its core was made with the
 /// script's table and serves its sessions, and the script can be run, as one that `read_script` gives.
-pub fn run_schedule<R: Threads + Wait + Sync, D: Desk>(
+pub fn run_schedule<R: Threads + Wait, D: Desk>(
     rt: &R,
     runner: &mut Runner,
     script: &Script,
@@ -96,7 +96,7 @@ pub fn run_schedule<R: Threads + Wait + Sync, D: Desk>(
     requires schema { runner.old.schema ≡ script.now.schema }
     requires known { All (λ session. Contains runner.old.sessions session) script.now.sessions }
     ensures log { OnOk result (IsLogOf (ground_of script.now.schema runner.old.sizes) script.now runner.new.log) }
-    // At the end no mover holds a claim.
+    // At the end nobody holds a claim.
     ensures free { OnOk result (AreFree runner.new.claims) }
     ensures front { OnErr result (IsFrontLogOf (ground_of script.now.schema runner.old.sizes) script.now runner.new.log) }
     ensures schema { runner.new.schema ≡ runner.old.schema }

@@ -1,5 +1,5 @@
 // Runs steps over a core, one by one.
-ghost use Rattle.std.specs.Prelude.{All, ◌≡◌, ◌≤◌, ◌<◌, ◌++◌, ◌∷◌, [], List, length, filter, not, Contains, IfOk, OnOk, OnErr, IsSome, None, true, false};
+ghost use Rattle.std.specs.Prelude.{All, ◌≡◌, ◌≤◌, ◌<◌, ◌++◌, ◌∷◌, [], List, length, filter, not, Contains, IfOk, IfSome, OnOk, OnErr, IsSome, None, true, false};
 ghost use Rattle.cs_types.specs.Schemas.{IsSchema};
 ghost use Rattle.cs_model.specs.declared.entry.Entry.{Entry};
 ghost use Rattle.cs_model.specs.declared.entry.Entry.TheVariants.{End};
@@ -10,26 +10,32 @@ ghost use Rattle.cs_model.specs.Steps.{Legal};
 ghost use Rattle.group_book.specs.Book.{Book};
 ghost use Rattle.group_book.specs.Choices.{install_work, release_work};
 ghost use Rattle.group_book.specs.Turns.{same_actor};
-ghost use Rattle.group_log.specs.Counted.{IsCounted};
+ghost use Rattle.group_log.specs.Counted.{AreCountsAt, IsCounted};
 ghost use Rattle.group_log.specs.Followed.{ground_of, Followed};
+ghost use Rattle.group_log.specs.Reorganizing.{IsReorganized};
 ghost use Rattle.cs_model.specs.Text.{IsPrintableEntry};
 ghost use Rattle.group_directory.specs.Installing.{held_by};
 ghost use Rattle.cs_model.specs.declared.work.Actor.TheVariants as Actor;
 ghost use Rattle.script_reader.specs.Scripts.{IsServed};
+ghost use Rattle.statement_core.specs.Cores.{IsDone};
+ghost use Rattle.statement_core.specs.Counted.{outcome_counts};
 ghost use Rattle.statement_core.specs.Seats.{seat};
 ghost use Rattle.statement_core.specs.Movers.{IsMended};
 ghost use Rattle.statement_core.specs.Turns.{BeginsTurn, EndsBy, EndsTurn};
 ghost use Rattle.script_runner.specs.Running.{AreReady, IsFree, LeavesClaims, MayRun, OthersKeep, Waits};
-ghost use Rattle.script_runner.specs.Schedule.{IsPiece};
-ghost use Rattle.script_turns.specs.Turns.{IsStart, IsFinishOf};
+ghost use Rattle.script_runner.specs.Moves.{GivesBy, Moved};
+ghost use Rattle.script_runner.specs.Schedule.{IsFinishing, IsPiece};
+ghost use Rattle.script_turns.specs.Awaiting.{Awaits};
+ghost use Rattle.script_turns.specs.Turns.{IsStart};
 
+use crate::moves::make_moves;
 use cs_base::Memory;
 use cs_model::{Actor, Entry};
 use cs_types::Schema;
 use group_view::{Claim, Product};
 use script_reader::Step;
 use script_turns::bound_of;
-use statement_core::{Core, Desk, Seats, Started, Turned};
+use statement_core::{Core, Desk, Outcome, Seats, Started, Turned};
 use std::alloc::Global;
 use std::marker::Model;
 use std::sync::Wait;
@@ -63,8 +69,45 @@ fn begin(
     Ok(())
 }
 
+/// What a statement that was started gives: by a desk's work, and for a REORGANIZE by its moves, which are made here. What was
+/// started is over with it: it shares the own writes and the groups, which else would be copied at the Finish.
+fn give<R: Threads + Wait, D: Desk>(
+    rt: &R,
+    alloc: Global,
+    core: &mut Core,
+    session: u32,
+    started: Started,
+    desk: &D,
+) -> Outcome
+    requires awaits { Awaits core.old.sizes (begin_of core.old.schema) core.old.log session started }
+    requires free { held_by (Actor.Session session) core.old.claims ≡ None }
+    ensures gives { Moved session core.old.log core.new.log (GivesBy (ground_of core.old.schema core.old.sizes) core.old.log session result) }
+    ensures done { IsDone (begin_of core.old.schema) core.old.sizes core.new.log session result }
+    ensures counts { IfSome (outcome_counts result) (AreCountsAt (ground_of core.old.schema core.old.sizes) core.new.log session) }
+    ensures schema { core.new.schema ≡ core.old.schema }
+    ensures sizes { core.new.sizes ≡ core.old.sizes }
+    ensures sessions { core.new.sessions ≡ core.old.sessions }
+    ensures claims { core.new.claims ≡ core.old.claims }
+{
+    let outcome = desk.work(rt, alloc, &started);
+    let Some(all) = started.reorganizes() else {
+        return outcome;
+    };
+    let Outcome::Nothing = outcome else {
+        return outcome;
+    };
+    let Started { ledger, .. } = started;
+    let Some(ledger) = ledger else {
+        unreachable!();
+    };
+    match make_moves(alloc, core, session, all, &ledger, desk) {
+        Ok(groups) => Outcome::Left(groups),
+        Err(_) => Outcome::Short,
+    }
+}
+
 /// Finishes the statement that waits in its session's seat.
-fn finish<R: Threads + Wait + Sync, D: Desk>(
+fn finish<R: Threads + Wait, D: Desk>(
     rt: &R,
     alloc: Global,
     core: &mut Core,
@@ -77,7 +120,8 @@ fn finish<R: Threads + Wait + Sync, D: Desk>(
     requires known { Contains core.old.sessions session }
     requires begun { is_begun (entries_of session core.old.log) ≡ true }
     requires waits { Waits core.old.sizes (begin_of core.old.schema) core.old.log (seat waiting.old) }
-    ensures log { (e : Entry) × (core.new.log ≡ core.old.log ++ e ∷ []) × IsFinishOf session e }
+    requires free { held_by (Actor.Session session) core.old.claims ≡ None }
+    ensures log { (piece : List Entry) × (core.new.log ≡ core.old.log ++ piece) × IsFinishing (ground_of core.old.schema core.old.sizes) core.old.log session piece }
     ensures waits { Waits core.old.sizes (begin_of core.old.schema) core.new.log (seat waiting.new) }
     ensures schema { core.new.schema ≡ core.old.schema }
     ensures sizes { core.new.sizes ≡ core.old.sizes }
@@ -86,9 +130,7 @@ fn finish<R: Threads + Wait + Sync, D: Desk>(
 {
     match waiting.set(session, None) {
         Some(started) => {
-            let outcome = desk.work(rt, alloc, &started);
-            // What was started shares the own writes and the groups, which else would be copied.
-            drop(started);
+            let outcome = give(rt, alloc, core, session, started, desk);
             core.finish(session, outcome);
         }
         None => unreachable!(),
@@ -101,7 +143,7 @@ fn claim(core: &mut Core, lent: &mut Seats<Claim>, mover: u32) -> Result<(), Mem
     requires ready { AreReady core.old.claims (seat lent.old) }
     ensures begins { OnOk result ((piece : List Entry) × (core.new.log ≡ core.old.log ++ piece) × BeginsTurn (ground_of core.old.schema core.old.sizes) core.old.log (Actor.Mover mover) piece) }
     ensures ready { AreReady core.new.claims (seat lent.new) }
-    ensures others { OthersKeep mover core.old.claims core.new.claims }
+    ensures others { OthersKeep (Actor.Mover mover) core.old.claims core.new.claims }
     ensures schema { core.new.schema ≡ core.old.schema }
     ensures sizes { core.new.sizes ≡ core.old.sizes }
     ensures sessions { core.new.sessions ≡ core.old.sessions }
@@ -138,7 +180,7 @@ fn install<D: Desk>(alloc: Global, core: &mut Core, lent: &mut Seats<Claim>, mov
     ensures ends { (piece : List Entry) × (core.new.log ≡ core.old.log ++ piece) × EndsTurn (ground_of core.old.schema core.old.sizes) core.old.log (Actor.Mover mover) piece }
     ensures ready { AreReady core.new.claims (seat lent.new) }
     ensures free { held_by (Actor.Mover mover) core.new.claims ≡ None }
-    ensures others { OthersKeep mover core.old.claims core.new.claims }
+    ensures others { OthersKeep (Actor.Mover mover) core.old.claims core.new.claims }
     ensures schema { core.new.schema ≡ core.old.schema }
     ensures sizes { core.new.sizes ≡ core.old.sizes }
     ensures sessions { core.new.sessions ≡ core.old.sessions }
@@ -161,7 +203,7 @@ struct Waiting {
 }
 
 /// Makes the events of one step.
-fn run_step<R: Threads + Wait + Sync, D: Desk>(
+fn run_step<R: Threads + Wait, D: Desk>(
     rt: &R,
     alloc: Global,
     core: &mut Core,
@@ -248,11 +290,11 @@ impl Runner {
         })
     }
 
-    /// Runs one step: the Start of a statement, the Finish of the one that its session has half done, or both; or the first event
-    /// of a mover's turn, the last one, or both. `Memory`: no event was made. Conditions: a session is one that the core serves,
-    /// has not ended, and has a statement half done exactly where the step is a Finish alone; a text has at most 65,536 bytes; and
-    /// a mover is 1 to 8, and holds no claim where its turn begins.
-    pub fn step<R: Threads + Wait + Sync, D: Desk>(
+    /// Runs one step: the Start of a statement, the Finish of the one that its session has half done, with the moves of a
+    /// REORGANIZE before it, or both; or the first event of a mover's turn, the last one, or both. `Memory`: no event was made.
+    /// Conditions: a session is one that the core serves, has not ended, and has a statement half done exactly where the step is a
+    /// Finish alone; a text has at most 65,536 bytes; and a mover is 1 to 8, and holds no claim where its turn begins.
+    pub fn step<R: Threads + Wait, D: Desk>(
         &mut self,
         rt: &R,
         step: &Step,
@@ -311,6 +353,8 @@ impl Runner {
         ensures followed { (m : State) × (book : Book) × Followed (ground_of self.now.schema self.now.sizes) self.now.log m book }
         // Counts of segments in an answer are those of the groups at its statement's Start.
         ensures counted { IsCounted (ground_of self.now.schema self.now.sizes) self.now.log }
+        // Sessions work only as their REORGANIZE may, and each is told what that leaves.
+        ensures reorganized { IsReorganized (ground_of self.now.schema self.now.sizes) self.now.log }
         ensures printable { All (IsPrintableEntry self.now.schema) self.now.log }
     {
         self.core.log()

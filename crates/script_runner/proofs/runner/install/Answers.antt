@@ -9,11 +9,11 @@ use Rattle.script_runner.proofs.runner.install.Goals as goal
 
 pub end_turn-requires-clause-holds : goal.end_turn-requires-clause-holds
 end_turn-requires-clause-holds g c =
-    waits_held (held_by (Mover c.args.mover) c.args.core.now.claims) (seat c.args.lent.now c.args.mover) c.in-Some.claim (c.requires.ready c.args.mover (mover_seat c.args.core.now.sessions c.args.mover c.requires.served)) (sym c.in-Some.ensures.was)
+    waits_held (held_by (Mover c.args.mover) c.args.core.now.claims) (seat c.args.lent.now c.args.mover) c.in-Some.claim (c.requires.ready.movers c.args.mover (mover_seat c.args.core.now.sessions c.args.mover c.requires.served)) (sym c.in-Some.ensures.was)
 
 pub end_turn-requires-clause-mended : goal.end_turn-requires-clause-mended
 end_turn-requires-clause-mended g c =
-    waits_mended (held_by (Mover c.args.mover) c.args.core.now.claims) (seat c.args.lent.now c.args.mover) c.in-Some.claim c.mend-product.result (c.requires.ready c.args.mover (mover_seat c.args.core.now.sessions c.args.mover c.requires.served)) (sym c.in-Some.ensures.was)
+    waits_mended (held_by (Mover c.args.mover) c.args.core.now.claims) (seat c.args.lent.now c.args.mover) c.in-Some.claim c.mend-product.result (c.requires.ready.movers c.args.mover (mover_seat c.args.core.now.sessions c.args.mover c.requires.served)) (sym c.in-Some.ensures.was)
     c.mend-product.ensures
 
 pub returns-in_default-clause-ends : goal.returns-in_default-clause-ends
@@ -21,12 +21,12 @@ returns-in_default-clause-ends g c =
     let core = c.args.core.now in
     no_turn (ground_of core.schema core.sizes) core.log c.args.mover
     (free_turn (ground_of core.schema core.sizes) core.log core.claims (Mover c.args.mover) c.log-log.ensures.claims
-    (waits_free (held_by (Mover c.args.mover) core.claims) (seat c.args.lent.now c.args.mover) (c.requires.ready c.args.mover (mover_seat c.args.core.now.sessions c.args.mover c.requires.served)) (sym c.in_default.ensures.was)))
+    (waits_free (held_by (Mover c.args.mover) core.claims) (seat c.args.lent.now c.args.mover) (c.requires.ready.movers c.args.mover (mover_seat c.args.core.now.sessions c.args.mover c.requires.served)) (sym c.in_default.ensures.was)))
 
 pub returns-in_default-clause-ready : goal.returns-in_default-clause-ready
 returns-in_default-clause-ready g c =
     ready_free c.args.mover c.args.core.now.claims c.args.core.now.claims (seat c.args.lent.now) (seat c.set.new.self) c.requires.ready (λ other apart. refl)
-    (waits_free (held_by (Mover c.args.mover) c.args.core.now.claims) (seat c.args.lent.now c.args.mover) (c.requires.ready c.args.mover (mover_seat c.args.core.now.sessions c.args.mover c.requires.served)) (sym c.in_default.ensures.was)) c.set.ensures.after
+    (waits_free (held_by (Mover c.args.mover) c.args.core.now.claims) (seat c.args.lent.now c.args.mover) (c.requires.ready.movers c.args.mover (mover_seat c.args.core.now.sessions c.args.mover c.requires.served)) (sym c.in_default.ensures.was)) c.set.ensures.after
 
 pub returns-clause-ends : goal.returns-clause-ends
 returns-clause-ends g c =
@@ -36,10 +36,10 @@ returns-clause-ends g c =
 pub returns-clause-ready : goal.returns-clause-ready
 returns-clause-ready g c =
     ready_free c.args.mover c.args.core.now.claims c.end_turn.new.core.claims (seat c.args.lent.now) (seat c.set.new.self) c.requires.ready
-    (others_after c.args.mover c.args.core.now.claims c.end_turn.new.core.claims c.end_turn.ensures.claims) (free_after c.args.mover c.args.core.now.claims c.end_turn.new.core.claims c.end_turn.ensures.claims) c.set.ensures.after
+    (others_after (Mover c.args.mover) c.args.core.now.claims c.end_turn.new.core.claims c.end_turn.ensures.claims) (free_after (Mover c.args.mover) c.args.core.now.claims c.end_turn.new.core.claims c.end_turn.ensures.claims) c.set.ensures.after
 
 pub returns-clause-free : goal.returns-clause-free
-returns-clause-free g c = free_after c.args.mover c.args.core.now.claims c.end_turn.new.core.claims c.end_turn.ensures.claims
+returns-clause-free g c = free_after (Mover c.args.mover) c.args.core.now.claims c.end_turn.new.core.claims c.end_turn.ensures.claims
 
 pub returns-clause-others : goal.returns-clause-others
-returns-clause-others g c = others_after c.args.mover c.args.core.now.claims c.end_turn.new.core.claims c.end_turn.ensures.claims
+returns-clause-others g c = others_after (Mover c.args.mover) c.args.core.now.claims c.end_turn.new.core.claims c.end_turn.ensures.claims
