@@ -48,9 +48,9 @@ rested_list movers n (p ∷ own) rested has = dite (ℕ_discrete p.0 n)
     behind ne (zero, lt, e) = absurd (ne e)
     behind ne (suc k, lt, e) = (k, omega (arith, lt), e)
 
--- a mover of whom a pass rests holds no claim
-pub rested_free : (movers n : ℕ) (own : List (ℕ × List Event)) → All (IsRested movers) own → Contains (own_numbers own) n → 64 < n → held_in (list_of n own) ≡ None
-rested_free movers n own rested has high = let r = rested_list movers n own rested has in r.1 high
+-- who rests holds no claim
+pub rested_free : (movers n : ℕ) (own : List (ℕ × List Event)) → All (IsRested movers) own → Contains (own_numbers own) n → held_in (list_of n own) ≡ None
+rested_free movers n own rested has = let r = rested_list movers n own rested has in r.1
 
 -- ---- at the close
 
@@ -60,9 +60,9 @@ none_by n own (e ∷ events) apart others =
     let ne : number_in e ≢ n = All-contains (λ m. m ≢ n) (own_numbers own) (number_in e) apart (others 0 e (omega arith)) in
     ap (λ b. cond b (e ∷ events_by n events) (events_by n events)) (ne_eqb (number_in e) n ne) ∙ none_by n own events apart (λ k d lt. others (suc k) d (omega (arith, lt)))
 
-free_by : (movers n : ℕ) (own : List (ℕ × List Event)) (events : List Event) → Tells number_in own events → All (λ event. Contains (own_numbers own) (number_in event)) events → All (IsRested movers) own → 64 < n → held_in (events_by n events) ≡ None
-free_by movers n own events tells others rested high = ⊎_elim
-    (λ (has : Contains (own_numbers own) n). ap held_in (list_told number_in n own events tells has) ∙ rested_free movers n own rested has high)
+free_by : (movers n : ℕ) (own : List (ℕ × List Event)) (events : List Event) → Tells number_in own events → All (λ event. Contains (own_numbers own) (number_in event)) events → All (IsRested movers) own → held_in (events_by n events) ≡ None
+free_by movers n own events tells others rested = ⊎_elim
+    (λ (has : Contains (own_numbers own) n). ap held_in (list_told number_in n own events tells has) ∙ rested_free movers n own rested has)
     (λ (apart : All (λ m. m ≢ n) (own_numbers own)). ap held_in (none_by n own events apart others)) (has_or_not n own)
 
 number_within : (movers n : ℕ) (own : List (ℕ × List Event)) → All (IsRested movers) own → Contains (own_numbers own) n → n ≤ 64 + movers
@@ -71,7 +71,7 @@ number_within movers n own rested has = let r = rested_list movers n own rested 
 pub at_rest : (sessions : List ℕ) (lines : List Step) (movers : ℕ) (done : Bool) (own : List (ℕ × List Event)) (events : List Event) → Tells number_in own events → All (λ event. Contains (own_numbers own) (number_in event)) events
     → All (IsRested movers) own → All (HasRun lines done own) sessions → AreAtRest sessions lines movers done events
 at_rest sessions lines movers done own events tells others rested runs = record {
-  free = λ mover low. free_by movers (64 + mover) own events tells others rested (omega (arith, low));
+  free = λ n. free_by movers n own events tells others rested;
   numbers = λ k d lt. let e : Event = get_or events k d in number_within movers (number_in e) own rested (others k d lt);
   runs = λ session has.
       let h = All-contains (HasRun lines done own) sessions session runs has in
@@ -102,7 +102,7 @@ rested_after movers before after events some same tells free rested = λ k d lt.
     let list : ℕ × List Event = get_or after k d in
     let has : Contains after list = Contains-get_or after k d lt in
     dite (ℕ_discrete list.0 65)
-    (λ e. (omega (arith, e, some), λ high. ap held_in (told_list 65 after events list tells has e) ∙ free))
+    (λ e. (omega (arith, e, some), ap held_in (told_list 65 after events list tells has e) ∙ free))
     (λ ne. All-contains (IsRested movers) before list rested (other_stays 65 after before list (sym same) ne has))
 
 -- the runs of sessions are as before

@@ -8,6 +8,7 @@ use Rattle.history_gate.specs.Histories.{own_numbers, list_of, without}
 use Rattle.history_gate.proofs.Numbers.{Contains-without}
 use Rattle.cs_model.specs.declared.entry.Entry.{Entry}
 use Rattle.script_reader.specs.declared.script.Step.{Step}
+use Rattle.cs_model.specs.Actors.{turns_of}
 use Rattle.script_turns.specs.Turns.{texts_of, AreTurns}
 use Rattle.session_pool.specs.declared.event.Event.{Event}
 use Rattle.session_pool.specs.Events.{entries_in, held_in}
@@ -26,7 +27,7 @@ own_list n (p ∷ own) one =
 -- a whole run is a front of one too
 pub whole_or_front : (session : ℕ) (lines : List Step) (done : Bool) (entries : List Entry) → IsSessionRun session lines true entries → IsSessionRun session lines done entries
 whole_or_front session lines true entries whole = whole
-whole_or_front session lines false entries whole = ([], subst (AreTurns session (length (texts_of session lines))) (sym (append-nil entries)) whole)
+whole_or_front session lines false entries whole = ([], subst (AreTurns session (length (texts_of session lines))) (sym (append-nil (turns_of session entries))) whole)
 
 as_front : (session : ℕ) (lines : List Step) (done : Bool) (entries : List Entry) → IsSessionRun session lines done entries → IsSessionRun session lines false entries
 as_front session lines true entries run = whole_or_front session lines false entries run
@@ -87,13 +88,13 @@ spare_others session others reserve left apart is spare = λ k d lt.
 -- ---- who rests
 
 -- a pass with one number, of a session or of a mover
-pub one_rested : (movers n : ℕ) (own : List (ℕ × List Event)) → own_numbers own ≡ n ∷ [] → n ≤ 64 + movers → (64 < n → held_in (list_of n own) ≡ None) → All (IsRested movers) own
+pub one_rested : (movers n : ℕ) (own : List (ℕ × List Event)) → own_numbers own ≡ n ∷ [] → n ≤ 64 + movers → held_in (list_of n own) ≡ None → All (IsRested movers) own
 one_rested movers n [] one within free = absurd (cc one)
 one_rested movers n (p ∷ q ∷ own) one within free = absurd (cc one)
 one_rested movers n (p ∷ []) one within free =
     let same : p.0 ≡ n = cc one in
     let list : list_of n (p ∷ []) ≡ p.1 = ap (λ b. cond b p.1 []) (eq-eqb p.0 n same) in
-    All-cons (IsRested movers) p [] (omega (arith, same, within), λ high. ap held_in (sym list) ∙ free (omega (arith, same, high))) (λ k d lt. absurd (omega (arith, lt)))
+    All-cons (IsRested movers) p [] (omega (arith, same, within), ap held_in (sym list) ∙ free) (λ k d lt. absurd (omega (arith, lt)))
 
 pub rested_joined : (movers : ℕ) (back mine own : List (ℕ × List Event)) → own ≡ back ++ mine → All (IsRested movers) back → All (IsRested movers) mine → All (IsRested movers) own
 rested_joined movers back mine own joined a b = subst (All (IsRested movers)) (sym joined) (All-append (IsRested movers) back mine a b)

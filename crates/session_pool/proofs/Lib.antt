@@ -1,9 +1,12 @@
 pub mod Events
 pub mod Claims
 pub mod Pools
-pub mod Movers
-pub mod Own
+pub mod Turning
 pub mod Passes
+pub mod Own
+pub mod Working
+pub mod Course
+pub mod Outcomes
 pub mod Statements
 pub mod Crossing
 pub mod Joined

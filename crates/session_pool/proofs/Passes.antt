@@ -23,7 +23,7 @@ use Rattle.session_pool.specs.declared.event.Event.{Event}
 use Rattle.session_pool.specs.Events.{number_in, entries_in, held_in}
 use Rattle.session_pool.specs.Rests.{lists_but}
 use Rattle.session_pool.specs.Sections.{IsAdded, AddsTurn}
-use Rattle.session_pool.specs.Statements.{AddsStatement}
+use Rattle.session_pool.specs.Statements.{AddsStatement, AreWorks}
 
 -- ---- one number
 
@@ -39,7 +39,7 @@ pub list_grows : (n : ℕ) (e : Event) (own after : List (ℕ × List Event)) �
 list_grows n e own after by has is =
     ap (list_of n) is ∙ subst (λ k. list_of k (added number_in e own) ≡ list_of k own ++ e ∷ []) by (list_added number_in e own (subst (Contains (own_numbers own)) (sym by) has))
 
-numbers_stay : (e : Event) (own after : List (ℕ × List Event)) → after ≡ added number_in e own → own_numbers after ≡ own_numbers own
+pub numbers_stay : (e : Event) (own after : List (ℕ × List Event)) → after ≡ added number_in e own → own_numbers after ≡ own_numbers own
 numbers_stay e own after is = ap own_numbers is ∙ numbers_added number_in e own
 
 -- ---- a session
@@ -52,37 +52,61 @@ start_in session b short (Mover actor work) h = absurd h
 
 -- what a Start adds to a pass
 abbrev pub AddsStart : ℕ → Bound → List (ℕ × List Event) → List (ℕ × List Event) → Started → Type 0
-AddsStart session b before after started = (e : Event) × (after ≡ added (λ x. number_in x) e before) × IsStartOf session b started.short e.entry
+AddsStart session b before after started = (e : Event) × (after ≡ added (λ x. number_in x) e before) × IsStartOf session b started.short e.entry × (e.lent ≡ None)
 
 pub start_adds : {M : Type 0} (session : ℕ) (b : Bound) (before after : List (ℕ × List Event)) (r : Result Started M) (started : Started) → r ≡ Ok started
     → MatchResult r (AddsStart session b before after) (λ _. after ≡ before) → AddsStart session b before after started
 start_adds {M} session b before after r started is own = subst (λ z. MatchResult z (AddsStart session b before after) (λ _. after ≡ before)) is own
 
+-- what an event lent is held after it
+pub held_more : (n : ℕ) (e : Event) (own after : List (ℕ × List Event)) → number_in e ≡ n → Contains (own_numbers own) n → after ≡ added number_in e own → held_in (list_of n after) ≡ e.lent
+held_more n e own after by has is = ap held_in (list_grows n e own after by has is) ∙ fold-append (λ (held : Option Claim) (event : Event). event.lent) None (list_of n own) (e ∷ [])
+
 module _ (session : ℕ) (b : Bound) (first mid : List (ℕ × List Event)) (started : Started) (one : own_numbers first ≡ session ∷ []) (starts : AddsStart session b first mid started) where
   pub start_numbers : own_numbers mid ≡ session ∷ []
   start_numbers = numbers_stay starts.0 first mid starts.1 ∙ one
 
-  module _ (last : List (ℕ × List Event)) (finishes : (e : Event) × (reply : Reply) × (e.entry ≡ Finish session reply) × (last ≡ added (λ x. number_in x) e mid)) where
-    pub finish_numbers : own_numbers last ≡ session ∷ []
-    finish_numbers = numbers_stay finishes.0 mid last finishes.3 ∙ start_numbers
+  start_number : number_in starts.0 ≡ session
+  start_number = let a = starts.0 in (start_of_does session b started.short a.entry starts.2).actor
 
-    -- a Start and its Finish are one statement
+  pub start_free : held_in (list_of session mid) ≡ None
+  start_free = held_more session starts.0 first mid start_number (has_number first session one) starts.1 ∙ starts.3
+
+  -- the works of the statement, and its Finish
+  module _ (made last : List (ℕ × List Event)) (numbers : own_numbers made ≡ own_numbers mid) (works : List Event) (list : list_of session made ≡ list_of session mid ++ works) (are : AreWorks (entries_in works))
+      (finishes : (e : Event) × (reply : Reply) × (e.entry ≡ Finish session reply) × (last ≡ added (λ x. number_in x) e made) × (e.lent ≡ None)) where
+    made_numbers : own_numbers made ≡ session ∷ []
+    made_numbers = numbers ∙ start_numbers
+
+    pub finish_numbers : own_numbers last ≡ session ∷ []
+    finish_numbers = numbers_stay finishes.0 made last finishes.3 ∙ made_numbers
+
+    pub finish_free : held_in (list_of session last) ≡ None
+    finish_free = held_more session finishes.0 made last (ap actor_of finishes.2) (has_number made session made_numbers) finishes.3 ∙ finishes.4
+
+    -- a Start, its works and its Finish are one statement
     pub adds_statement : AddsStatement session (entries_in (list_of session first)) (entries_in (list_of session last))
     adds_statement =
         let a = starts.0 in
         let z = finishes.0 in
-        let left : list_of session mid ≡ list_of session first ++ a ∷ [] = list_grows session a first mid (start_of_does session b started.short a.entry starts.2).actor (has_number first session one) starts.1 in
-        let right : list_of session last ≡ list_of session mid ++ z ∷ [] = list_grows session z mid last (ap actor_of finishes.2) (has_number mid session start_numbers) finishes.3 in
-        let both : list_of session last ≡ (list_of session first ++ a ∷ []) ++ z ∷ [] = right ∙ ap (λ es. es ++ z ∷ []) left in
-        let entries : entries_in (list_of session last) ≡ entries_in (list_of session first) ++ a.entry ∷ Finish session finishes.1 ∷ [] =
-        ap entries_in (both ∙ append_assoc (list_of session first) (a ∷ []) (z ∷ [])) ∙ map-append (λ (event : Event). event.entry) (list_of session first) (a ∷ z ∷ [])
-        ∙ ap (λ e. entries_in (list_of session first) ++ a.entry ∷ e ∷ []) finishes.2 in
-        (a.entry, Finish session finishes.1, entries, start_in session b started.short a.entry starts.2, refl)
+        let before : List Event = list_of session first in
+        let left : list_of session mid ≡ before ++ a ∷ [] = list_grows session a first mid start_number (has_number first session one) starts.1 in
+        let right : list_of session last ≡ list_of session made ++ z ∷ [] = list_grows session z made last (ap actor_of finishes.2) (has_number made session made_numbers) finishes.3 in
+        let both : list_of session last ≡ before ++ a ∷ (works ++ z ∷ []) =
+        right ∙ ap (λ es. es ++ z ∷ []) (list ∙ ap (λ es. es ++ works) left) ∙ append_assoc (before ++ a ∷ []) works (z ∷ []) ∙ append_assoc before (a ∷ []) (works ++ z ∷ []) in
+        let entries : entries_in (list_of session last) ≡ entries_in before ++ a.entry ∷ (entries_in works ++ Finish session finishes.1 ∷ []) =
+        ap entries_in both ∙ map-append (λ (event : Event). event.entry) before (a ∷ (works ++ z ∷ []))
+        ∙ ap (λ es. entries_in before ++ a.entry ∷ es) (map-append (λ (event : Event). event.entry) works (z ∷ []))
+        ∙ ap (λ e. entries_in before ++ a.entry ∷ (entries_in works ++ e ∷ [])) finishes.2 in
+        (a.entry, entries_in works, Finish session finishes.1, entries, start_in session b started.short a.entry starts.2, are, refl)
 
 -- the End of a session
-module _ (session : ℕ) (first last : List (ℕ × List Event)) (one : own_numbers first ≡ session ∷ []) (ends : (e : Event) × (e.entry ≡ End session) × (last ≡ added (λ x. number_in x) e first)) where
+module _ (session : ℕ) (first last : List (ℕ × List Event)) (one : own_numbers first ≡ session ∷ []) (ends : (e : Event) × (e.entry ≡ End session) × (last ≡ added (λ x. number_in x) e first) × (e.lent ≡ None)) where
   pub end_numbers : own_numbers last ≡ session ∷ []
   end_numbers = numbers_stay ends.0 first last ends.2 ∙ one
+
+  pub end_free : held_in (list_of session last) ≡ None
+  end_free = held_more session ends.0 first last (ap actor_of ends.1) (has_number first session one) ends.2 ∙ ends.3
 
   pub end_entries : entries_in (list_of session last) ≡ entries_in (list_of session first) ++ End session ∷ []
   end_entries =
@@ -123,11 +147,9 @@ module _ (number : ℕ) (lent : Option Claim) (before after : List (ℕ × List 
   pub added_keeps : KeepsOthers number before after
   added_keeps = record { numbers = numbers_stay x.event before after x.own; others = ap (lists_but number) x.own ∙ but_added number x.event before x.by }
 
-  -- the mover holds what its last event lent
+  -- the actor holds what its last event lent
   pub added_holds : Contains (own_numbers before) number → held_in (list_of number after) ≡ lent
-  added_holds has =
-      ap held_in (list_grows number x.event before after x.by has x.own)
-      ∙ fold-append (λ (held : Option Claim) (event : Event). event.lent) None (list_of number before) (x.event ∷ []) ∙ x.lends
+  added_holds has = held_more number x.event before after x.by has x.own ∙ x.lends
 
 -- what the first event of a turn lends
 abbrev pub lends : Turned → Option Claim

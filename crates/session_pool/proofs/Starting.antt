@@ -1,5 +1,5 @@
 -- What the first pass of a run has to give away.
-use Rattle.std.proofs.Common.{◌≡◌, ◌≤◌, ◌<◌, ◌+◌, ℕ, zero, suc, List, [], ◌∷◌, sym, ◌∙◌, subst, arith, get_or, All, Contains}
+use Rattle.std.proofs.Common.{◌≡◌, ◌≤◌, ◌<◌, ◌+◌, ℕ, zero, suc, List, [], ◌∷◌, refl, sym, ◌∙◌, subst, arith, get_or, All, Contains}
 use Rattle.std.specs.List.{range_with_len}
 use Rattle.std.proofs.lemmas.List.Elements.{All-nil, All-cons, All-filter}
 use Rattle.history_gate.proofs.Numbers.{Contains-range}
@@ -31,4 +31,4 @@ sessions_first script sessions reserve run are is = subst (All (Contains reserve
 
 -- the caller's own number rests
 pub rested_first : (movers : ℕ) (own : List (ℕ × List Event)) → own ≡ (0, []) ∷ [] → All (IsRested movers) own
-rested_first movers own is = subst (All (IsRested movers)) (sym is) (All-cons (IsRested movers) (0, []) [] (omega arith, λ high. absurd (omega (arith, high))) (All-nil (IsRested movers)))
+rested_first movers own is = subst (All (IsRested movers)) (sym is) (All-cons (IsRested movers) (0, []) [] (omega arith, refl) (All-nil (IsRested movers)))

@@ -1,37 +1,38 @@
 -- The statements of a session, one after the other, by its entries.
 use Rattle.std.proofs.Common.{◌≡◌, ℕ, zero, suc, ◌+◌, ◌-◌, ◌<◌, ◌≤◌, List, [], ◌∷◌, ◌++◌, length, get_or, take, drop, refl, sym, ap, subst, ◌∙◌, cond, Bool, true, false, ◌||◌, arith, append_assoc, length-append, All}
-use Rattle.std.specs.Prelude.{◌==◌, None, Some, Option, slice_get}
+use Rattle.std.specs.Prelude.{◌==◌, ◌&&◌, None, Some, Option, fold, slice_get}
 use Rattle.std.specs.Borrow.{Bor}
 use Rattle.std.specs.Option.{option_copied}
 use Rattle.std.specs.List.{cons_option}
 use Rattle.std.proofs.lemmas.Bool.{eq-eqb}
 use Rattle.std.proofs.lemmas.List.{append-nil, take_more, take_all}
-use Rattle.std.proofs.lemmas.List.Elements.{filter_map-append}
-use Rattle.std.proofs.lemmas.List.Sums.{sum_by-append, fold-append}
-use Rattle.std.proofs.lemmas.Option.{slice_get_read}
-use Rattle.std.proofs.Math.Seq.{get_or-append_seam, split_at}
+use Rattle.std.proofs.lemmas.List.Elements.{All-head, All-tail, filter-append, filter_map-append}
+use Rattle.std.proofs.lemmas.List.Sums.{sum_by-append, sum_by-cons, fold-append}
+use Rattle.std.proofs.Math.Seq.{split_at}
 use denote.RawPtr.{null_ptr}
 use Rattle.cs_model.specs.declared.entry.Bound.TheVariants as bound
 use Rattle.cs_model.specs.declared.entry.Reply.TheVariants as reply
 use Rattle.cs_model.specs.declared.entry.Entry.{Entry}
 use Rattle.cs_model.specs.declared.entry.Entry.TheVariants.{Start, Finish, End, Mover}
-use Rattle.cs_model.specs.Actors.{begun_by, is_end, is_begun, has_ended}
+use Rattle.cs_model.specs.Actors.{actor_of, begun_by, is_turn, is_end, is_begun, has_ended, turns_of}
 use Rattle.cs_model.specs.Text.{is_start_of, statements_of}
 use Rattle.script_reader.specs.declared.script.Step.{Step}
 use Rattle.script_reader.specs.declared.script.Step.TheVariants.{Whole, Begun, Finished, Turn, Claiming, Installing}
 use Rattle.script_reader.specs.Scripts.{text_of}
 use Rattle.script_turns.specs.Turns.{IsFinishOf, IsStartIn, AreTurns, started_in, texts_of}
 use Rattle.script_turns.proofs.Entries.{finish_does}
-use Rattle.session_pool.specs.Statements.{AddsStatement}
+use Rattle.script_turns.proofs.Meanings.{at_seam}
+use Rattle.session_pool.specs.Runs.{IsSessionRun}
+use Rattle.session_pool.specs.Statements.{AddsStatement, AreWorks}
 
 -- ---- so many statements are done
 
--- these entries of a session begin so many statements and finish each: what is to come may follow them
+-- these entries of a session begin so many statements and finish each: what is to come may follow their turns
 pub record HasDone (session n : ℕ) (entries : List Entry) : Type 0 where
   pub counted : statements_of session entries ≡ n
   pub rests : is_begun entries ≡ false
   pub going : has_ended entries ≡ false
-  pub leads : (m : ℕ) (others : List Entry) → AreTurns session m others → AreTurns session (n + m) (entries ++ others)
+  pub leads : (m : ℕ) (others : List Entry) → AreTurns session m others → AreTurns session (n + m) (turns_of session entries ++ others)
 
 pub done_none : (session : ℕ) → HasDone session 0 []
 done_none session = record {
@@ -41,58 +42,133 @@ done_none session = record {
   leads = λ m others turns. let same : m ≡ 0 + m = omega arith in subst (λ k. AreTurns session k others) same turns;
 }
 
-start_counts : (session : ℕ) (e : Entry) → IsStartIn session e → is_start_of session e ≡ true
-start_counts session (Start s b short) h = eq-eqb s session h
-start_counts session (Finish s r) h = absurd h
-start_counts session (End s) h = absurd h
-start_counts session (Mover actor work) h = absurd h
+-- ---- one entry
 
-start_goes : (session : ℕ) (e : Entry) → IsStartIn session e → is_end e ≡ false
-start_goes session (Start s b short) h = refl
-start_goes session (Finish s r) h = absurd h
-start_goes session (End s) h = absurd h
-start_goes session (Mover actor work) h = absurd h
+-- what a Start of the session is
+record StartsOne (session : ℕ) (e : Entry) : Type 0 where
+  pub counts : is_start_of session e ≡ true
+  pub goes : is_end e ≡ false
+  pub turn : (is_turn e && (actor_of e == session)) ≡ true
 
-finish_counts : (session : ℕ) (e : Entry) → IsFinishOf session e → is_start_of session e ≡ false
-finish_counts session (Start s b short) h = absurd h
-finish_counts session (Finish s r) h = refl
-finish_counts session (End s) h = absurd h
-finish_counts session (Mover actor work) h = absurd h
+start_one : (session : ℕ) (e : Entry) → IsStartIn session e → StartsOne session e
+start_one session (Start s b short) h = record { counts = eq-eqb s session h; goes = refl; turn = eq-eqb s session h }
+start_one session (Finish s r) h = absurd h
+start_one session (End s) h = absurd h
+start_one session (Mover actor work) h = absurd h
 
--- one statement more
-module _ (session n : ℕ) (es : List Entry) (done : HasDone session n es) (a b : Entry) (start : IsStartIn session a) (finish : IsFinishOf session b) where
-  one_counted : statements_of session (es ++ a ∷ b ∷ []) ≡ n + 1
+-- what its Finish is
+record FinishesOne (session : ℕ) (e : Entry) : Type 0 where
+  pub counts : is_start_of session e ≡ false
+  pub turn : (is_turn e && (actor_of e == session)) ≡ true
+
+finish_one : (session : ℕ) (e : Entry) → IsFinishOf session e → FinishesOne session e
+finish_one session (Start s b short) h = absurd h
+finish_one session (Finish s r) h = record { counts = refl; turn = eq-eqb s session h }
+finish_one session (End s) h = absurd h
+finish_one session (Mover actor work) h = absurd h
+
+-- what a work of it is: it changes nothing of this
+record WorksOne (session : ℕ) (e : Entry) : Type 0 where
+  pub counts : is_start_of session e ≡ false
+  pub begun : (before : Bool) → begun_by before e ≡ before
+  pub goes : is_end e ≡ false
+
+work_one : (session : ℕ) (e : Entry) → is_turn e ≡ false → WorksOne session e
+work_one session (Start s b short) h = absurd (cc h)
+work_one session (Finish s r) h = absurd (cc h)
+work_one session (End s) h = absurd (cc h)
+work_one session (Mover actor work) h = record { counts = refl; begun = λ before. refl; goes = refl }
+
+-- ---- works
+
+abbrev ended_by : Bool → Entry → Bool
+ended_by before e = before || is_end e
+
+-- a list of works, where something else stands behind them
+module _ (session : ℕ) (others : List Entry) where
+  works_counted : (works : List Entry) → AreWorks works → statements_of session (works ++ others) ≡ statements_of session others
+  works_counted [] are = refl
+  works_counted (w ∷ works) are =
+      let one = work_one session w (All-head (λ entry. is_turn entry ≡ false) w works are) in
+      let none : 0 + statements_of session (works ++ others) ≡ statements_of session (works ++ others) = omega arith in
+      sum_by-cons (λ x. cond (is_start_of session x) 1 0) w (works ++ others)
+      ∙ (ap (λ t. cond t 1 0 + statements_of session (works ++ others)) one.counts ∙ (none ∙ works_counted works (All-tail (λ entry. is_turn entry ≡ false) w works are)))
+
+  works_begun : (works : List Entry) → AreWorks works → (before : Bool) → fold begun_by before (works ++ others) ≡ fold begun_by before others
+  works_begun [] are before = refl
+  works_begun (w ∷ works) are before =
+      let one = work_one session w (All-head (λ entry. is_turn entry ≡ false) w works are) in
+      ap (λ b. fold begun_by b (works ++ others)) (one.begun before) ∙ works_begun works (All-tail (λ entry. is_turn entry ≡ false) w works are) before
+
+  works_going : (works : List Entry) → AreWorks works → fold ended_by false (works ++ others) ≡ fold ended_by false others
+  works_going [] are = refl
+  works_going (w ∷ works) are =
+      let one = work_one session w (All-head (λ entry. is_turn entry ≡ false) w works are) in
+      ap (λ b. fold ended_by (false || b) (works ++ others)) one.goes ∙ works_going works (All-tail (λ entry. is_turn entry ≡ false) w works are)
+
+  works_turns : (works : List Entry) → AreWorks works → turns_of session (works ++ others) ≡ turns_of session others
+  works_turns [] are = refl
+  works_turns (w ∷ works) are =
+      ap (λ b. cond (b && (actor_of w == session)) (w ∷ turns_of session (works ++ others)) (turns_of session (works ++ others))) (All-head (λ entry. is_turn entry ≡ false) w works are)
+      ∙ works_turns works (All-tail (λ entry. is_turn entry ≡ false) w works are)
+
+-- ---- one statement more
+
+module _ (session n : ℕ) (es : List Entry) (done : HasDone session n es) (a : Entry) (works : List Entry) (b : Entry) (start : IsStartIn session a) (are : AreWorks works) (finish : IsFinishOf session b) where
+  abbrev piece : List Entry
+  piece = a ∷ (works ++ b ∷ [])
+
+  first : StartsOne session a
+  first = start_one session a start
+
+  last : FinishesOne session b
+  last = finish_one session b finish
+
+  one_counted : statements_of session (es ++ piece) ≡ n + 1
   one_counted =
-      let pair : (0 + cond (is_start_of session a) 1 0) + cond (is_start_of session b) 1 0 ≡ (0 + 1) + 0 = λ i. (0 + cond (start_counts session a start i) 1 0) + cond (finish_counts session b finish i) 1 0 in
-      sum_by-append (λ x. cond (is_start_of session x) 1 0) es (a ∷ b ∷ []) ∙ (λ i. done.counted i + pair i)
+      let counts : Entry → ℕ = λ x. cond (is_start_of session x) 1 0 in
+      let rest : statements_of session (works ++ b ∷ []) ≡ 0 = works_counted session (b ∷ []) works are ∙ (sum_by-cons counts b [] ∙ ap (λ t. cond t 1 0 + 0) last.counts) in
+      let all : statements_of session piece ≡ 1 = sum_by-cons counts a (works ++ b ∷ []) ∙ (λ i. cond (first.counts i) 1 0 + rest i) in
+      sum_by-append counts es piece ∙ (λ i. done.counted i + all i)
 
-  one_rests : is_begun (es ++ a ∷ b ∷ []) ≡ false
-  one_rests = fold-append begun_by false es (a ∷ b ∷ []) ∙ (finish_does session b finish).begun (begun_by (is_begun es) a)
+  one_rests : is_begun (es ++ piece) ≡ false
+  one_rests = fold-append begun_by false es piece ∙ (works_begun session (b ∷ []) works are (begun_by (is_begun es) a) ∙ (finish_does session b finish).begun (begun_by (is_begun es) a))
 
-  one_going : has_ended (es ++ a ∷ b ∷ []) ≡ false
+  one_going : has_ended (es ++ piece) ≡ false
   one_going =
-      fold-append (λ before (x : Entry). before || is_end x) false es (a ∷ b ∷ [])
-      ∙ (λ i. (done.going i || start_goes session a start i) || (finish_does session b finish).going i)
+      fold-append ended_by false es piece
+      ∙ ((λ i. fold ended_by (done.going i || first.goes i) (works ++ b ∷ [])) ∙ (works_going session (b ∷ []) works are ∙ (finish_does session b finish).going))
 
-  one_leads : (m : ℕ) (others : List Entry) → AreTurns session m others → AreTurns session ((n + 1) + m) ((es ++ a ∷ b ∷ []) ++ others)
+  one_turns : turns_of session (es ++ piece) ≡ turns_of session es ++ a ∷ b ∷ []
+  one_turns =
+      filter-append (λ entry. is_turn entry && (actor_of entry == session)) es piece
+      ∙ ap (λ ts. turns_of session es ++ ts)
+      (ap (λ t. cond t (a ∷ turns_of session (works ++ b ∷ [])) (turns_of session (works ++ b ∷ []))) first.turn
+      ∙ ap (λ ts. a ∷ ts) (works_turns session (b ∷ []) works are ∙ ap (λ t. cond t (b ∷ []) []) last.turn))
+
+  one_leads : (m : ℕ) (others : List Entry) → AreTurns session m others → AreTurns session ((n + 1) + m) (turns_of session (es ++ piece) ++ others)
   one_leads m others turns =
       let same : n + suc m ≡ (n + 1) + m = omega arith in
-      subst (λ k. AreTurns session k ((es ++ a ∷ b ∷ []) ++ others)) same
-      (subst (AreTurns session (n + suc m)) (sym (append_assoc es (a ∷ b ∷ []) others)) (done.leads (suc m) (a ∷ b ∷ others) (a, b, others, refl, start, finish, turns)))
+      subst (λ k. AreTurns session k (turns_of session (es ++ piece) ++ others)) same
+      (subst (AreTurns session (n + suc m)) (sym (ap (λ ts. ts ++ others) one_turns ∙ append_assoc (turns_of session es) (a ∷ b ∷ []) others))
+      (done.leads (suc m) (a ∷ b ∷ others) (a, b, others, refl, start, finish, turns)))
 
-  done_one : HasDone session (n + 1) (es ++ a ∷ b ∷ [])
+  done_one : HasDone session (n + 1) (es ++ piece)
   done_one = record { counted = one_counted; rests = one_rests; going = one_going; leads = one_leads }
 
 pub done_more : (session n : ℕ) (before after : List Entry) → HasDone session n before → AddsStatement session before after → HasDone session (n + 1) after
-done_more session n before after done x = subst (HasDone session (n + 1)) (sym x.2) (done_one session n before done x.0 x.1 x.3 x.4)
+done_more session n before after done x = subst (HasDone session (n + 1)) (sym x.3) (done_one session n before done x.0 x.1 x.2 x.4 x.5 x.6)
 
 -- ---- the End, or a stop
 
 -- all statements, and the End
-pub whole_run : (session n : ℕ) (es after : List Entry) → HasDone session n es → after ≡ es ++ End session ∷ [] → AreTurns session n after
+pub whole_run : (session n : ℕ) (es after : List Entry) → HasDone session n es → after ≡ es ++ End session ∷ [] → AreTurns session n (turns_of session after)
 whole_run session n es after done is =
     let same : n + 0 ≡ n = omega arith in
-    subst (AreTurns session n) (sym is) (subst (λ k. AreTurns session k (es ++ End session ∷ [])) same (done.leads 0 (End session ∷ []) refl))
+    let turns : turns_of session after ≡ turns_of session es ++ End session ∷ [] =
+    ap (turns_of session) is ∙ filter-append (λ entry. is_turn entry && (actor_of entry == session)) es (End session ∷ [])
+    ∙ ap (λ t. turns_of session es ++ cond t (End session ∷ []) []) (eq-eqb session session refl) in
+    subst (AreTurns session n) (sym turns) (subst (λ k. AreTurns session k (turns_of session es ++ End session ∷ [])) same (done.leads 0 (End session ∷ []) refl))
 
 -- there are turns of so many statements
 pub some_turns : (session n : ℕ) → (turns : List Entry) × AreTurns session n turns
@@ -104,19 +180,13 @@ some_turns session (suc n) =
     (a ∷ b ∷ others.0, (a, b, others.0, refl, refl, refl, others.1))
 
 -- the first of the statements
-pub front_run : (session n all : ℕ) (es : List Entry) → HasDone session n es → n ≤ all → (rest : List Entry) × AreTurns session all (es ++ rest)
+pub front_run : (session n all : ℕ) (es : List Entry) → HasDone session n es → n ≤ all → (rest : List Entry) × AreTurns session all (turns_of session es ++ rest)
 front_run session n all es done le =
     let rest = some_turns session (all - n) in
     let same : n + (all - n) ≡ all = omega (arith, le) in
-    (rest.0, subst (λ k. AreTurns session k (es ++ rest.0)) same (done.leads (all - n) rest.0 rest.1))
+    (rest.0, subst (λ k. AreTurns session k (turns_of session es ++ rest.0)) same (done.leads (all - n) rest.0 rest.1))
 
 -- ---- the texts of the lines
-
--- what stands at the seam of two lists
-at_seam : {A : Type 0} (xs : List A) (x : A) (ys : List A) → slice_get (xs ++ x ∷ ys) (length xs) ≡ Some x
-at_seam xs x ys =
-    let all = length-append xs (x ∷ ys) in
-    slice_get_read (xs ++ x ∷ ys) (length (xs ++ x ∷ ys)) (length xs) x refl (omega (arith, all)) (sym (get_or-append_seam xs x ys x))
 
 module _ (session : ℕ) (lines : List Step) (i : ℕ) (step : Step) (within : i < length lines) (is : step ≡ get_or lines i step) where
   -- the texts of one line more
@@ -202,13 +272,13 @@ module _ (session : ℕ) (lines all : List Step) (same : all ≡ lines) (i : ℕ
     line_done after adds =
         subst (λ n. HasDone session n after) (sym (texts_grow session lines i step within is text.now (some_in text some))) (done_more session (length (texts_of session (take i lines))) es after done adds)
 
-    pub line_stopped : (after : List Entry) → after ≡ es → (rest : List Entry) × AreTurns session (length (texts_of session lines)) (after ++ rest)
+    pub line_stopped : (after : List Entry) → after ≡ es → IsSessionRun session lines false after
     line_stopped after stays =
-        subst (λ entries. (rest : List Entry) × AreTurns session (length (texts_of session lines)) (entries ++ rest)) (sym stays)
+        subst (IsSessionRun session lines false) (sym stays)
         (front_run session (length (texts_of session (take i lines))) (length (texts_of session lines)) es done (texts_left session lines i step within is text.now (some_in text some)))
 
 -- after the last line
 pub lines_ended : (session : ℕ) (lines all : List Step) → all ≡ lines → (i : ℕ) → length all ≤ i → (es after : List Entry) → HasRunLines session (take i lines) es → after ≡ es ++ End session ∷ []
-    → AreTurns session (length (texts_of session lines)) after
+    → IsSessionRun session lines true after
 lines_ended session lines all same i past es after done ends =
     whole_run session (length (texts_of session lines)) es after (subst (λ steps. HasRunLines session steps es) (take_all i lines (subst (λ steps. length steps ≤ i) same past)) done) ends

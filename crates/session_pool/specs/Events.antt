@@ -1,9 +1,9 @@
 -- The history of a pool: the entries of the log, each with the claim that it lent.
-use Rattle.std.specs.Prelude.{◌≡◌, ◌==◌, ◌≤◌, ◌+◌, ℕ, List, [], ◌∷◌, map, fold, Option, None, Some, if◌then◌else◌}
+use Rattle.std.specs.Prelude.{◌≡◌, ◌==◌, ◌≤◌, ◌<◌, ◌+◌, ℕ, List, [], ◌∷◌, map, fold, Option, None, Some, if◌then◌else◌}
 use Rattle.cs_model.specs.declared.entry.Entry.{Entry}
 use Rattle.cs_model.specs.declared.work.Actor.{Actor}
 use Rattle.cs_model.specs.declared.work.Actor.TheVariants as actor
-use Rattle.cs_model.specs.Actors.{actor_of}
+use Rattle.cs_model.specs.Actors.{actor_of, number_of}
 use Rattle.group_directory.specs.Claiming.{IsShareOf}
 use Rattle.group_directory.specs.Installing.{held_by}
 use Rattle.group_view.specs.declared.claim.Claim.{Claim}
@@ -39,7 +39,7 @@ events_from notes place (entry ∷ entries) = record { entry = entry; lent = not
 abbrev pub events_of : List Note → List Entry → List Event
 events_of notes log = events_from notes 0 log
 
--- what the last of a mover's events lent to it; none where that ended a turn, or was one
+-- what the last of an actor's events lent to it; none where that ended a turn, or was one, or was no work
 abbrev pub held_in : List Event → Option Claim
 held_in events = fold (λ before (event : Event). event.lent) None events
 
@@ -50,8 +50,12 @@ IsLentAs None (Some lent) = ⊥
 IsLentAs (Some held) None = ⊥
 IsLentAs (Some held) (Some lent) = IsShareOf held.1 lent
 
--- the claims are those that the events lent to movers, from mover 1 on; no other actor holds one
+-- the actor has a number of its own: it is a session below 65, or a mover from 1 on
+abbrev pub IsNumbered : Actor → Type 0
+IsNumbered (actor.Session session) = session < 65
+IsNumbered (actor.Mover mover) = 1 ≤ mover
+
+-- the claims are those that the events lent to such actors; no other actor holds one
 pub record AreLent (claims : List (Actor × Claim)) (events : List Event) : Type 0 where
-  pub movers : (mover : ℕ) → 1 ≤ mover → IsLentAs (held_by (actor.Mover mover) claims) (held_in (events_by (64 + mover) events))
-  pub zero : held_by (actor.Mover 0) claims ≡ None
-  pub sessions : (session : ℕ) → held_by (actor.Session session) claims ≡ None
+  pub lent : (by : Actor) → IsNumbered by → IsLentAs (held_by by claims) (held_in (events_by (number_of by) events))
+  pub others : (by : Actor) → (IsNumbered by → ⊥) → held_by by claims ≡ None

@@ -4,3 +4,4 @@ pub mod Rests
 pub mod Runs
 pub mod Sections
 pub mod Statements
+pub mod Works

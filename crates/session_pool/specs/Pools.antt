@@ -1,6 +1,8 @@
 -- What the type of a core behind a gate keeps.
-use Rattle.std.specs.Prelude.{◌≡◌, ◌<◌, ◌++◌, ℕ, List, [], ◌∷◌, length, All}
+use Rattle.std.specs.Prelude.{◌≡◌, ◌<◌, ◌≤◌, ◌++◌, ℕ, List, [], ◌∷◌, length, All, Contains}
 use Rattle.cs_types.specs.declared.Schema.{Schema}
+use Rattle.cs_model.specs.declared.work.Actor.{Actor}
+use Rattle.cs_model.specs.declared.work.Actor.TheVariants as actor
 use Rattle.cs_model.specs.State.{begin_of}
 use Rattle.group_book.specs.Commits.{Sizes}
 use Rattle.script_reader.specs.declared.script.Step.{Step}
@@ -13,8 +15,13 @@ use Rattle.session_pool.specs.declared.event.Note.{Note}
 use Rattle.session_pool.specs.Events.{AreLent}
 use Rattle.session_pool.specs.Runs.{IsByMover, IsTurnAmong}
 
+-- the actor is one of these sessions, or a mover from 1 to 8
+abbrev pub IsOneOf : List ℕ → Actor → Type 0
+IsOneOf sessions (actor.Session session) = Contains sessions session
+IsOneOf sessions (actor.Mover mover) = (1 ≤ mover) × (mover ≤ 8)
+
 -- the core is one of this table, these sizes and these sessions, who alone have turns and have numbers below 65; its movers are those
--- from 1 to 8, and hold what the events lent to them; and each Start is what its session's next line means
+-- from 1 to 8; its actors hold what the events lent to them; and each Start is what its session's next line means
 pub record IsPool (schema : Schema) (sizes : Sizes) (sessions : List ℕ) (lines : List Step) (core : CoreValue) (events : List Event) : Type 0 where
   pub schema_is : core.schema ≡ schema
   pub sizes_are : core.sizes ≡ sizes

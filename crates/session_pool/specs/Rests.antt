@@ -1,5 +1,5 @@
 -- What passes have when the threads of sessions and movers have been joined.
-use Rattle.std.specs.Prelude.{◌≡◌, ◌<◌, ◌≤◌, ◌+◌, ◌==◌, not, ℕ, Bool, true, List, filter, All, Contains, None}
+use Rattle.std.specs.Prelude.{◌≡◌, ◌≤◌, ◌+◌, ◌==◌, not, ℕ, Bool, true, List, filter, All, Contains, None}
 use Rattle.cs_types.specs.declared.Schema.{Schema}
 use Rattle.history_gate.specs.Histories.{own_numbers}
 use Rattle.script_reader.specs.declared.script.Mode.TheVariants.{Run}
@@ -24,7 +24,7 @@ lists_but n own = filter (λ list. not (list.0 == n)) own
 
 -- the list is of the caller, of a session, or of a mover from 1 to so many, who holds no claim after it
 abbrev pub IsRested : ℕ → ℕ × List Event → Type 0
-IsRested movers list = (list.0 ≤ 64 + movers) × (64 < list.0 → held_in list.1 ≡ None)
+IsRested movers list = (list.0 ≤ 64 + movers) × (held_in list.1 ≡ None)
 
 -- a session has a list, of all its turns or of the first of them
 abbrev pub HasRun : List Step → Bool → List (ℕ × List Event) → ℕ → Type 0
@@ -34,9 +34,9 @@ HasRun lines done own session = (events : List Event) × Contains own (session, 
 abbrev pub KeepsOwn : List (ℕ × List Event) → List (ℕ × List Event) → Type 0
 KeepsOwn before after = (n : ℕ) → Contains (own_numbers before) n → Contains (own_numbers after) n
 
--- the events of a run that has come to rest: no mover holds a claim, they are those of sessions and of movers from 1 to so many, and
+-- the events of a run that has come to rest: no actor holds a claim, they are those of sessions and of movers from 1 to so many, and
 -- each session has its turns, all or the first of them
 pub record AreAtRest (sessions : List ℕ) (lines : List Step) (movers : ℕ) (done : Bool) (events : List Event) : Type 0 where
-  pub free : (mover : ℕ) → 1 ≤ mover → held_in (events_by (64 + mover) events) ≡ None
+  pub free : (number : ℕ) → held_in (events_by number events) ≡ None
   pub numbers : All (λ event. number_in event ≤ 64 + movers) events
   pub runs : (session : ℕ) → Contains sessions session → IsSessionRun session lines done (entries_in (events_by session events))

@@ -1,8 +1,14 @@
 -- What the statements of a session add to its entries.
-use Rattle.std.specs.Prelude.{◌≡◌, ℕ, List, [], ◌∷◌, ◌++◌}
+use Rattle.std.specs.Prelude.{◌≡◌, ℕ, List, [], ◌∷◌, ◌++◌, All, false}
 use Rattle.cs_model.specs.declared.entry.Entry.{Entry}
+use Rattle.cs_model.specs.Actors.{is_turn}
 use Rattle.script_turns.specs.Turns.{IsStartIn, IsFinishOf}
 
--- the Start and the Finish of one statement of the session stand behind the entries before
+-- none of these entries is a Start, a Finish or an End
+abbrev pub AreWorks : List Entry → Type 0
+AreWorks entries = All (λ entry. is_turn entry ≡ false) entries
+
+-- the Start and the Finish of one statement of the session stand behind the entries before, with works between them
 abbrev pub AddsStatement : ℕ → List Entry → List Entry → Type 0
-AddsStatement session before after = (a : Entry) × (b : Entry) × (after ≡ before ++ a ∷ b ∷ []) × IsStartIn session a × IsFinishOf session b
+AddsStatement session before after =
+    (a : Entry) × (works : List Entry) × (b : Entry) × (after ≡ before ++ a ∷ (works ++ b ∷ [])) × IsStartIn session a × AreWorks works × IsFinishOf session b

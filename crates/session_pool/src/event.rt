@@ -4,7 +4,7 @@ use cs_model::Entry;
 use group_view::Claim;
 use std::snapshot::Snapshot;
 
-/// An event of the history: an entry of the log, with the claim that it lent to a mover, if it lent one. No value of it is made.
+/// An event of the history: an entry of the log, with the claim that it lent to its actor, if it lent one. No value of it is made.
 pub(crate) struct Event {
     pub entry: Entry,
     pub lent: Option<Claim>,

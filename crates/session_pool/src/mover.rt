@@ -1,58 +1,23 @@
 // What a mover's thread does, and the last turns.
-ghost use Rattle.std.specs.Prelude.{◌≡◌, ◌≤◌, ◌+◌, [], ◌∷◌, Contains, None, Some, true, false};
-ghost use Rattle.group_book.specs.Choices.{install_work};
+ghost use Rattle.std.specs.Prelude.{◌≡◌, ◌≤◌, ◌+◌, [], ◌∷◌, Contains, None, true};
 ghost use Rattle.group_log.specs.Followed.{ground_of};
-ghost use Rattle.group_view.specs.Claims.{IsMendable};
 ghost use Rattle.history_gate.specs.Histories.{own_numbers, list_of, Tells};
 ghost use Rattle.session_pool.specs.Events.{entries_in, held_in, number_in};
 ghost use Rattle.session_pool.specs.Rests.{lists_but};
-ghost use Rattle.session_pool.specs.Runs.{EndsShort, IsLast};
-ghost use Rattle.session_pool.specs.Sections.{EndedBy, IsAdded};
+ghost use Rattle.session_pool.specs.Runs.{IsLast};
 
 use crate::pooled::{Made, Pooled};
 use crate::signals::Signals;
-use crate::turns::{claim, install, look, release};
-use group_view::Claim;
+use crate::turns::{claim, end_turn, look};
+use cs_model::Actor;
 use history_gate::{Gate, Pass};
 use statement_core::{Desk, Turned};
 use std::alloc::Global;
 use std::sync::Wait;
 
-/// Works on a claim outside the gate, and ends the turn: by the install of what the work gave, or by the claim's release where there
-/// was no memory for it. True where it was the install.
-fn end_turn<J: Made, R: Wait, D: Desk>(
-    rt: &R,
-    alloc: Global,
-    gate: &Gate<Pooled<J>>,
-    desk: &D,
-    pass: Pass<Pooled<J>>,
-    mover: u32,
-    claim: Claim,
-) -> (Pass<Pooled<J>>, bool)
-    requires gate { pass.gate ≡ gate.now.gate }
-    requires number { Contains (own_numbers pass.own) (64 + mover) }
-    requires range { (1 ≤ mover) × (mover ≤ 8) }
-    requires held { held_in (list_of (64 + mover) pass.own) ≡ Some claim }
-    requires mendable { IsMendable claim }
-    ensures pass { (result.0.gate ≡ pass.gate) × (result.0.reserve ≡ pass.reserve) }
-    ensures own { IsAdded (64 + mover) None pass.own result.0.own }
-    ensures told { Tells (λ x. number_in x) result.0.own result.0.seen }
-    ensures installed { result.1 ≡ true → EndedBy install_work (ground_of J.schema J.sizes) mover (entries_in result.0.seen) }
-    ensures released { result.1 ≡ false → EndsShort mover (entries_in result.0.seen) }
-{
-    let product = desk.mend(alloc, &claim);
-    let (pass, installed) = match product {
-        Ok(product) => (install(rt, gate, pass, mover, product), true),
-        Err(_) => (release(rt, gate, pass, mover), false),
-    };
-    // The claim shares the groups that its product takes the place of. Their last shares go outside the gate.
-    drop(claim);
-    (pass, installed)
-}
-
 /// The turns of a mover, until all sessions have ended, or one has stopped, or a claim found no memory, or the mover's number is
 /// refused. Where it finds nothing to do it sleeps until there is news, and where it finds no memory for it, until a session has
-/// committed: movers that have none would else wake each other without end, and fill the log.
+/// changed the groups: movers that have none would else wake each other without end, and fill the log.
 pub(crate) fn mover<J: Made, R: Wait, D: Desk>(
     rt: &R,
     alloc: Global,
@@ -73,7 +38,7 @@ pub(crate) fn mover<J: Made, R: Wait, D: Desk>(
     for _ in rt.forever() {
         // What is rung from here on ends the wait at once, so nothing is missed that comes after the look.
         let news = signals.news.prepare_wait();
-        let commits = signals.commits.prepare_wait();
+        let changes = signals.changes.prepare_wait();
         if signals.stops(mover) {
             return pass;
         }
@@ -89,14 +54,22 @@ pub(crate) fn mover<J: Made, R: Wait, D: Desk>(
                 drop(news);
                 // Another mover may find something to do beside this.
                 signals.news.notify_one();
-                let (next, installed) = end_turn(rt, alloc, gate, desk, pass, mover, claim);
+                let (next, installed) = end_turn(
+                    rt,
+                    alloc,
+                    gate,
+                    desk,
+                    pass,
+                    Actor::Mover(mover),
+                    claim,
+                );
                 pass = next;
                 if !installed {
-                    commits.wait(rt);
+                    changes.wait(rt);
                 }
             }
             Turned::Alone => {}
-            Turned::Short => commits.wait(rt),
+            Turned::Short => changes.wait(rt),
             Turned::Idle => news.wait(rt),
         }
     }
@@ -132,7 +105,15 @@ pub(crate) fn last_turns<J: Made, R: Wait, D: Desk>(
             Turned::Short | Turned::Idle => return (next, true),
             Turned::Alone => pass = next,
             Turned::Lent(claim) => {
-                let (next, installed) = end_turn(rt, alloc, gate, desk, next, 1, claim);
+                let (next, installed) = end_turn(
+                    rt,
+                    alloc,
+                    gate,
+                    desk,
+                    next,
+                    Actor::Mover(1),
+                    claim,
+                );
                 if !installed {
                     return (next, true);
                 }

@@ -2,9 +2,11 @@
 ghost use Rattle.std.specs.Prelude.{◌<◌, vec_len, vec_capacity};
 ghost use Rattle.session_pool.specs.Pools.{IsNoted};
 
+use crate::attempt::Attempt;
 use crate::event::{Event, Note};
 use cs_base::Memory;
 use cs_model::{Actor, Bound};
+use group_directory::Ledger;
 use group_view::Product;
 use history_gate::Stands;
 use statement_core::{Core, Outcome, Started, Turned};
@@ -93,11 +95,12 @@ impl<J: Made> Pooled<J> {
     ghost use Rattle.std.specs.Prelude.{◌≡◌, ◌≤◌, ◌<◌, ◌+◌, ◌++◌, [], ◌∷◌, List, ℕ, slice_get, All, Contains, IfOk, IfSome, OnErr, IsSome, None, Some, false};
     ghost use Rattle.cs_model.specs.declared.entry.Entry.TheVariants.{Finish, End};
     ghost use Rattle.cs_model.specs.declared.entry.Reply.{Reply};
-    ghost use Rattle.cs_model.specs.Actors.{entries_of, is_begun, has_ended};
+    ghost use Rattle.cs_model.specs.declared.work.Actor.TheVariants.{Session};
+    ghost use Rattle.cs_model.specs.Actors.{entries_of, is_begun, has_ended, number_of};
     ghost use Rattle.cs_model.specs.Ready.{IsReady};
     ghost use Rattle.cs_model.specs.State.{begin_of};
     ghost use Rattle.cs_model.specs.Text.{statements_of};
-    ghost use Rattle.group_book.specs.Choices.{install_work};
+    ghost use Rattle.group_book.specs.Choices.{install_work, release_work};
     ghost use Rattle.group_log.specs.Counted.{AreCountsAt};
     ghost use Rattle.group_log.specs.Followed.{ground_of};
     ghost use Rattle.group_view.specs.declared.claim.Claim.{Claim};
@@ -106,11 +109,12 @@ impl<J: Made> Pooled<J> {
     ghost use Rattle.script_turns.specs.Turns.{texts_of, IsBound};
     ghost use Rattle.statement_core.specs.Cores.{IsDone, IsStartOf};
     ghost use Rattle.statement_core.specs.Counted.{outcome_counts};
+    ghost use Rattle.statement_core.specs.Reorganizes.{IsClosing, IsLedgerAt, LeavesBy, MayBegin, MayClose, MayEnd};
     ghost use Rattle.session_pool.specs.declared.event.Event.{Event};
     ghost use Rattle.session_pool.specs.Events.{entries_in, events_by, held_in};
-    ghost use Rattle.session_pool.specs.Pools.{IsPool};
-    ghost use Rattle.session_pool.specs.Runs.{EndsShort};
-    ghost use Rattle.session_pool.specs.Sections.{EndedBy, IsGrown, GrowsBy, LooksBy, StandsLast};
+    ghost use Rattle.session_pool.specs.Pools.{IsOneOf, IsPool};
+    ghost use Rattle.session_pool.specs.Sections.{BegunBy, EndedBy, IsGrown, GrowsBy, LooksBy};
+    ghost use Rattle.session_pool.specs.Works.{Attempts, AttemptsBy, ClosesBy};
 
     /// A new core, which serves the sessions of the script.
     pub fn new(alloc: Global, core: Core) -> Pooled<J>
@@ -138,53 +142,58 @@ impl<J: Made> Pooled<J> {
         core
     }
 
-    /// The Start of a session's next statement. `Memory`: no event was made.
+    /// The Start of a session's next statement. `Memory`: no event was made. Condition: the session holds no claim.
     pub fn start(&mut self, session: u32, bound: Bound) -> Result<Started, Memory>
         requires known { Contains J.sessions session }
         requires rests { is_begun (entries_of session (entries_in self.old)) ≡ false }
         requires going { has_ended (entries_of session (entries_in self.old)) ≡ false }
         requires ready { IsReady J.schema bound }
         requires meant { (text : List ℕ) × (slice_get (texts_of session J.lines) (statements_of session (entries_in self.old)) ≡ Some text) × IsBound J.schema text bound }
-        ensures events { IfOk result (λ s. (e : Event) × (self.new ≡ self.old ++ e ∷ []) × IsStartOf session bound s.short e.entry) }
+        requires free { held_in (events_by session self.old) ≡ None }
+        ensures events { IfOk result (λ s. (e : Event) × (self.new ≡ self.old ++ e ∷ []) × IsStartOf session bound s.short e.entry × (e.lent ≡ None)) }
         ensures awaits { IfOk result (Awaits J.sizes (begin_of J.schema) (entries_in self.new) session) }
         ensures err { OnErr result (self.new ≡ self.old) }
     {
         self.core.start(session, bound)
     }
 
-    /// The Finish of the statement that a session has begun.
+    /// The Finish of the statement that a session has begun. Condition: the session holds no claim.
     pub fn finish(&mut self, session: u32, outcome: Outcome)
         requires known { Contains J.sessions session }
         requires outcome { IsDone (begin_of J.schema) J.sizes (entries_in self.old) session outcome }
         requires counts { IfSome (outcome_counts outcome) (AreCountsAt (ground_of J.schema J.sizes) (entries_in self.old) session) }
-        ensures events { (e : Event) × (reply : Reply) × (self.new ≡ self.old ++ e ∷ []) × (e.entry ≡ Finish session reply) }
+        requires left { LeavesBy (ground_of J.schema J.sizes) (entries_in self.old) session outcome }
+        requires free { held_in (events_by session self.old) ≡ None }
+        ensures events { (e : Event) × (reply : Reply) × (self.new ≡ self.old ++ e ∷ []) × (e.entry ≡ Finish session reply) × (e.lent ≡ None) }
     {
         self.core.finish(session, outcome);
     }
 
-    /// The End of a session.
+    /// The End of a session. Condition: the session holds no claim.
     pub fn end(&mut self, session: u32)
         requires known { Contains J.sessions session }
         requires rests { is_begun (entries_of session (entries_in self.old)) ≡ false }
         requires going { has_ended (entries_of session (entries_in self.old)) ≡ false }
-        ensures events { (e : Event) × (self.new ≡ self.old ++ e ∷ []) × (e.entry ≡ End session) }
+        requires free { held_in (events_by session self.old) ≡ None }
+        ensures events { (e : Event) × (self.new ≡ self.old ++ e ∷ []) × (e.entry ≡ End session) × (e.lent ≡ None) }
     {
         self.core.end(session);
     }
 
-    /// The first event of a mover's turn, with a note of what it lent. Room for the note is taken before: so `Memory` means that no
+    /// The first event of an actor's turn, with a note of what it lent. Room for the note is taken before: so `Memory` means that no
     /// event was made.
-    pub fn claim(&mut self, mover: u32) -> Result<Turned, Memory>
-        requires range { (1 ≤ mover) × (mover ≤ 8) }
-        requires free { held_in (events_by (64 + mover) self.old) ≡ None }
-        ensures events { IfOk result (λ turned. GrowsBy mover turned self.old self.new) }
-        ensures last { IfOk result (λ turned. StandsLast (ground_of J.schema J.sizes) mover turned (entries_in self.new)) }
+    pub fn claim(&mut self, actor: Actor) -> Result<Turned, Memory>
+        requires known { IsOneOf J.sessions actor }
+        requires may { MayBegin (ground_of J.schema J.sizes) (entries_in self.old) actor }
+        requires free { held_in (events_by (number_of actor) self.old) ≡ None }
+        ensures events { IfOk result (λ turned. GrowsBy (number_of actor) turned self.old self.new) }
+        ensures begins { IfOk result (λ turned. BegunBy (ground_of J.schema J.sizes) actor turned (entries_in self.old) (entries_in self.new)) }
         ensures err { OnErr result (self.new ≡ self.old) }
     {
         let Pooled { core, lent, of: _ } = self;
         lent.reserve(1)?;
         let place = core.log().len();
-        let turned = core.claim(Actor::Mover(mover))?;
+        let turned = core.claim(actor)?;
         note_lent(lent, place, &turned);
         Ok(turned)
     }
@@ -198,26 +207,69 @@ impl<J: Made> Pooled<J> {
         if self.core.ended() {
             return None;
         }
-        Some(self.claim(mover))
+        Some(self.claim(Actor::Mover(mover)))
     }
 
-    /// The install of what the work on a mover's claim gave.
-    pub fn install(&mut self, mover: u32, product: Product)
-        requires range { (1 ≤ mover) × (mover ≤ 8) }
-        requires held { (lent : Claim) × (held_in (events_by (64 + mover) self.old) ≡ Some lent) × IsProductOf lent product }
-        ensures events { IsGrown (64 + mover) None self.old self.new }
-        ensures ends { EndedBy install_work (ground_of J.schema J.sizes) mover (entries_in self.new) }
+    /// The first event of a turn of a session's REORGANIZE. Where nothing is left to do it takes its last look at once, so that
+    /// nothing comes between.
+    pub fn attempt(&mut self, session: u32) -> Attempt
+        requires known { Contains J.sessions session }
+        requires may { MayBegin (ground_of J.schema J.sizes) (entries_in self.old) (Session session) }
+        requires free { held_in (events_by session self.old) ≡ None }
+        ensures events { AttemptsBy session result self.old self.new }
+        ensures log { Attempts (ground_of J.schema J.sizes) session result (entries_in self.old) (entries_in self.new) }
     {
-        self.core.install(Actor::Mover(mover), product);
+        match self.claim(Actor::Session(session)) {
+            Ok(Turned::Lent(claim)) => Attempt::Lent(claim),
+            Ok(Turned::Idle) => match self.ledger() {
+                Ok(ledger) => Attempt::Idle(ledger),
+                Err(_) => Attempt::Short,
+            },
+            // A session neither settles nor clears.
+            Ok(Turned::Alone) => unreachable!(),
+            Ok(Turned::Short) | Err(_) => Attempt::Short,
+        }
     }
 
-    /// The release of a mover's claim.
-    pub fn release(&mut self, mover: u32)
-        requires range { (1 ≤ mover) × (mover ≤ 8) }
-        requires holds { IsSome (held_in (events_by (64 + mover) self.old)) }
-        ensures events { IsGrown (64 + mover) None self.old self.new }
-        ensures last { EndsShort mover (entries_in self.new) }
+    /// The install of what the work on an actor's claim gave.
+    pub fn install(&mut self, actor: Actor, product: Product)
+        requires known { IsOneOf J.sessions actor }
+        requires may { MayEnd (ground_of J.schema J.sizes) (entries_in self.old) actor }
+        requires held { (lent : Claim) × (held_in (events_by (number_of actor) self.old) ≡ Some lent) × IsProductOf lent product }
+        ensures events { IsGrown (number_of actor) None self.old self.new }
+        ensures ends { EndedBy install_work (ground_of J.schema J.sizes) actor (entries_in self.old) (entries_in self.new) }
     {
-        self.core.release(Actor::Mover(mover));
+        self.core.install(actor, product);
+    }
+
+    /// The release of an actor's claim.
+    pub fn release(&mut self, actor: Actor)
+        requires known { IsOneOf J.sessions actor }
+        requires may { MayEnd (ground_of J.schema J.sizes) (entries_in self.old) actor }
+        requires holds { IsSome (held_in (events_by (number_of actor) self.old)) }
+        ensures events { IsGrown (number_of actor) None self.old self.new }
+        ensures ends { EndedBy release_work (ground_of J.schema J.sizes) actor (entries_in self.old) (entries_in self.new) }
+    {
+        self.core.release(actor);
+    }
+
+    /// The close of the open store by a session's REORGANIZE; None, and no event, where no store is open. `Memory`: no event was
+    /// made.
+    pub fn close_opened(&mut self, session: u32) -> Result<Option<u64>, Memory>
+        requires known { Contains J.sessions session }
+        requires may { MayClose (ground_of J.schema J.sizes) (entries_in self.old) (Session session) }
+        requires free { held_in (events_by session self.old) ≡ None }
+        ensures events { IfOk result (λ closed. ClosesBy session closed self.old self.new) }
+        ensures closes { IfOk result (λ closed. IsClosing (ground_of J.schema J.sizes) (entries_in self.old) (Session session) closed (entries_in self.new)) }
+        ensures err { OnErr result (self.new ≡ self.old) }
+    {
+        self.core.close_opened(Actor::Session(session))
+    }
+
+    /// The groups by their counts, and who holds which, at this moment.
+    pub fn ledger(&self) -> Result<Ledger, Memory>
+        ensures { IfOk result (IsLedgerAt (ground_of J.schema J.sizes) (entries_in self.now)) }
+    {
+        self.core.ledger()
     }
 }

@@ -8,8 +8,8 @@ use std::sync::atomic::{AtomicBool, AtomicU32, Ordering};
 pub(crate) struct Signals {
     /// Rung where a mover may find something to do, or is to stop: by sessions, and by a mover that has claimed.
     pub news: EventCount,
-    /// Rung by sessions alone: one may have committed, has ended, or has stopped.
-    pub commits: EventCount,
+    /// Rung by sessions alone: one may have changed the groups, has ended, or has stopped.
+    pub changes: EventCount,
     /// Whether a session stopped for want of memory.
     stopped: AtomicBool,
     /// The last mover whose thread was refused; 0 where there is none.
@@ -21,22 +21,23 @@ impl Signals {
     pub fn new() -> Signals {
         Signals {
             news: EventCount::new(),
-            commits: EventCount::new(),
+            changes: EventCount::new(),
             stopped: AtomicBool::new(false),
             refused: AtomicU32::new(0),
         }
     }
 
-    /// A session may have committed: a mover may find something to do, or memory for it.
-    pub fn commit(&self) {
+    /// A session may have changed the groups: it may have committed, or its REORGANIZE has closed a store or ended a turn. So a
+    /// mover may find something to do, or memory for it.
+    pub fn change(&self) {
         self.news.notify_one();
-        self.commits.notify_one();
+        self.changes.notify_one();
     }
 
     /// A session has ended: each mover is to look whether all have.
     pub fn end(&self) {
         self.news.notify_all();
-        self.commits.notify_all();
+        self.changes.notify_all();
     }
 
     /// All movers are to stop, each at the end of its turn.

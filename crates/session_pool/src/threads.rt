@@ -30,7 +30,7 @@ pub(crate) struct Shared<'s, J: Made, D> {
     pub signals: &'s Signals,
 }
 
-/// What a session's thread promises: a pass of its gate, with the session's number and its turns.
+/// What a session's thread promises: a pass of its gate, with the session's number and its turns, and no claim.
 #[derive(Drop)]
 pub(crate) struct SessionBack<J: Made> {
     pass: Snapshot<Pass<Pooled<J>>>,
@@ -38,7 +38,7 @@ pub(crate) struct SessionBack<J: Made> {
 }
 
 impl<J: Made> Promise<(Pass<Pooled<J>>, bool)> for SessionBack<J> {
-    ghost kept_by = { λ home back. (back.0.gate ≡ home.pass.value.gate) × (own_numbers back.0.own ≡ home.number ∷ []) × IsSessionRun home.number J.lines back.1 (entries_in (list_of home.number back.0.own)) };
+    ghost kept_by = { λ home back. (back.0.gate ≡ home.pass.value.gate) × (own_numbers back.0.own ≡ home.number ∷ []) × IsSessionRun home.number J.lines back.1 (entries_in (list_of home.number back.0.own)) × (held_in (list_of home.number back.0.own) ≡ None) };
 }
 
 /// What a mover's thread promises: a pass of its gate, with the mover's number, and no claim.
@@ -53,7 +53,7 @@ impl<J: Made> Promise<Pass<Pooled<J>>> for MoverBack<J> {
 }
 
 /// The turns of a session, in whatever thread.
-fn run_session<J: Made, D: Desk, R: Threads + Wait + Sync>(
+fn run_session<J: Made, D: Desk, R: Threads + Wait>(
     rt: &R,
     shared: &Shared<'_, J, D>,
     pass: Pass<Pooled<J>>,
@@ -65,6 +65,7 @@ fn run_session<J: Made, D: Desk, R: Threads + Wait + Sync>(
     requires own { pass.own ≡ (number, []) ∷ [] }
     ensures pass { (result.0.gate ≡ pass.gate) × (own_numbers result.0.own ≡ number ∷ []) }
     ensures turns { IsSessionRun number J.lines result.1 (entries_in (list_of number result.0.own)) }
+    ensures free { held_in (list_of number result.0.own) ≡ None }
 {
     session(
         rt,
@@ -134,7 +135,7 @@ fn sessions_from<'s, E, J: Made + Send + Sync, D: Desk, R: Threads + Wait + Sync
     };
     let work = move || -> (Pass<Pooled<J>>, bool)
         requires { (mine.gate ≡ shared.now.gate.now.gate) × IsScriptOf J.schema J.sessions J.lines shared.now.script.now × Contains J.sessions number × (mine.own ≡ (number, []) ∷ []) }
-        ensures { (result.0.gate ≡ mine.gate) × (own_numbers result.0.own ≡ number ∷ []) × IsSessionRun number J.lines result.1 (entries_in (list_of number result.0.own)) }
+        ensures { (result.0.gate ≡ mine.gate) × (own_numbers result.0.own ≡ number ∷ []) × IsSessionRun number J.lines result.1 (entries_in (list_of number result.0.own)) × (held_in (list_of number result.0.own) ≡ None) }
     { run_session(rt, shared, mine, number) };
     match scope.spawn_with(promise, work) {
         Ok(child) => {

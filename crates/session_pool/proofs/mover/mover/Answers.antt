@@ -1,7 +1,5 @@
 use Rattle.std.proofs.Common.{◌∙◌, ◌+◌, ap, subst, refl, inl, inr}
 use Rattle.std.specs.Prelude.{Some}
-use Rattle.history_gate.specs.Histories.{own_numbers, list_of}
-use Rattle.session_pool.specs.Events.{held_in}
 use Rattle.session_pool.specs.Sections.{LooksAt}
 use Rattle.session_pool.proofs.Passes.{has_number, keeps_same, lends, lends_none, next_has, next_kept, next_holds, last_kept, last_free}
 use Rattle.session_pool.proofs.mover.mover.Goals as goal

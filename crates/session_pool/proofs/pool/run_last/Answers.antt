@@ -4,7 +4,7 @@ use Rattle.session_pool.proofs.Closing.{rested_free, rested_after, runs_after}
 use Rattle.session_pool.proofs.pool.run_last.Goals as goal
 
 pub last_turns-requires-clause-free : goal.last_turns-requires-clause-free
-last_turns-requires-clause-free g c κs within = rested_free c.args.movers 65 c.args.pass.own c.requires.rested (c.requires.first (omega (arith, c.if-movers-eq0.false))) (omega arith)
+last_turns-requires-clause-free g c κs within = rested_free c.args.movers 65 c.args.pass.own c.requires.rested (c.requires.first (omega (arith, c.if-movers-eq0.false)))
 
 pub returns-clause-rested : goal.returns-clause-rested
 returns-clause-rested g c =

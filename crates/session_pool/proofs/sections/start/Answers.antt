@@ -2,7 +2,8 @@ use Rattle.std.proofs.Common.{ap, ◌∙◌}
 use Rattle.std.specs.Prelude.{slice_get}
 use Rattle.cs_model.specs.Actors.{is_begun, has_ended}
 use Rattle.script_turns.specs.Turns.{texts_of}
-use Rattle.session_pool.proofs.Own.{own_entries, own_statements, start_added}
+use Rattle.session_pool.specs.Events.{held_in}
+use Rattle.session_pool.proofs.Own.{own_events, own_entries, own_statements, start_added}
 use Rattle.session_pool.proofs.sections.start.Goals as goal
 
 pub start-started-requires-clause-rests : goal.start-started-requires-clause-rests
@@ -29,3 +30,8 @@ returns-clause-own g c =
     let held = c.enter-held.ensures in
     start_added c.enter-held.result.found c.value.result.now c.start-started.new.self c.args.pass.own c.enter-held.result.own c.leave.result.own (c.value.ensures.value ∙ held.value) held.pass.1 c.leave.ensures.one c.leave.ensures.none
     c.args.session c.args.bound c.start-started.result c.start-started.ensures.events c.start-started.ensures.err
+
+pub start-started-requires-clause-free : goal.start-started-requires-clause-free
+start-started-requires-clause-free g c =
+    let held = c.enter-held.ensures in
+    ap held_in (own_events c.args.session c.args.pass.own c.enter-held.result.found c.value.result.now (c.value.ensures.value ∙ held.value) held.own c.requires.number) ∙ c.requires.free

@@ -2,7 +2,7 @@ use Rattle.std.proofs.Common.{ap, subst, MatchBool, ◌≡◌, ◌∙◌}
 use Rattle.history_gate.specs.Histories.{list_of}
 use Rattle.session_pool.specs.Events.{entries_in}
 use Rattle.session_pool.specs.Statements.{AddsStatement}
-use Rattle.session_pool.proofs.Passes.{end_entries, end_numbers}
+use Rattle.session_pool.proofs.Passes.{end_entries, end_free, end_numbers}
 use Rattle.session_pool.proofs.Statements.{line_done, line_next, line_passed, line_stopped, lines_ended}
 use Rattle.session_pool.proofs.session.session.Goals as goal
 
@@ -14,6 +14,7 @@ loop-step-preserved-in_default g c =
       kept.2,
       line_passed c.args.session c.args.script.now.lines c.as_slice-step-items.result.now c.as_slice-step-items.ensures c.loop-step.step-index c.step-item.result c.loop-step-test.true c.step-item.is
           c.started_in.result c.started_in.ensures c.in_default.is (entries_in (list_of c.args.session c.loop-step.pass.own)) kept.3,
+      kept.4,
     )
 
 pub statement-next-requires-clause-next : goal.statement-next-requires-clause-next
@@ -40,6 +41,7 @@ loop-step-preserved g c =
       c.statement-next.ensures.numbers,
       line_done c.args.session c.args.script.now.lines c.as_slice-step-items.result.now c.as_slice-step-items.ensures c.loop-step.step-index c.step-item.result c.loop-step-test.true c.step-item.is
           c.started_in.result c.started_in.ensures c.in-Some.text c.in-Some.is (entries_in old) kept.3 (entries_in new) adds,
+      c.statement-next.ensures.free,
     )
 
 pub returns-clause-numbers : goal.returns-clause-numbers
@@ -50,3 +52,15 @@ returns-clause-turns g c =
     let old = list_of c.args.session c.loop-step.pass.own in
     lines_ended c.args.session c.args.script.now.lines c.as_slice-step-items.result.now c.as_slice-step-items.ensures c.loop-step.step-index c.loop-step-test.false (entries_in old) (entries_in (list_of c.args.session c.end-pass.result.own))
     c.loop-step.invariant.3 (end_entries c.args.session c.loop-step.pass.own c.end-pass.result.own c.loop-step.invariant.2 c.end-pass.ensures.own)
+
+pub statement-next-requires-clause-free : goal.statement-next-requires-clause-free
+statement-next-requires-clause-free g c κs within = c.loop-step.invariant.4
+
+pub returns-then-not-done-clause-free : goal.returns-then-not-done-clause-free
+returns-then-not-done-clause-free g c = c.statement-next.ensures.free
+
+pub end-pass-requires-clause-free : goal.end-pass-requires-clause-free
+end-pass-requires-clause-free g c = c.loop-step.invariant.4
+
+pub returns-clause-free : goal.returns-clause-free
+returns-clause-free g c = end_free c.args.session c.loop-step.pass.own c.end-pass.result.own c.loop-step.invariant.2 c.end-pass.ensures.own

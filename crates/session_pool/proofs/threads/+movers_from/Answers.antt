@@ -101,7 +101,7 @@ returns-in-Ok-clause-rested g t c = λ rested.
     let free = subst (λ n. held_in (list_of n own) ≡ None) (ap (λ home. home.number) c.in-Ok.ensures.ok) c.join-other.ensures.2 in
     rested_joined c.args.movers c.movers_from-pass.result.0.own own c.join.result.own c.join.ensures.both.0
     (c.movers_from-pass.ensures.rested (subst (All (IsRested c.args.movers)) (sym c.split-pass.ensures.left.1) rested))
-    (one_rested c.args.movers c.args.number own (c.join-other.ensures.1 ∙ ap (λ home. home.number ∷ []) c.in-Ok.ensures.ok) (omega (arith, c.if-number-movers.false)) (λ high. free))
+    (one_rested c.args.movers c.args.number own (c.join-other.ensures.1 ∙ ap (λ home. home.number ∷ []) c.in-Ok.ensures.ok) (omega (arith, c.if-number-movers.false)) free)
 
 pub returns-in-Ok-clause-runs : goal.returns-in-Ok-clause-runs
 returns-in-Ok-clause-runs g t c = runs_stay g.J.Made.lines c.movers_from-pass.result.1 g.J.Made.sessions c.movers_from-pass.result.0.own c.join-other.result.own c.join.result.own c.join.ensures.both.0 c.movers_from-pass.ensures.runs
@@ -118,7 +118,7 @@ returns-in-Err-clause-rested g t c = λ rested.
     let own : List (ℕ × List Event) = c.work-other.result.own in
     let free = subst (λ n. held_in (list_of n own) ≡ None) (ap (λ f. f.3) c.in-Err.ensures.err) c.work-other.ensures.2 in
     c.movers_from.ensures.rested (rested_joined c.args.movers c.split-pass.result.0.own own c.join-pass.result.own c.join-pass.ensures.both.0 (subst (All (IsRested c.args.movers)) (sym c.split-pass.ensures.left.1) rested)
-    (one_rested c.args.movers c.args.number own (c.work-other.ensures.1 ∙ ap (λ f. f.3 ∷ []) c.in-Err.ensures.err) (omega (arith, c.if-number-movers.false)) (λ high. free)))
+    (one_rested c.args.movers c.args.number own (c.work-other.ensures.1 ∙ ap (λ f. f.3 ∷ []) c.in-Err.ensures.err) (omega (arith, c.if-number-movers.false)) free))
 
 pub returns-in-Err-clause-kept : goal.returns-in-Err-clause-kept
 returns-in-Err-clause-kept g t c = λ n has.

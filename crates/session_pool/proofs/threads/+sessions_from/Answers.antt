@@ -6,7 +6,8 @@ use Rattle.history_gate.proofs.PassLaws.{has_one, keeps_round}
 use Rattle.log_laws.specs.Laws.{AreDistinct}
 use Rattle.session_pool.specs.contracts.threads.sessions_from.{J-row, D-row, R-row}
 use Rattle.session_pool.specs.declared.event.Event.{Event}
-use Rattle.session_pool.specs.Events.{entries_in}
+use Rattle.std.specs.Prelude.{None}
+use Rattle.session_pool.specs.Events.{entries_in, held_in}
 use Rattle.session_pool.specs.Rests.{IsRested, IsScriptOf, KeepsOwn}
 use Rattle.session_pool.specs.Runs.{IsSessionRun}
 use Rattle.session_pool.proofs.Crossing.{pass_send, shared_sync, u32_send, bool_send, closure_of_four, pair_of}
@@ -107,7 +108,7 @@ returns-after-rest-clause-rested g t c = λ movers rested.
     let below = All-head (λ n. n < 65) s c.in-Some.others.now (subst (All (λ n. n < 65)) c.in-Some.ensures.cases.0 c.requires.below) in
     rested_joined movers c.sessions_from-pass.result.0.own c.join-other.result.0.own c.join.result.own c.join.ensures.both.0
     (c.sessions_from-pass.ensures.rested movers (subst (All (IsRested movers)) (sym c.split-pass.ensures.left.1) rested))
-    (one_rested movers s c.join-other.result.0.own (c.join-other.ensures.1 ∙ ap (λ home. home.number ∷ []) c.in-Ok.ensures.ok) (omega (arith, below)) (λ high. absurd (omega (arith, below, high))))
+    (one_rested movers s c.join-other.result.0.own (c.join-other.ensures.1 ∙ ap (λ home. home.number ∷ []) c.in-Ok.ensures.ok) (omega (arith, below)) (subst (λ n. held_in (list_of n c.join-other.result.0.own) ≡ None) (ap (λ home. home.number) c.in-Ok.ensures.ok) c.join-other.ensures.3))
 
 pub returns-after-rest-2-clause-rested : goal.returns-after-rest-2-clause-rested
 returns-after-rest-2-clause-rested g t c = λ movers rested.
@@ -115,7 +116,7 @@ returns-after-rest-2-clause-rested g t c = λ movers rested.
     let below = All-head (λ n. n < 65) s c.in-Some.others.now (subst (All (λ n. n < 65)) c.in-Some.ensures.cases.0 c.requires.below) in
     rested_joined movers c.sessions_from-pass-in-Err.result.0.own c.work-other.result.0.own c.join-in-Err.result.own c.join-in-Err.ensures.both.0
     (c.sessions_from-pass-in-Err.ensures.rested movers (subst (All (IsRested movers)) (sym c.split-pass.ensures.left.1) rested))
-    (one_rested movers s c.work-other.result.0.own (c.work-other.ensures.1 ∙ ap (λ f. f.3 ∷ []) c.in-Err.ensures.err) (omega (arith, below)) (λ high. absurd (omega (arith, below, high))))
+    (one_rested movers s c.work-other.result.0.own (c.work-other.ensures.1 ∙ ap (λ f. f.3 ∷ []) c.in-Err.ensures.err) (omega (arith, below)) (subst (λ n. held_in (list_of n c.work-other.result.0.own) ≡ None) (ap (λ f. f.3) c.in-Err.ensures.err) c.work-other.ensures.3))
 
 pub returns-after-rest-clause-runs : goal.returns-after-rest-clause-runs
 returns-after-rest-clause-runs g t c =

@@ -19,11 +19,10 @@ pub invariant_of-self : goal.invariant_of-self
 invariant_of-self g c =
     let p = c.self.inside in
     let x = c.end.ensures in
-    keeps_end g.J.Made.schema g.J.Made.sizes g.J.Made.sessions g.J.Made.lines p.lent.items p.core c.self.invariant c.end.new.self c.args.session c.requires.known
-    (record { log = x.log; schema = x.schema; sizes = x.sizes; sessions = x.sessions }) x.claims
+    keeps_end g.J.Made.schema g.J.Made.sizes g.J.Made.sessions g.J.Made.lines p.lent.items p.core c.self.invariant c.end.new.self c.args.session c.requires.known c.args.self.now c.self.view_is c.requires.free x.claims (record { log = x.log; schema = x.schema; sizes = x.sizes; sessions = x.sessions })
 
 pub returns : goal.returns
 returns g c =
     let p = c.self.inside in record {
-      events = (event_of (End c.args.session) None, grown g.J.Made.schema g.J.Made.sizes g.J.Made.sessions g.J.Made.lines p.lent.items p.core c.self.invariant c.end.new.self.log c.args.self.now (End c.args.session) c.self.view_is c.end.ensures.log, refl);
+      events = (event_of (End c.args.session) None, grown g.J.Made.schema g.J.Made.sizes g.J.Made.sessions g.J.Made.lines p.lent.items p.core c.self.invariant c.end.new.self.log c.args.self.now (End c.args.session) c.self.view_is c.end.ensures.log, refl, refl);
     }

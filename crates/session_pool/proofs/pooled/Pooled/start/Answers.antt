@@ -20,7 +20,7 @@ pub invariant_of-self : goal.invariant_of-self
 invariant_of-self g c =
     let p = c.self.inside in
     let x = c.start.ensures in
-    keeps_start g.J.Made.schema g.J.Made.sizes g.J.Made.sessions g.J.Made.lines p.lent.items p.core c.self.invariant c.start.new.self c.args.session c.args.bound c.start.result c.requires.known
+    keeps_start g.J.Made.schema g.J.Made.sizes g.J.Made.sessions g.J.Made.lines p.lent.items p.core c.self.invariant c.start.new.self c.args.session c.args.bound c.start.result c.requires.known c.args.self.now c.self.view_is c.requires.free
     (subst (λ log. (text : List ℕ) × (slice_get (texts_of c.args.session g.J.Made.lines) (statements_of c.args.session log) ≡ Some text) × IsBound g.J.Made.schema text c.args.bound)
     (entries_are p.lent.items p.core.log c.args.self.now c.self.view_is) c.requires.meant)
     x.log x.err x.schema x.sizes x.sessions x.claims
@@ -35,4 +35,4 @@ returns-clause-awaits g c =
     let p = c.self.inside in
     let x = c.start.ensures in
     let pool = c.self.invariant.1 in
-    start_awaits g.J.Made.schema g.J.Made.sizes c.start.new.self _ c.args.session (x.schema ∙ pool.schema_is) (x.sizes ∙ pool.sizes_are) (sym (entries_from p.lent.items 0 c.start.new.self.log)) c.start.result x.terms x.started x.counts
+    start_awaits g.J.Made.schema g.J.Made.sizes c.start.new.self _ c.args.session (x.schema ∙ pool.schema_is) (x.sizes ∙ pool.sizes_are) (sym (entries_from p.lent.items 0 c.start.new.self.log)) c.start.result x.terms x.started x.counts x.ledger
