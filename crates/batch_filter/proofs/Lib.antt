@@ -8,3 +8,4 @@ pub mod SpanLemmas
 pub mod SieveLemmas
 pub mod CellLemmas
 pub mod AmongLemmas
+pub mod BatchLemmas

@@ -1,5 +1,5 @@
 -- Masks that are narrowed part by part.
-use Rattle.std.proofs.Common.{◌≡◌, ℕ, ◌+◌, ◌<◌, ◌≤◌, Bool, true, false, ◌&&◌, ◌||◌, List, [], length, take, get_or, slice_index_or, replicate, Some, min, nat_lt, refl, sym, ap, subst, ◌∙◌, arith, inl, inr, ⊎_elim, ◌-◌, ◌++◌, drop, true≢false, Result, Ok, Err, OnOk}
+use Rattle.std.proofs.Common.{◌≡◌, ℕ, zero, suc, add-one, cond, ◌+◌, ◌<◌, ◌≤◌, Bool, true, false, ◌&&◌, ◌||◌, List, [], length, take, get_or, slice_index_or, replicate, Some, min, nat_lt, refl, sym, ap, subst, ◌∙◌, arith, inl, inr, ⊎_elim, ◌-◌, ◌++◌, drop, true≢false, Result, Ok, Err, OnOk}
 use Rattle.std.specs.Prelude.{not as flipped}
 use Rattle.std.specs.Bool.{OnFalse}
 use Rattle.std.specs.List.{list_all, list_any}
@@ -16,6 +16,8 @@ use Rattle.cs_model.specs.Truths.{truth}
 use Rattle.row_group.specs.Rows.{PackedRow}
 use Rattle.row_group.specs.Groups.{Group, row_at}
 use Rattle.batch_kernels.specs.Masks.{IsNarrowed, IsNarrowedAt}
+use Rattle.batch_kernels.specs.Places.{places}
+use Rattle.batch_kernels.proofs.OneMore.{count-more, count-most}
 use Rattle.batch_filter.specs.Sieves.{is_asked, asks, verdicts}
 
 and_true : (b : Bool) → b ≡ (b && true)
@@ -150,3 +152,21 @@ batch_within xs from count start there i starts counts = ⊎_elim
 -- places from one on are narrowed alike by another test that answers alike
 pub narrowed_at_alike : (from count : ℕ) (test other : ℕ → Bool) (old new : List Bool) → ((i : ℕ) → i < count → test i ≡ other i) → IsNarrowedAt from count test old new → IsNarrowedAt from count other old new
 narrowed_at_alike from count test other old new alike is = (is.0, (λ i l. is.1 i l ∙ ap (λ b. slice_index_or old (from + i) false && b) (alike i l)), is.2)
+
+-- where as many places are chosen as there are, each is
+chosen_last : (mask : List Bool) (n : ℕ) → length (places mask (suc n)) ≡ suc n → (length (places mask n) ≡ n) × (slice_index_or mask n false ≡ true)
+chosen_last mask n counted = last (slice_index_or mask n false) refl
+  where
+    more : (b : Bool) → slice_index_or mask n false ≡ b → length (places mask (suc n)) ≡ length (places mask n) + cond b 1 0
+    more b is = ap (λ m. length (places mask m)) (sym (add-one n)) ∙ count-more (λ j. slice_index_or mask j false) n ∙ ap (λ t. length (places mask n) + cond t 1 0) is
+
+    last : (b : Bool) → slice_index_or mask n false ≡ b → (length (places mask n) ≡ n) × (slice_index_or mask n false ≡ true)
+    last true is = (omega (arith, counted, more true is), is)
+    last false is = absurd (omega (arith, counted, more false is, count-most (λ j. slice_index_or mask j false) n))
+
+pub all_chosen : (mask : List Bool) (n : ℕ) → length (places mask n) ≡ n → (i : ℕ) → i < n → slice_index_or mask i false ≡ true
+all_chosen mask zero counted i below = absurd (omega (arith, below))
+all_chosen mask (suc n) counted i below = elim (cases_lt i n) [
+  | inl less ↦ all_chosen mask n (chosen_last mask n counted).0 i less
+  | inr past ↦ ap (λ j. slice_index_or mask j false) (omega (arith, below, past)) ∙ (chosen_last mask n counted).1
+]

@@ -2,3 +2,4 @@ pub mod Bounds
 pub mod Named
 pub mod Sieves
 pub mod Codes
+pub mod Batches

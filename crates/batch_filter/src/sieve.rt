@@ -1,9 +1,10 @@
-ghost use Rattle.std.specs.Prelude.{◌≡◌, ◌+◌, ◌<◌, ℕ, length, slice_index_or, nat_lt, ◌&&◌, not, false, IfOk, [], ◌↔◌, IsTrue};
+ghost use Rattle.std.specs.Prelude.{◌≡◌, ◌+◌, ◌<◌, ℕ, length, slice_index_or, nat_lt, ◌&&◌, not, true, false, IfOk, [], ◌↔◌, IsTrue};
+ghost use Rattle.std.specs.Bool.{OnTrue};
 ghost use Rattle.std.specs.List.{list_any};
 ghost use Rattle.batch_filter.specs.Sieves.{verdicts};
 
 use crate::narrow::narrow;
-use batch_kernels::{has_chosen, put_batch};
+use batch_kernels::{chosen, has_chosen, put_batch};
 use cs_base::{Items, Memory};
 use cs_model::Pred;
 use cs_types::Schema;
@@ -57,6 +58,14 @@ impl Sieve {
         ensures { result ≡ not (list_any (λ verdict. verdict) self.now) }
     {
         !has_chosen(self.verdicts.as_slice())
+    }
+
+    /// Whether the predicate is True of every row.
+    pub fn is_everywhere(&self) -> bool
+        ensures { OnTrue result ((i : ℕ) → i < length self.now → slice_index_or self.now i false ≡ true) }
+    {
+        let count = self.len();
+        chosen(self.verdicts.as_slice(), count) == count as u64
     }
 
     /// Whether the predicate is True of the row at a position. False past the end.

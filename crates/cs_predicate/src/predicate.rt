@@ -4,6 +4,7 @@ ghost use Rattle.std.specs.Prelude.{◌≡◌, map};
 ghost use Rattle.cs_model.specs.Truths as spec;
 ghost use Rattle.cs_predicate.specs.Sides.{lent};
 
+use crate::cells::Cells;
 use crate::pattern::is_like;
 use crate::side::Side;
 use cs_model::{Pred, Relation, Truth};
@@ -75,13 +76,13 @@ fn is_null(cell: Side<'_>) -> Truth
 }
 
 /// The truth of a chain of OR. The first part that is True ends it.
-#[cycle(truth)]
-fn any_of(parts: &[Pred], row: &Row, schema: &Schema) -> Truth
-    ensures { result ≡ spec.any_of (map (λ part. spec.truth part row.now schema.now) parts.now) }
+#[cycle(truth_of)]
+fn any_of<C: Cells>(parts: &[Pred], row: &C, schema: &Schema) -> Truth
+    ensures { result ≡ spec.any_of (map (λ part. spec.truth part (C.row_of row.now) schema.now) parts.now) }
 {
     let mut found = Truth::False;
     for part in parts {
-        found = found.or(truth(part, row, schema));
+        found = found.or(truth_of(part, row, schema));
         if found == Truth::True {
             return found;
         }
@@ -90,13 +91,13 @@ fn any_of(parts: &[Pred], row: &Row, schema: &Schema) -> Truth
 }
 
 /// The truth of a chain of AND. The first part that is False ends it.
-#[cycle(truth)]
-fn all_of(parts: &[Pred], row: &Row, schema: &Schema) -> Truth
-    ensures { result ≡ spec.all_of (map (λ part. spec.truth part row.now schema.now) parts.now) }
+#[cycle(truth_of)]
+fn all_of<C: Cells>(parts: &[Pred], row: &C, schema: &Schema) -> Truth
+    ensures { result ≡ spec.all_of (map (λ part. spec.truth part (C.row_of row.now) schema.now) parts.now) }
 {
     let mut found = Truth::True;
     for part in parts {
-        found = found.and(truth(part, row, schema));
+        found = found.and(truth_of(part, row, schema));
         if found == Truth::False {
             return found;
         }
@@ -104,19 +105,19 @@ fn all_of(parts: &[Pred], row: &Row, schema: &Schema) -> Truth
     found
 }
 
-/// The truth of a predicate over a row of a schema. It takes no memory.
+/// The truth of a predicate over a row of a schema, whose cells may stand anywhere. It takes no memory.
 ///
 /// A comparison with NULL is Unknown. Numbers of different scales are compared exactly, texts byte by byte, days by their
 /// number. BETWEEN is `>=` and `<=`, IN the OR of equalities. LIKE is as `is_like` has it. NOT, AND and OR are
 /// three-valued; IS NULL is True or False.
-#[cycle(truth)]
-pub fn truth(pred: &Pred, row: &Row, schema: &Schema) -> Truth
-    ensures { result ≡ spec.truth pred.now row.now schema.now }
+#[cycle(truth_of)]
+pub fn truth_of<C: Cells>(pred: &Pred, row: &C, schema: &Schema) -> Truth
+    ensures { result ≡ spec.truth pred.now (C.row_of row.now) schema.now }
 {
     match pred {
         Pred::AnyOf(parts) => any_of(parts.as_slice(), row, schema),
         Pred::AllOf(parts) => all_of(parts.as_slice(), row, schema),
-        Pred::Not(part) => truth(part.get(), row, schema).negated(),
+        Pred::Not(part) => truth_of(part.get(), row, schema).negated(),
         Pred::Compare { left, sign, right } => compare(
             *sign,
             Side::of_operand(schema, row, left),
@@ -142,4 +143,11 @@ pub fn truth(pred: &Pred, row: &Row, schema: &Schema) -> Truth
             is_null(Side::of_cell(schema, row, *column)).negated_if(*negated)
         }
     }
+}
+
+/// The truth of a predicate over a row of a schema, as `truth_of` has it.
+pub fn truth(pred: &Pred, row: &Row, schema: &Schema) -> Truth
+    ensures { result ≡ spec.truth pred.now row.now schema.now }
+{
+    truth_of(pred, row, schema)
 }

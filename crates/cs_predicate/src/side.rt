@@ -10,8 +10,9 @@ ghost use Rattle.cs_model.specs.Truths as spec;
 ghost use Rattle.cs_predicate.specs.Sides.{lent};
 ghost use Rattle.cs_model.specs.Truths.{number_cmp, order_of};
 
+use crate::cells::Cells;
 use cs_model::Operand;
-use cs_types::{ColumnType, Loose, Row, Schema, Value};
+use cs_types::{ColumnType, Loose, Schema, Value};
 use std::cmp::Ordering;
 
 /// A value that is compared, lent by a row, a column's cell or a literal.
@@ -76,8 +77,8 @@ fn side_of_value(kind: ColumnType, value: &Value) -> Side<'_>
 
 impl<'a> Side<'a> {
     /// What a row's cell in a column lends, NULL past the columns.
-    pub fn of_cell(schema: &Schema, row: &'a Row, column: usize) -> Side<'a>
-        ensures { lent result ≡ cells.loose_at schema.now row.now column }
+    pub fn of_cell<C: Cells>(schema: &Schema, row: &'a C, column: usize) -> Side<'a>
+        ensures { lent result ≡ cells.loose_at schema.now (C.row_of row.now) column }
     {
         match schema.columns.get(column) {
             Some(found) => side_of_value(found.kind, row.cell(column)),
@@ -111,8 +112,8 @@ impl<'a> Side<'a> {
     }
 
     /// What an operand lends.
-    pub fn of_operand(schema: &Schema, row: &'a Row, operand: &'a Operand) -> Side<'a>
-        ensures { lent result ≡ spec.operand_of schema.now row.now operand.now }
+    pub fn of_operand<C: Cells>(schema: &Schema, row: &'a C, operand: &'a Operand) -> Side<'a>
+        ensures { lent result ≡ spec.operand_of schema.now (C.row_of row.now) operand.now }
     {
         match operand {
             Operand::Column(column) => Side::of_cell(schema, row, *column),
