@@ -20,7 +20,7 @@ use Rattle.code_tallies.specs.declared.chosen.Chosen.{Chosen}
 use Rattle.code_tallies.specs.declared.table.Table.{Table}
 use Rattle.code_tallies.specs.Shown.{cells_at, rows_at}
 use Rattle.code_tallies.specs.Keys.{key_at, cells_of_key, AreColumnsOf, HasKeys, key_count}
-use Rattle.code_tallies.specs.Tables.{chosen_in, key_positions, keys_below, tally_in}
+use Rattle.code_tallies.specs.Tables.{is_chosen, key_positions, keys_below, tally_in}
 use Rattle.code_tallies.specs.Scans.{IsScan}
 use Rattle.code_tallies.proofs.KeyNumbers.{cells-of-key}
 use Rattle.code_tallies.proofs.Buckets.{below-more, below-none, below-all, key-below, rows-all, rows-filtered}
@@ -45,19 +45,19 @@ module _ (group : Group) (first old : Partial) (chosen : Chosen) (counts : List 
 
   all_kept : (key : ℕ) → All (λ row. keeps old.schema.now old.query.now.filter row ≡ true) (rows_at group (key_positions chosen key))
   all_kept key =
-      rows-all (λ row. keeps old.schema.now old.query.now.filter row ≡ true) (cells_at group) (λ i. chosen_in chosen.masks.items i && key_at chosen.keys.items i == key) chosen.length
+      rows-all (λ row. keeps old.schema.now old.query.now.filter row ≡ true) (cells_at group) (λ i. is_chosen chosen i && key_at chosen.keys.items i == key) chosen.length
       (λ i within passes.
       ap (λ (s : Schema). keeps s old.query.now.filter (cells_at group i)) schema
       ∙ ap (λ (q : Query). keeps first.schema.now q.filter (cells_at group i)) query
-      ∙ scan.kept i within (both_true (chosen_in chosen.masks.items i) (key_at chosen.keys.items i == key) passes).0)
+      ∙ scan.kept i within (both_true (is_chosen chosen i) (key_at chosen.keys.items i == key) passes).0)
 
   all_have : (key : ℕ) → All (λ row. cells_of old.query.now.groups row ≡ cells_of_key chosen.keys.items key) (rows_at group (key_positions chosen key))
   all_have key =
-      rows-all (λ row. cells_of old.query.now.groups row ≡ cells_of_key chosen.keys.items key) (cells_at group) (λ i. chosen_in chosen.masks.items i && key_at chosen.keys.items i == key) chosen.length
+      rows-all (λ row. cells_of old.query.now.groups row ≡ cells_of_key chosen.keys.items key) (cells_at group) (λ i. is_chosen chosen i && key_at chosen.keys.items i == key) chosen.length
       (λ i within passes.
       ap (λ (q : Query). cells_of q.groups (cells_at group i)) query
       ∙ sym (cells-of-key group first.query.now.groups chosen.keys.items i scan.columns (omega (arith, within, scan.long)))
-      ∙ ap (cells_of_key chosen.keys.items) (eqb-true (key_at chosen.keys.items i) key (both_true (chosen_in chosen.masks.items i) (key_at chosen.keys.items i == key) passes).1))
+      ∙ ap (cells_of_key chosen.keys.items) (eqb-true (key_at chosen.keys.items i) key (both_true (is_chosen chosen i) (key_at chosen.keys.items i == key) passes).1))
 
   tallied : (key : ℕ) (tallies : List Tally) → key < chosen.size → tallies ≡ map (λ table. tally_in (slice_index counts key) table key) tables →
       map (tally_of (rows_at group (key_positions chosen key))) old.query.now.items ≡ tallies
@@ -101,7 +101,7 @@ module _ (group : Group) (first old : Partial) (chosen : Chosen) (counts : List 
       = added all more grouped_too stands (all_kept key) have (tallied key tallies within tallies_is)
       (λ none. let alone = some_or_alone key within some none in (alone.0, cells_is ∙ alone.1)) in
       StandsFor_any_order new (all ++ more) (rows ++ rows_at group (keys_below chosen (key + 1))) (ap (λ (q : Query). q.grouped) same ∙ grouped_too) further
-      (below-more (cells_at group) (chosen_in chosen.masks.items) (key_at chosen.keys.items) key chosen.length rows)
+      (below-more (cells_at group) (is_chosen chosen) (key_at chosen.keys.items) key chosen.length rows)
 
   -- and where no row has it
   pub stands-none : (rows : List (List Value)) (key : ℕ) → key < chosen.size → slice_index counts key ≡ 0 →
@@ -110,18 +110,18 @@ module _ (group : Group) (first old : Partial) (chosen : Chosen) (counts : List 
       let all : List (List Value) = rows ++ rows_at group (keys_below chosen key) in
       let same : all ≡ all ++ rows_at group (key_positions chosen key) = sym (ap (λ l. all ++ l) (none_there key within empty) ∙ append-nil all) in
       StandsFor_any_order old (all ++ rows_at group (key_positions chosen key)) (rows ++ rows_at group (keys_below chosen (key + 1))) grouped_too (subst (StandsFor old) same stands)
-      (below-more (cells_at group) (chosen_in chosen.masks.items) (key_at chosen.keys.items) key chosen.length rows)
+      (below-more (cells_at group) (is_chosen chosen) (key_at chosen.keys.items) key chosen.length rows)
 
 -- at the start no key number, and at the end each
 pub stands-start : (group : Group) (partial : Partial) (chosen : Chosen) (rows : List (List Value)) → StandsFor partial rows → StandsFor partial (rows ++ rows_at group (keys_below chosen 0))
 stands-start group partial chosen rows stands =
-    subst (StandsFor partial) (sym (ap (λ at. rows ++ rows_at group at) (below-none (chosen_in chosen.masks.items) (key_at chosen.keys.items) chosen.length) ∙ append-nil rows)) stands
+    subst (StandsFor partial) (sym (ap (λ at. rows ++ rows_at group at) (below-none (is_chosen chosen) (key_at chosen.keys.items) chosen.length) ∙ append-nil rows)) stands
 
 pub stands-end : (group : Group) (partial : Partial) (chosen : Chosen) (rows : List (List Value)) (key : ℕ) → key ≡ key_count chosen.keys.items → HasKeys chosen.length chosen.keys.items →
-    StandsFor partial (rows ++ rows_at group (keys_below chosen key)) → StandsFor partial (rows ++ rows_at group (filter (chosen_in chosen.masks.items) (range_with_len 0 chosen.length)))
+    StandsFor partial (rows ++ rows_at group (keys_below chosen key)) → StandsFor partial (rows ++ rows_at group (filter (is_chosen chosen) (range_with_len 0 chosen.length)))
 stands-end group partial chosen rows key all has stands =
     subst (λ at. StandsFor partial (rows ++ rows_at group at))
-    (below-all (chosen_in chosen.masks.items) (key_at chosen.keys.items) key chosen.length (λ i within. subst (λ m. key_at chosen.keys.items i < m) (sym all) (key-below chosen.keys.items chosen.length i has within)))
+    (below-all (is_chosen chosen) (key_at chosen.keys.items) key chosen.length (λ i within. subst (λ m. key_at chosen.keys.items i < m) (sym all) (key-below chosen.keys.items chosen.length i has within)))
     stands
 
 twice : (s t : Bool) → (s && t) ≡ ((s && t) && t)

@@ -12,7 +12,7 @@ use Rattle.code_tallies.specs.Tables.{chosen_in, positions}
 use Rattle.batch_kernels.proofs.Batches.{fold-batch, count-batch, place-same}
 
 -- positions that a test does not pass come to none
-filter-skip : (P : ℕ → Bool) (from n : ℕ) → ((i : ℕ) → i < n → P (from + i) ≡ false) → filter P (range_with_len 0 (from + n)) ≡ filter P (range_with_len 0 from)
+pub filter-skip : (P : ℕ → Bool) (from n : ℕ) → ((i : ℕ) → i < n → P (from + i) ≡ false) → filter P (range_with_len 0 (from + n)) ≡ filter P (range_with_len 0 from)
 filter-skip P from zero none = ap (λ m. filter P (range_with_len 0 m)) (add-zero from)
 filter-skip P from (suc n) none =
     let last : from + suc n ≡ from + n + 1 = omega arith in

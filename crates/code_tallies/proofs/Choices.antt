@@ -11,7 +11,7 @@ use Rattle.batch_aggregate.specs.declared.partial.Partial.{Partial}
 use Rattle.batch_aggregate.specs.Standing.{StandsFor}
 use Rattle.code_tallies.specs.declared.chosen.Chosen.{Chosen}
 use Rattle.code_tallies.specs.Shown.{cells_at, rows_at}
-use Rattle.code_tallies.specs.Tables.{chosen_in}
+use Rattle.code_tallies.specs.Tables.{is_chosen}
 use Rattle.code_tallies.specs.Scans.{AreKept, IsChoice}
 use Rattle.code_tallies.proofs.Adding.{both_true, stands-shown}
 
@@ -28,10 +28,10 @@ module _ (group : Group) (old new : Partial) (places : List ℕ) (shown verdict 
   judged i within false is_shown = refl
 
   pub choice-shown : new.schema.now ≡ old.schema.now → new.query.now ≡ old.query.now → (rows : List (List Value)) →
-      StandsFor new (rows ++ rows_at group (filter (chosen_in chosen.masks.items) (range_with_len 0 chosen.length))) → StandsFor new (rows ++ rows_at group (filter shown (range_with_len 0 (length group.rows))))
+      StandsFor new (rows ++ rows_at group (filter (is_chosen chosen) (range_with_len 0 chosen.length))) → StandsFor new (rows ++ rows_at group (filter shown (range_with_len 0 (length group.rows))))
   choice-shown schema query rows stands =
       subst (λ n. StandsFor new (rows ++ rows_at group (filter shown (range_with_len 0 n)))) is.long
-      (stands-shown group new rows shown (chosen_in chosen.masks.items) chosen.length
+      (stands-shown group new rows shown (is_chosen chosen) chosen.length
       (λ i within.
       is.passed i within
       ∙ judged i (omega (arith, within, is.long)) (shown i) refl

@@ -10,3 +10,6 @@ pub mod Counted
 pub mod Whole
 pub mod Choices
 pub mod Standing
+pub mod Bounds
+pub mod Again
+pub mod PieceSteps

@@ -9,13 +9,13 @@ use Rattle.code_tallies.specs.declared.chosen.Batch.{Batch}
 use Rattle.code_tallies.specs.declared.column.Column.{Column}
 use Rattle.code_tallies.specs.Columns.{cell_there, code_at}
 use Rattle.code_tallies.specs.Keys.{key_at}
-use Rattle.code_tallies.specs.Tables.{chosen_in, positions, present_in, present_positions, sum_at, least_at, greatest_at, AreCounts, AreSums, AreLeast, AreGreatest, HasCodes, IsBatch, reached}
+use Rattle.code_tallies.specs.Tables.{is_chosen, positions, present_in, present_positions, sum_at, least_at, greatest_at, AreCounts, AreSums, AreLeast, AreGreatest, HasCodes, IsBatch, reached}
 use Rattle.code_tallies.proofs.BatchSteps.{fold-next, count-next, positions-next}
 use Rattle.code_tallies.proofs.Counted.{positions-most}
 
 -- where no row of a batch is chosen, what stands for those before stands with it
-module _ (chosen : Chosen) (number : ℕ) (here : 1024 * number < chosen.length) (none : (i : ℕ) → i < min 1024 (chosen.length - 1024 * number) → chosen_in chosen.masks.items (1024 * number + i) ≡ false) where
-  unpresent : (column : Column) (i : ℕ) → i < min 1024 (chosen.length - 1024 * number) → present_in column (chosen_in chosen.masks.items) (1024 * number + i) ≡ false
+module _ (chosen : Chosen) (number : ℕ) (here : 1024 * number < chosen.length) (none : (i : ℕ) → i < min 1024 (chosen.length - 1024 * number) → is_chosen chosen (1024 * number + i) ≡ false) where
+  unpresent : (column : Column) (i : ℕ) → i < min 1024 (chosen.length - 1024 * number) → present_in column (is_chosen chosen) (1024 * number + i) ≡ false
   unpresent column i below = ap (λ b. b && nat_le column.first (code_at column (1024 * number + i))) (none i below)
 
   same : (test : ℕ → Bool) → ((i : ℕ) → i < min 1024 (chosen.length - 1024 * number) → test (1024 * number + i) ≡ false) → (k : ℕ) →
@@ -29,16 +29,16 @@ module _ (chosen : Chosen) (number : ℕ) (here : 1024 * number < chosen.length)
     each = λ k within. are.each k within ∙ ap length (same test never k);
   }
 
-  pub rows-skipped : (counts : List ℕ) → AreCounts chosen (chosen_in chosen.masks.items) (reached chosen number) counts → AreCounts chosen (chosen_in chosen.masks.items) (reached chosen (number + 1)) counts
-  rows-skipped counts are = counts-skipped (chosen_in chosen.masks.items) counts none are
+  pub rows-skipped : (counts : List ℕ) → AreCounts chosen (is_chosen chosen) (reached chosen number) counts → AreCounts chosen (is_chosen chosen) (reached chosen (number + 1)) counts
+  rows-skipped counts are = counts-skipped (is_chosen chosen) counts none are
 
-  pub cells-skipped : (column : Column) (counts : List ℕ) → AreCounts chosen (present_in column (chosen_in chosen.masks.items)) (reached chosen number) counts →
-      AreCounts chosen (present_in column (chosen_in chosen.masks.items)) (reached chosen (number + 1)) counts
-  cells-skipped column counts are = counts-skipped (present_in column (chosen_in chosen.masks.items)) counts (unpresent column) are
+  pub cells-skipped : (column : Column) (counts : List ℕ) → AreCounts chosen (present_in column (is_chosen chosen)) (reached chosen number) counts →
+      AreCounts chosen (present_in column (is_chosen chosen)) (reached chosen (number + 1)) counts
+  cells-skipped column counts are = counts-skipped (present_in column (is_chosen chosen)) counts (unpresent column) are
 
   pub sums-skipped : (column : Column) (sums : List ℤ) → AreSums chosen column (reached chosen number) sums → AreSums chosen column (reached chosen (number + 1)) sums
   sums-skipped column sums are =
-      let P = present_in column (chosen_in chosen.masks.items) in
+      let P = present_in column (is_chosen chosen) in
       record {
         long = are.long;
         each = λ k within. are.each k within ∙ ap (sum_at column) (same P (unpresent column) k);
@@ -48,13 +48,13 @@ module _ (chosen : Chosen) (number : ℕ) (here : 1024 * number < chosen.length)
   pub least-skipped : (column : Column) (codes : List ℕ) → AreLeast chosen column (reached chosen number) codes → AreLeast chosen column (reached chosen (number + 1)) codes
   least-skipped column codes are = record {
     long = are.long;
-    each = λ k within. are.each k within ∙ ap (least_at column) (same (present_in column (chosen_in chosen.masks.items)) (unpresent column) k);
+    each = λ k within. are.each k within ∙ ap (least_at column) (same (present_in column (is_chosen chosen)) (unpresent column) k);
   }
 
   pub greatest-skipped : (column : Column) (codes : List ℕ) → AreGreatest chosen column (reached chosen number) codes → AreGreatest chosen column (reached chosen (number + 1)) codes
   greatest-skipped column codes are = record {
     long = are.long;
-    each = λ k within. are.each k within ∙ ap (greatest_at column) (same (present_in column (chosen_in chosen.masks.items)) (unpresent column) k);
+    each = λ k within. are.each k within ∙ ap (greatest_at column) (same (present_in column (is_chosen chosen)) (unpresent column) k);
   }
 
 -- a batch more
@@ -92,12 +92,12 @@ module _ (chosen : Chosen) (test : ℕ → Bool) (number : ℕ) (batch : Batch) 
   }
 
 -- a batch more of a column
-module _ (chosen : Chosen) (column : Column) (number : ℕ) (batch : Batch) (is : IsBatch chosen (present_in column (chosen_in chosen.masks.items)) number batch) (here : 1024 * number < chosen.length) where
+module _ (chosen : Chosen) (column : Column) (number : ℕ) (batch : Batch) (is : IsBatch chosen (present_in column (is_chosen chosen)) number batch) (here : 1024 * number < chosen.length) where
   pub sums-small : chosen.length < 2 ^ 59 → (sums : List ℤ) → AreSums chosen column (reached chosen number) sums → (k : ℕ) → k < length sums → IsSumOf 4611686018427387904 (slice_index_or sums k (pos 0))
   sums-small few sums are k there =
       let within : k < chosen.size = omega (arith, there, are.long) in
       let count : ℕ = length (present_positions chosen column k (reached chosen number)) in
-      let most : count ≤ reached chosen number = positions-most (present_in column (chosen_in chosen.masks.items)) (key_at chosen.keys.items) k (reached chosen number) in
+      let most : count ≤ reached chosen number = positions-most (present_in column (is_chosen chosen)) (key_at chosen.keys.items) k (reached chosen number) in
       IsSumOf-more count 4611686018427387904 (slice_index_or sums k (pos 0)) (omega (arith, most, few)) (are.bound k within)
 
   pub sums-next : (old new : List ℤ) (numbers : List ℤ) → length new ≡ length old → AreSums chosen column (reached chosen number) old →
@@ -106,7 +106,7 @@ module _ (chosen : Chosen) (column : Column) (number : ℕ) (batch : Batch) (is 
       ((k n : ℕ) → k < length old → IsSumOf n (slice_index_or old k (pos 0)) → IsSumOf (n + length (places_with batch.mask (key_in batch.keys) k batch.count)) (slice_index_or new k (pos 0))) →
       AreSums chosen column (reached chosen (number + 1)) new
   sums-next old new numbers long are numbers_are new_is bounded =
-      let P = present_in column (chosen_in chosen.masks.items) in
+      let P = present_in column (is_chosen chosen) in
       record {
         long = long ∙ are.long;
         each = λ k within.
@@ -125,7 +125,7 @@ module _ (chosen : Chosen) (column : Column) (number : ℕ) (batch : Batch) (is 
     long = long ∙ are.long;
     each = λ k within.
         new_is k (omega (arith, within, are.long))
-        ∙ next chosen (present_in column (chosen_in chosen.masks.items)) number batch is here (λ m i. min m (code_at column i)) (λ m i. min m (slice_index batch.codes i)) column.last (slice_index old k) k
+        ∙ next chosen (present_in column (is_chosen chosen)) number batch is here (λ m i. min m (code_at column i)) (λ m i. min m (slice_index batch.codes i)) column.last (slice_index old k) k
         (λ i m below. ap (λ n. min m n) (codes i below)) (are.each k within);
   }
 
@@ -135,6 +135,6 @@ module _ (chosen : Chosen) (column : Column) (number : ℕ) (batch : Batch) (is 
     long = long ∙ are.long;
     each = λ k within.
         new_is k (omega (arith, within, are.long))
-        ∙ next chosen (present_in column (chosen_in chosen.masks.items)) number batch is here (λ m i. max m (code_at column i)) (λ m i. max m (slice_index batch.codes i)) 0 (slice_index old k) k
+        ∙ next chosen (present_in column (is_chosen chosen)) number batch is here (λ m i. max m (code_at column i)) (λ m i. max m (slice_index batch.codes i)) 0 (slice_index old k) k
         (λ i m below. ap (λ n. max m n) (codes i below)) (are.each k within);
   }

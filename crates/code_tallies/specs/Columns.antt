@@ -5,7 +5,9 @@ use Rattle.cs_types.specs.declared.Value.TheVariants.{Null}
 use Rattle.cs_types.specs.Rows.{cell_at}
 use Rattle.cs_model.specs.Items.{is_null}
 use Rattle.column_segment.specs.Bodies.{code_in, cell_in, cell_of_code, IsKnown}
+use Rattle.column_segment.specs.Segments.{IsSegmentOf}
 use Rattle.row_group.specs.Groups.{Group}
+use Rattle.row_group.specs.Rows.{column_of}
 use Rattle.code_tallies.specs.declared.column.Column.{Column}
 use Rattle.code_tallies.specs.Shown.{cells_at}
 
@@ -20,6 +22,7 @@ cell_there column i = cell_in column.segment.now.body i
 -- not NULL are the codes from `first` on
 pub record IsColumnOf (group : Group) (place : ℕ) (column : Column) : Type 0 where
   pub counted : column.segment.now.length ≡ length group.rows
+  pub kept : IsSegmentOf (column_of group.rows place) column.segment.now.length column.segment.now.body column.segment.now.least column.segment.now.greatest column.segment.now.nulls
   pub each : (i : ℕ) → i < length group.rows → cell_in column.segment.now.body i ≡ cell_at (cells_at group i) place
   pub most : (i : ℕ) → i < length group.rows → code_in column.segment.now.body i ≤ column.last
   pub known : (code : ℕ) → code ≤ column.last → IsKnown column.segment.now.body code

@@ -3,3 +3,4 @@ pub mod Columns
 pub mod Keys
 pub mod Tables
 pub mod Scans
+pub mod Stretches

@@ -10,11 +10,11 @@ use Rattle.code_tallies.specs.declared.chosen.Chosen.{Chosen}
 use Rattle.code_tallies.specs.declared.table.Table.{Table}
 use Rattle.code_tallies.specs.Shown.{cells_at, rows_at}
 use Rattle.code_tallies.specs.Keys.{AreColumnsOf, HasKeys}
-use Rattle.code_tallies.specs.Tables.{chosen_in, key_positions, tally_in}
+use Rattle.code_tallies.specs.Tables.{is_chosen, key_positions, tally_in}
 
 -- the filter keeps the chosen rows
 abbrev pub AreKept : Group → Schema → Query → Chosen → Type 0
-AreKept group schema query chosen = (i : ℕ) → i < chosen.length → chosen_in chosen.masks.items i ≡ true → keeps schema query.filter (cells_at group i) ≡ true
+AreKept group schema query chosen = (i : ℕ) → i < chosen.length → is_chosen chosen i ≡ true → keeps schema query.filter (cells_at group i) ≡ true
 
 -- the chosen rows of a group are those that pass a test, and the keys are its columns at these places
 pub record IsChoice (group : Group) (places : List ℕ) (test : ℕ → Bool) (chosen : Chosen) : Type 0 where
@@ -22,7 +22,7 @@ pub record IsChoice (group : Group) (places : List ℕ) (test : ℕ → Bool) (c
   pub long : chosen.length ≡ length group.rows
   pub keyed : HasKeys chosen.length chosen.keys.items
   pub columns : AreColumnsOf group places chosen.keys.items
-  pub passed : (i : ℕ) → i < chosen.length → chosen_in chosen.masks.items i ≡ test i
+  pub passed : (i : ℕ) → i < chosen.length → is_chosen chosen i ≡ test i
 
 -- the chosen rows are of the group and kept by the filter; the columns are those of GROUP BY; the counts and the tables are
 -- those of the rows of each key number

@@ -1,6 +1,8 @@
 -- What is kept of the chosen rows of a group, an entry for each key number.
-use Rattle.std.specs.Prelude.{◌≡◌, ◌<◌, ◌≤◌, ℕ, ◌+◌, ◌-◌, ◌*◌, ◌/◌, ◌%◌, ◌==◌, min, max, ℤ, pos, ◌+ℤ◌, Bool, false, ◌&&◌, nat_le, nat_lt, List, [], length, filter, fold, slice_index, slice_index_or, vec_len}
+use Rattle.std.specs.Prelude.{◌≡◌, ◌<◌, ◌≤◌, ℕ, ◌+◌, ◌-◌, ◌*◌, ◌/◌, ◌%◌, ◌==◌, min, max, ℤ, pos, ◌+ℤ◌, Bool, true, false, ◌&&◌, nat_le, nat_lt, List, [], Option, None, Some, length, filter, fold, slice_index, slice_index_or, vec_len}
 use Rattle.std.specs.List.{range_with_len, AllZip}
+use Rattle.std.specs.declared.vec.Vec.{Vec}
+use Rattle.std.specs.declared.alloc.Global.{Global}
 use Rattle.cs_types.specs.Rows.{number_in}
 use Rattle.column_segment.specs.Bodies.{IsKnown}
 use Rattle.cs_model.specs.declared.plan.Item.{Item}
@@ -10,7 +12,7 @@ use Rattle.batch_aggregate.specs.declared.tally.Tally.{Tally}
 use Rattle.batch_aggregate.specs.declared.tally.Tally.TheVariants as tally
 use Rattle.code_tallies.specs.declared.column.Column.{Column}
 use Rattle.code_tallies.specs.declared.table.Table.{Table}
-use Rattle.code_tallies.specs.declared.table.Table.TheVariants.{Nothing, Rows, Counts, Sums, Least, Greatest}
+use Rattle.code_tallies.specs.declared.table.Table.TheVariants.{Nothing, Rows, Counts, Sums, Least, Greatest, LeastCell, GreatestCell}
 use Rattle.code_tallies.specs.declared.chosen.Chosen.{Chosen}
 use Rattle.code_tallies.specs.declared.chosen.Batch.{Batch}
 use Rattle.batch_kernels.specs.Places.{key_in, IsSumOf}
@@ -21,6 +23,14 @@ use Rattle.code_tallies.specs.Shown.{rows_at}
 -- whether masks, of 1,024 places each, choose a position
 abbrev pub chosen_in : List (List Bool) → ℕ → Bool
 chosen_in masks i = slice_index_or (slice_index_or masks (i / 1024) []) (i % 1024) false
+
+-- whether a position is chosen: by masks, or there are none
+abbrev pub chosen_by : Option (Vec (List Bool) Global) → ℕ → Bool
+chosen_by None i = true
+chosen_by (Some masks) i = chosen_in masks.items i
+
+abbrev pub is_chosen : Chosen → ℕ → Bool
+is_chosen chosen i = chosen_by chosen.masks i
 
 -- the positions below n that are chosen and have a key number
 abbrev pub positions : (ℕ → Bool) → (ℕ → ℕ) → ℕ → ℕ → List ℕ
@@ -48,6 +58,8 @@ tally_in rows (Counts counts) k = tally.Count (slice_index counts.items k)
 tally_in rows (Sums sums) k = tally.Sum (slice_index sums.counts.items k, slice_index_or sums.sums.items k (pos 0))
 tally_in rows (Least codes) k = tally.Least (shown_code codes.column (slice_index codes.counts.items k) (slice_index codes.codes.items k))
 tally_in rows (Greatest codes) k = tally.Greatest (shown_code codes.column (slice_index codes.counts.items k) (slice_index codes.codes.items k))
+tally_in rows (LeastCell segment) k = tally.Least segment.now.least
+tally_in rows (GreatestCell segment) k = tally.Greatest segment.now.greatest
 
 -- a table has an entry for a key number, and its column knows all codes up to `last`
 abbrev pub HasEntry : ℕ → Table → Type 0
@@ -57,6 +69,8 @@ HasEntry k (Counts counts) = k < vec_len counts
 HasEntry k (Sums sums) = k < vec_len sums.counts
 HasEntry k (Least codes) = (k < vec_len codes.counts) × ((code : ℕ) → code ≤ codes.column.last → IsKnown codes.column.segment.now.body code)
 HasEntry k (Greatest codes) = (k < vec_len codes.counts) × ((code : ℕ) → code ≤ codes.column.last → IsKnown codes.column.segment.now.body code)
+HasEntry k (LeastCell segment) = Unit {0}
+HasEntry k (GreatestCell segment) = Unit {0}
 
 -- how many rows the batches before a number have
 abbrev pub reached : Chosen → ℕ → ℕ
@@ -77,11 +91,11 @@ HasCodes column batch = (i : ℕ) → i < batch.count → slice_index batch.code
 
 -- the positions that are present in a column and have a key number
 abbrev pub present_positions : Chosen → Column → ℕ → ℕ → List ℕ
-present_positions chosen column k n = positions (present_in column (chosen_in chosen.masks.items)) (key_at chosen.keys.items) k n
+present_positions chosen column k n = positions (present_in column (is_chosen chosen)) (key_at chosen.keys.items) k n
 
 -- the positions that are chosen and have a key number
 abbrev pub key_positions : Chosen → ℕ → List ℕ
-key_positions chosen k = positions (chosen_in chosen.masks.items) (key_at chosen.keys.items) k chosen.length
+key_positions chosen k = positions (is_chosen chosen) (key_at chosen.keys.items) k chosen.length
 
 -- for each key number how many of the positions below n pass a test
 pub record AreCounts (chosen : Chosen) (test : ℕ → Bool) (n : ℕ) (counts : List ℕ) : Type 0 where
@@ -109,7 +123,7 @@ abbrev pub positions_below : (ℕ → Bool) → (ℕ → ℕ) → ℕ → ℕ �
 positions_below chosen key k n = filter (λ i. chosen i && nat_lt (key i) k) (range_with_len 0 n)
 
 abbrev pub keys_below : Chosen → ℕ → List ℕ
-keys_below chosen k = positions_below (chosen_in chosen.masks.items) (key_at chosen.keys.items) k chosen.length
+keys_below chosen k = positions_below (is_chosen chosen) (key_at chosen.keys.items) k chosen.length
 
 -- a table keeps an item: its tally of each key number is that of the rows with this key number
 pub record IsTableOf (group : Group) (chosen : Chosen) (item : Item) (table : Table) : Type 0 where

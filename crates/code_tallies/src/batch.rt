@@ -1,22 +1,40 @@
 // The rows of a group that are chosen, by batches of 1,024.
-ghost use Rattle.std.specs.Prelude.{◌≡◌, ℕ, ◌+◌, ◌-◌, ◌*◌, ◌<◌, ◌≤◌, ◌^◌, ◌&&◌, nat_lt, min, length, vec_len, slice_index, slice_index_or, IfOk, false};
-ghost use Rattle.std.specs.Bool.{OnFalse};
+ghost use Rattle.std.specs.Prelude.{◌≡◌, ℕ, ◌+◌, ◌-◌, ◌*◌, ◌<◌, ◌≤◌, ◌^◌, ◌&&◌, nat_lt, min, length, vec_len, slice_index, slice_index_or, IfOk, IfSome, true, false, []};
+ghost use Rattle.std.specs.Bool.{OnTrue, OnFalse};
 ghost use Rattle.std.specs.Option.{option_copied};
 ghost use Rattle.code_tallies.specs.Shown.{is_shown};
 ghost use Rattle.code_tallies.specs.Keys.{HasKeys};
-ghost use Rattle.code_tallies.specs.Tables.{chosen_in, present_in, AreCounts, HasCodes, IsBatch, reached};
+ghost use Rattle.code_tallies.specs.Tables.{chosen_by, chosen_in, is_chosen, present_in, AreCounts, HasCodes, IsBatch, reached};
 
 use crate::chosen::{Batch, Chosen};
 use crate::column::Column;
 use crate::keys::read_keys;
+use crate::pieces::rows_by_pieces;
 use crate::verdicts::Verdicts;
-use batch_kernels::{Keys, count_by_key, has_chosen, keep_from, keep_where};
+use batch_kernels::{Keys, choose_first, count_by_key, has_chosen, keep_from, keep_where};
 use cs_base::Memory;
 use delete_bitmap::Positions;
 use std::alloc::Global;
 
-/// The masks of the rows that are shown and that the verdicts keep.
+/// The masks of the rows that are shown and that the verdicts keep. None where these are all rows.
 pub fn masks_of<V: Verdicts>(
+    alloc: Global,
+    length: usize,
+    shown: Option<&Positions>,
+    verdicts: &V,
+) -> Result<Option<Vec<[bool; 1024]>>, Memory>
+    requires { length < 2 ^ 59 }
+    ensures enough { IfOk result (λ found. IfSome found (λ masks. length ≤ 1024 * vec_len masks)) }
+    ensures chosen { IfOk result (λ found. (i : ℕ) → i < length → chosen_by found i ≡ (is_shown (option_copied shown.entry) i && V.kept verdicts.now i)) }
+{
+    if shown.is_none() && verdicts.keeps_each(length) {
+        return Ok(None);
+    }
+    Ok(Some(each_mask(alloc, length, shown, verdicts)?))
+}
+
+/// The masks of the rows that are shown and that the verdicts keep.
+fn each_mask<V: Verdicts>(
     alloc: Global,
     length: usize,
     shown: Option<&Positions>,
@@ -24,7 +42,6 @@ pub fn masks_of<V: Verdicts>(
 ) -> Result<Vec<[bool; 1024]>, Memory>
     requires { length < 2 ^ 59 }
     ensures enough { IfOk result (λ masks. length ≤ 1024 * vec_len masks) }
-    ensures no_more { IfOk result (λ masks. 1024 * vec_len masks < length + 1024) }
     ensures chosen { IfOk result (λ masks. (i : ℕ) → i < length → chosen_in masks.items i ≡ (is_shown (option_copied shown.entry) i && V.kept verdicts.now i)) }
 {
     let mut masks = Vec::with_capacity(alloc, length.div_ceil(1024))?;
@@ -56,9 +73,17 @@ fn mask_of<V: Verdicts>(
 }
 
 impl Chosen<'_> {
+    /// How many batches there are.
+    pub fn batches(&self) -> usize
+        ensures enough { self.now.length ≤ 1024 * result }
+        ensures no_more { 1024 * result < self.now.length + 1024 }
+    {
+        self.length.div_ceil(1024)
+    }
+
     /// How many rows a batch has.
     fn count(&self, number: usize) -> usize
-        requires { number < vec_len self.now.masks }
+        requires { 1024 * number < self.now.length }
         ensures { result ≡ min 1024 (self.now.length - 1024 * number) }
     {
         (self.length - 1024 * number).min(1024)
@@ -66,18 +91,33 @@ impl Chosen<'_> {
 
     /// Whether a row of a batch is chosen.
     pub fn has_rows(&self, number: usize) -> bool
-        requires { number < vec_len self.now.masks }
-        ensures { OnFalse result ((i : ℕ) → i < min 1024 (self.now.length - 1024 * number) → chosen_in self.now.masks.items (1024 * number + i) ≡ false) }
+        requires { 1024 * number < self.now.length }
+        ensures { OnFalse result ((i : ℕ) → i < min 1024 (self.now.length - 1024 * number) → is_chosen self.now (1024 * number + i) ≡ false) }
     {
-        has_chosen(&self.masks[number])
+        match &self.masks {
+            None => true,
+            Some(masks) => has_chosen(&masks[number]),
+        }
+    }
+
+    /// Puts which of the `count` rows of a batch are chosen into a mask.
+    fn put_mask(&self, number: usize, count: usize, mask: &mut [bool; 1024])
+        requires number { 1024 * number < self.now.length }
+        requires count { count ≤ 1024 }
+        ensures { (i : ℕ) → i < count → slice_index_or mask.new i false ≡ is_chosen self.now (1024 * number + i) }
+    {
+        match &self.masks {
+            None => choose_first(count, mask),
+            Some(masks) => *mask = masks[number],
+        }
     }
 
     /// Adds a batch to the counts of chosen rows.
     fn count_batch(&self, number: usize, batch: &mut Batch, counts: &mut [u64])
-        requires number { number < vec_len self.now.masks }
+        requires number { 1024 * number < self.now.length }
         requires keyed { HasKeys self.now.length self.now.keys.items }
-        requires before { AreCounts self.now (chosen_in self.now.masks.items) (reached self.now number) counts.old }
-        ensures { AreCounts self.now (chosen_in self.now.masks.items) (reached self.now (number + 1)) counts.new }
+        requires before { AreCounts self.now (is_chosen self.now) (reached self.now number) counts.old }
+        ensures { AreCounts self.now (is_chosen self.now) (reached self.now (number + 1)) counts.new }
     {
         if !self.has_rows(number) {
             return;
@@ -86,22 +126,32 @@ impl Chosen<'_> {
         count_by_key(&batch.keys, &batch.mask, batch.count, counts);
     }
 
-    /// How many rows are chosen, for each key number.
-    pub fn counts(&self, alloc: Global) -> Result<Vec<u64>, Memory>
-        requires { HasKeys self.now.length self.now.keys.items }
-        ensures { IfOk result (λ counts. AreCounts self.now (chosen_in self.now.masks.items) self.now.length counts.items) }
+    /// Whether all rows are chosen, and have one key number.
+    pub fn is_whole(&self) -> bool
+        ensures each { OnTrue result ((i : ℕ) → is_chosen self.now i ≡ true) }
+        ensures alone { OnTrue result (self.now.keys.items ≡ []) }
     {
+        self.masks.is_none() && self.keys.is_empty()
+    }
+
+    /// How many rows are chosen, for each key number.
+    pub fn counts(&self, alloc: Global, batch: &mut Batch) -> Result<Vec<u64>, Memory>
+        requires { HasKeys self.now.length self.now.keys.items }
+        ensures { IfOk result (λ counts. AreCounts self.now (is_chosen self.now) self.now.length counts.items) }
+    {
+        if self.has_pieces() {
+            return rows_by_pieces(alloc, self);
+        }
         let mut counts = vec![in alloc; 0; self.size]?;
-        let mut batch = Batch::new();
-        for number in 0..self.masks.len() {
-            self.count_batch(number, &mut batch, counts.as_mut_slice());
+        for number in 0..self.batches() {
+            self.count_batch(number, batch, counts.as_mut_slice());
         }
         Ok(counts)
     }
 }
 
 impl Batch {
-    /// Room for batches.
+    /// Room for the batches of a scan.
     pub fn new() -> Batch
         ensures { result.count ≡ 0 }
     {
@@ -110,19 +160,20 @@ impl Batch {
             count: 0,
             keys: Keys::new(),
             codes: [0; 1024],
+            numbers: [0; 1024],
             mask: [false; 1024],
         }
     }
 
     /// Reads which rows of a batch are chosen, and their key numbers.
     fn read_chosen(&mut self, chosen: &Chosen<'_>, number: usize)
-        requires number { number < vec_len chosen.now.masks }
+        requires number { 1024 * number < chosen.now.length }
         requires keyed { HasKeys chosen.now.length chosen.now.keys.items }
-        ensures { IsBatch chosen.now (chosen_in chosen.now.masks.items) number self.new }
+        ensures { IsBatch chosen.now (is_chosen chosen.now) number self.new }
     {
         self.from = 1024 * number;
         self.count = chosen.count(number);
-        self.mask = chosen.masks[number];
+        chosen.put_mask(number, self.count, &mut self.mask);
         read_keys(
             &chosen.keys,
             self.from,
@@ -133,11 +184,11 @@ impl Batch {
     }
 
     /// The same of those rows alone whose cell in a column is not NULL. Where no code is NULL's, the codes are not read.
-    pub fn read(&mut self, chosen: &Chosen<'_>, column: &Column<'_>, number: usize)
-        requires number { number < vec_len chosen.now.masks }
+    pub(crate) fn read(&mut self, chosen: &Chosen<'_>, column: &Column<'_>, number: usize)
+        requires number { 1024 * number < chosen.now.length }
         requires keyed { HasKeys chosen.now.length chosen.now.keys.items }
         requires column { chosen.now.length ≤ column.now.segment.now.length }
-        ensures { IsBatch chosen.now (present_in column.now (chosen_in chosen.now.masks.items)) number self.new }
+        ensures { IsBatch chosen.now (present_in column.now (is_chosen chosen.now)) number self.new }
     {
         if column.first > 0 {
             self.read_codes(chosen, column, number);
@@ -147,11 +198,11 @@ impl Batch {
     }
 
     /// The same, and their codes in the column.
-    pub fn read_codes(&mut self, chosen: &Chosen<'_>, column: &Column<'_>, number: usize)
-        requires number { number < vec_len chosen.now.masks }
+    pub(crate) fn read_codes(&mut self, chosen: &Chosen<'_>, column: &Column<'_>, number: usize)
+        requires number { 1024 * number < chosen.now.length }
         requires keyed { HasKeys chosen.now.length chosen.now.keys.items }
         requires column { chosen.now.length ≤ column.now.segment.now.length }
-        ensures batch { IsBatch chosen.now (present_in column.now (chosen_in chosen.now.masks.items)) number self.new }
+        ensures batch { IsBatch chosen.now (present_in column.now (is_chosen chosen.now)) number self.new }
         ensures codes { HasCodes column.now self.new }
     {
         self.read_chosen(chosen, number);

@@ -1,11 +1,13 @@
 // A column of a group, as the codes of its segment.
 ghost use Rattle.std.specs.Prelude.{◌≡◌, ◌<◌, length, if◌then◌else◌, IfSome};
+ghost use Rattle.cs_types.specs.Rows.{number_in};
 ghost use Rattle.cs_model.specs.Items.{is_null};
 ghost use Rattle.column_segment.specs.Bodies.{cell_of_code, IsKnown};
 ghost use Rattle.code_tallies.specs.Columns.{IsColumnOf};
 
 use crate::column::Column;
 use column_segment::{CellRef, Segment, codes_in_order};
+use cs_types::Encoding;
 use row_group::Packed;
 
 impl<'a> Column<'a> {
@@ -23,6 +25,27 @@ impl<'a> Column<'a> {
             segment,
             first,
             last,
+        }
+    }
+
+    /// Whether its codes stand in runs of 64 cells and more, taken all together: a run costs two words.
+    pub fn is_in_runs(&self) -> bool {
+        match self.segment.encoding() {
+            Encoding::ValueRuns | Encoding::DictRuns => {
+                self.segment.words() <= self.segment.length as u64 / 32
+            }
+            Encoding::ValuePacked | Encoding::DictPacked => false,
+        }
+    }
+
+    /// The number of a code, 0 for NULL and for a text.
+    pub fn number(&self, code: u64) -> i64
+        requires { IsKnown self.now.segment.now.body code }
+        ensures { result ≡ number_in (cell_of_code self.now.segment.now.body code) }
+    {
+        match self.segment.cell_of(code) {
+            CellRef::Number(number) => number,
+            CellRef::Null | CellRef::Text(_) => 0,
         }
     }
 }

@@ -8,7 +8,7 @@ ghost use Rattle.batch_aggregate.specs.declared.partial.Partial.{Partial as OneP
 ghost use Rattle.batch_aggregate.specs.Standing.{StandsFor};
 ghost use Rattle.code_tallies.specs.Shown.{rows_at};
 ghost use Rattle.code_tallies.specs.Keys.{HasKeys};
-ghost use Rattle.code_tallies.specs.Tables.{tally_in, HasEntry, chosen_in, keys_below};
+ghost use Rattle.code_tallies.specs.Tables.{tally_in, HasEntry, is_chosen, keys_below};
 ghost use Rattle.code_tallies.specs.Scans.{IsScan};
 
 use crate::chosen::Chosen;
@@ -81,7 +81,7 @@ pub fn add_groups(
     ensures schema { partial.new.schema.now ≡ partial.old.schema.now }
     ensures query { partial.new.query.now ≡ partial.old.query.now }
     ensures added { (group : Group) (rows : List (List Value)) → IsScan group partial.old chosen.now counts.now tables.now → StandsFor partial.old rows
-        → OnOk result (StandsFor partial.new (rows ++ rows_at group (filter (chosen_in chosen.now.masks.items) (range_with_len 0 chosen.now.length)))) }
+        → OnOk result (StandsFor partial.new (rows ++ rows_at group (filter (is_chosen chosen.now) (range_with_len 0 chosen.now.length)))) }
 {
     for key in 0..counts.len() {
         add_key(alloc, partial, chosen, counts, tables, key)?;

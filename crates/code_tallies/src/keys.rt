@@ -80,6 +80,36 @@ impl Column<'_> {
     }
 }
 
+/// The key number of a position, and a position past it up to which all have it.
+pub fn key_stretch(columns: &[Column<'_>], from: usize, length: usize) -> (u64, usize)
+    requires there { from < length }
+    requires small { key_count columns.now < 2 ^ 60 }
+    requires keyed { HasKeys length columns.now }
+    ensures key { result.0 ≡ key_at columns.now from }
+    ensures below { result.0 < key_count columns.now }
+    ensures end { (from < result.1) × (result.1 ≤ length) }
+    ensures same { (i : ℕ) → from ≤ i → i < result.1 → key_at columns.now i ≡ result.0 }
+{
+    match columns.split_first() {
+        None => (0, length),
+        Some((column, others)) => {
+            let (key, end) = key_stretch(others, from, length);
+            let (code, stop) = column.segment.stretch(from);
+            (key * (column.last + 1) + code, end.min(stop))
+        }
+    }
+}
+
+/// Whether the codes of each column stand in long runs.
+pub fn are_in_runs(columns: &[Column<'_>]) -> bool {
+    for column in columns {
+        if !column.is_in_runs() {
+            return false;
+        }
+    }
+    true
+}
+
 /// The cells of a key number.
 pub fn cells_of(alloc: Global, columns: &[Column<'_>], key: u64) -> Result<Row, Memory>
     requires { HasKeys 0 columns.now }

@@ -13,11 +13,13 @@ mod column;
 mod finish;
 mod keys;
 mod measure;
+mod pieces;
 mod table;
 mod tabulate;
 mod tally;
 mod verdicts;
 
+pub use chosen::Batch;
 pub use tally::tally_group;
 pub use verdicts::{EveryRow, Verdicts};
 

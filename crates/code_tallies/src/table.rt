@@ -2,6 +2,7 @@ ghost use Rattle.std.specs.Prelude.{◌≡◌, ℕ, pos, ◌<◌, vec_len, slice
 ghost use Rattle.batch_kernels.specs.Places.{IsSumOf};
 
 use crate::column::Column;
+use column_segment::Segment;
 
 /// What is kept for an item, an entry for each key number.
 #[derive(Drop)]
@@ -18,6 +19,10 @@ pub enum Table<'a> {
     Least(CodeTable<'a>),
     /// That, and the greatest of their codes.
     Greatest(CodeTable<'a>),
+    /// No table: the rows are all those of the group, and the least cell is the one that its segment keeps.
+    LeastCell(&'a Segment),
+    /// The same of the greatest cell.
+    GreatestCell(&'a Segment),
 }
 
 /// Counts and sums.

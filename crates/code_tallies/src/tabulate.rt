@@ -6,7 +6,7 @@ ghost use Rattle.code_tallies.specs.Columns.{shown_code};
 ghost use Rattle.code_tallies.specs.Keys.{HasKeys};
 ghost use Rattle.code_tallies.specs.Tables.{tally_in, HasEntry, IsTableOf};
 
-use crate::chosen::Chosen;
+use crate::chosen::{Batch, Chosen};
 use crate::codes::column_at;
 use crate::measure::{counts_of, greatest_of, least_of, sums_of};
 use crate::table::{CodeTable, SumTable, Table};
@@ -56,6 +56,10 @@ impl Table<'_> {
             Table::Sums(sums) => Ok(Tally::Sum(sums.total(key))),
             Table::Least(codes) => Ok(Tally::Least(codes.cell(alloc, key)?)),
             Table::Greatest(codes) => Ok(Tally::Greatest(codes.cell(alloc, key)?)),
+            Table::LeastCell(segment) => Ok(Tally::Least(segment.least().to_value(alloc)?)),
+            Table::GreatestCell(segment) => Ok(Tally::Greatest(
+                segment.greatest().to_value(alloc)?,
+            )),
         }
     }
 }
@@ -66,6 +70,7 @@ pub fn table_of<'a>(
     item: Item,
     packed: &'a Packed,
     chosen: &Chosen<'_>,
+    batch: &mut Batch,
 ) -> Result<Option<Table<'a>>, Memory>
     requires rows { 0 < length packed.now.rows }
     requires length { chosen.now.length ≡ length packed.now.rows }
@@ -75,11 +80,11 @@ pub fn table_of<'a>(
     match item {
         Item::Column(_) => Ok(Some(Table::Nothing)),
         Item::CountAll => Ok(Some(Table::Rows)),
-        Item::Count(place) => count_table(alloc, place, packed, chosen),
-        Item::Sum(place) => sum_table(alloc, place, packed, chosen),
-        Item::Avg(place) => sum_table(alloc, place, packed, chosen),
-        Item::Min(place) => least_table(alloc, place, packed, chosen),
-        Item::Max(place) => greatest_table(alloc, place, packed, chosen),
+        Item::Count(place) => count_table(alloc, place, packed, chosen, batch),
+        Item::Sum(place) => sum_table(alloc, place, packed, chosen, batch),
+        Item::Avg(place) => sum_table(alloc, place, packed, chosen, batch),
+        Item::Min(place) => least_table(alloc, place, packed, chosen, batch),
+        Item::Max(place) => greatest_table(alloc, place, packed, chosen, batch),
     }
 }
 
@@ -89,6 +94,7 @@ fn count_table<'a>(
     place: usize,
     packed: &'a Packed,
     chosen: &Chosen<'_>,
+    batch: &mut Batch,
 ) -> Result<Option<Table<'a>>, Memory>
     requires rows { 0 < length packed.now.rows }
     requires length { chosen.now.length ≡ length packed.now.rows }
@@ -98,7 +104,7 @@ fn count_table<'a>(
     let Some(column) = column_at(packed, place) else {
         return Ok(None);
     };
-    Ok(Some(Table::Counts(counts_of(alloc, &column, chosen)?)))
+    Ok(Some(Table::Counts(counts_of(alloc, &column, chosen, batch)?)))
 }
 
 /// The table of a sum or an average of the cells of a column.
@@ -107,6 +113,7 @@ fn sum_table<'a>(
     place: usize,
     packed: &'a Packed,
     chosen: &Chosen<'_>,
+    batch: &mut Batch,
 ) -> Result<Option<Table<'a>>, Memory>
     requires rows { 0 < length packed.now.rows }
     requires length { chosen.now.length ≡ length packed.now.rows }
@@ -117,15 +124,16 @@ fn sum_table<'a>(
     let Some(column) = column_at(packed, place) else {
         return Ok(None);
     };
-    Ok(Some(Table::Sums(sums_of(alloc, &column, chosen)?)))
+    Ok(Some(Table::Sums(sums_of(alloc, &column, chosen, batch)?)))
 }
 
-/// The table of the least cell of a column.
+/// The table of the least cell of a column. Of all rows of the group it is the one that the segment keeps.
 fn least_table<'a>(
     alloc: Global,
     place: usize,
     packed: &'a Packed,
     chosen: &Chosen<'_>,
+    batch: &mut Batch,
 ) -> Result<Option<Table<'a>>, Memory>
     requires rows { 0 < length packed.now.rows }
     requires length { chosen.now.length ≡ length packed.now.rows }
@@ -136,7 +144,10 @@ fn least_table<'a>(
     let Some(column) = column_at(packed, place) else {
         return Ok(None);
     };
-    let (counts, codes) = least_of(alloc, &column, chosen)?;
+    if chosen.is_whole() {
+        return Ok(Some(Table::LeastCell(column.segment)));
+    }
+    let (counts, codes) = least_of(alloc, &column, chosen, batch)?;
     Ok(Some(Table::Least(CodeTable {
         column,
         counts,
@@ -144,12 +155,13 @@ fn least_table<'a>(
     })))
 }
 
-/// The table of the greatest cell of a column.
+/// The table of the greatest cell of a column, in the same way.
 fn greatest_table<'a>(
     alloc: Global,
     place: usize,
     packed: &'a Packed,
     chosen: &Chosen<'_>,
+    batch: &mut Batch,
 ) -> Result<Option<Table<'a>>, Memory>
     requires rows { 0 < length packed.now.rows }
     requires length { chosen.now.length ≡ length packed.now.rows }
@@ -160,7 +172,10 @@ fn greatest_table<'a>(
     let Some(column) = column_at(packed, place) else {
         return Ok(None);
     };
-    let (counts, codes) = greatest_of(alloc, &column, chosen)?;
+    if chosen.is_whole() {
+        return Ok(Some(Table::GreatestCell(column.segment)));
+    }
+    let (counts, codes) = greatest_of(alloc, &column, chosen, batch)?;
     Ok(Some(Table::Greatest(CodeTable {
         column,
         counts,

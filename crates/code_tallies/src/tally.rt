@@ -7,11 +7,11 @@ ghost use Rattle.cs_model.specs.Queries.{keeps};
 ghost use Rattle.batch_aggregate.specs.Standing.{StandsFor};
 ghost use Rattle.code_tallies.specs.Shown.{cells_at, is_shown, rows_at, shown_rows};
 ghost use Rattle.code_tallies.specs.Keys.{AreColumnsOf, HasKeys};
-ghost use Rattle.code_tallies.specs.Tables.{AreTablesOf, chosen_in};
+ghost use Rattle.code_tallies.specs.Tables.{AreTablesOf, is_chosen};
 ghost use Rattle.code_tallies.specs.Scans.{AreKept, IsChoice};
 
 use crate::batch::masks_of;
-use crate::chosen::Chosen;
+use crate::chosen::{Batch, Chosen};
 use crate::codes::column_at;
 use crate::column::Column;
 use crate::finish::add_groups;
@@ -51,6 +51,7 @@ fn tables_of<'a>(
     items: &[Item],
     packed: &'a Packed,
     chosen: &Chosen<'_>,
+    batch: &mut Batch,
 ) -> Result<Option<Vec<Table<'a>>>, Memory>
     requires rows { 0 < length packed.now.rows }
     requires length { chosen.now.length ≡ length packed.now.rows }
@@ -59,7 +60,7 @@ fn tables_of<'a>(
 {
     let mut tables = Vec::new(alloc);
     for item in items {
-        match table_of(alloc, *item, packed, chosen)? {
+        match table_of(alloc, *item, packed, chosen, batch)? {
             None => return Ok(None),
             Some(table) => tables.push(table)?,
         }
@@ -108,6 +109,7 @@ fn tally_chosen(
     partial: &mut Partial<'_>,
     packed: &Packed,
     chosen: &Chosen<'_>,
+    batch: &mut Batch,
 ) -> Result<bool, Memory>
     requires rows { 0 < length packed.now.rows }
     requires length { chosen.now.length ≡ length packed.now.rows }
@@ -116,14 +118,14 @@ fn tally_chosen(
     ensures query { partial.new.query.now ≡ partial.old.query.now }
     ensures tallied { (rows : List (List Value)) → partial.old.query.now.grouped ≡ true → AreColumnsOf packed.now partial.old.query.now.groups chosen.now.keys.items
         → AreKept packed.now partial.old.schema.now partial.old.query.now chosen.now → StandsFor partial.old rows
-        → IfOk result (λ done. done ≡ true → StandsFor partial.new (rows ++ rows_at packed.now (filter (chosen_in chosen.now.masks.items) (range_with_len 0 chosen.now.length)))) }
+        → IfOk result (λ done. done ≡ true → StandsFor partial.new (rows ++ rows_at packed.now (filter (is_chosen chosen.now) (range_with_len 0 chosen.now.length)))) }
     ensures declined { IfOk result (λ done. done ≡ false → partial.new ≡ partial.old) }
 {
     let items = partial.query().items.as_slice();
-    let Some(tables) = tables_of(alloc, items, packed, chosen)? else {
+    let Some(tables) = tables_of(alloc, items, packed, chosen, batch)? else {
         return Ok(false);
     };
-    let counts = chosen.counts(alloc)?;
+    let counts = chosen.counts(alloc, batch)?;
     add_groups(alloc, partial, chosen, &counts, &tables)?;
     Ok(true)
 }
@@ -131,13 +133,15 @@ fn tally_chosen(
 /// Adds the rows of a group that are shown to a partial answer, by the codes of its columns. `verdicts` says which of them the
 /// filter of the query keeps, and where `shown` is None all are shown. False where nothing has changed, and the rows have to be
 /// added one by one: the query does not put rows together, it names a column that the group has not, its grouping columns have
-/// far more codes than there are rows, or there is no row. After `Memory` what the partial answer stands for is not known.
+/// far more codes than there are rows, or there is no row. After `Memory` what the partial answer stands for is not known. `batch` is
+/// room to work in: what stands in it is not read.
 pub fn tally_group<V: Verdicts>(
     alloc: Global,
     partial: &mut Partial<'_>,
     packed: &Packed,
     shown: Option<&Positions>,
     verdicts: &V,
+    batch: &mut Batch,
 ) -> Result<bool, Memory>
     requires { (i : ℕ) → i < length packed.now.rows → is_shown (option_copied shown) i ≡ true → V.kept verdicts.now i ≡ keeps partial.old.schema.now partial.old.query.now.filter (cells_at packed.now i) }
     ensures schema { partial.new.schema.now ≡ partial.old.schema.now }
@@ -151,6 +155,6 @@ pub fn tally_group<V: Verdicts>(
     let groups = partial.query().groups.as_slice();
     match choose(alloc, packed, groups, shown, verdicts)? {
         None => Ok(false),
-        Some(chosen) => tally_chosen(alloc, partial, packed, &chosen),
+        Some(chosen) => tally_chosen(alloc, partial, packed, &chosen, batch),
     }
 }

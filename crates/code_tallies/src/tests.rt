@@ -3,7 +3,7 @@ ghost use Rattle.cs_types.specs.declared.ColumnType.TheVariants.{BigInt};
 ghost use Rattle.cs_types.specs.Kinds.{IsColumnType, keeps};
 ghost use Rattle.cs_types.specs.Schemas.{IsRowOf, IsSchema};
 
-use crate::{EveryRow, tally_group};
+use crate::{Batch, EveryRow, tally_group};
 use batch_aggregate::Partial;
 use batch_filter::Sieve;
 use cs_base::{Items, Memory};
@@ -65,11 +65,13 @@ enum Cell {
     Text(&'static [u8]),
 }
 
-/// The cells of the column v, which come again and again; `few` says that they are few, so that each query goes by codes.
+/// The cells of the column v, which come again and again, as the keys from 0 on do; `few` says that they are few, so that each query
+/// goes by codes.
 #[derive(Clone, Copy, Debug)]
 struct Case {
     kind: ColumnType,
     cells: &'static [Cell],
+    keys: u16,
     few: bool,
 }
 
@@ -87,8 +89,9 @@ impl Case {
     }
 }
 
-/// Numbers near one another, far apart and without a NULL; many of them; texts; and NULLs alone.
-const CASES: [Case; 7] = [
+/// Numbers near one another, far apart and without a NULL; many of them; texts; NULLs alone; and few keys, so that both columns stand
+/// in long runs.
+const CASES: [Case; 9] = [
     Case {
         kind: ColumnType::Int,
         cells: &[
@@ -97,6 +100,7 @@ const CASES: [Case; 7] = [
             Cell::Number(9),
             Cell::Number(-1),
         ],
+        keys: 40,
         few: true,
     },
     Case {
@@ -107,21 +111,25 @@ const CASES: [Case; 7] = [
             Cell::Null,
             Cell::Number(-3),
         ],
+        keys: 40,
         few: true,
     },
     Case {
         kind: ColumnType::Decimal { p: 5, s: 2 },
         cells: &[Cell::Number(150), Cell::Number(-250), Cell::Number(0)],
+        keys: 40,
         few: true,
     },
     Case {
         kind: ColumnType::Int,
         cells: &[],
+        keys: 40,
         few: false,
     },
     Case {
         kind: ColumnType::Date,
         cells: &[Cell::Number(19_000), Cell::Null],
+        keys: 40,
         few: true,
     },
     Case {
@@ -132,16 +140,35 @@ const CASES: [Case; 7] = [
             Cell::Null,
             Cell::Text(b"ab"),
         ],
+        keys: 40,
         few: true,
     },
     Case {
         kind: ColumnType::Int,
         cells: &[Cell::Null],
+        keys: 40,
+        few: true,
+    },
+    Case {
+        kind: ColumnType::BigInt,
+        cells: &[
+            Cell::Number(i64::MAX),
+            Cell::Null,
+            Cell::Number(i64::MIN),
+            Cell::Number(7),
+        ],
+        keys: 3,
+        few: true,
+    },
+    Case {
+        kind: ColumnType::VarChar { n: 2 },
+        cells: &[Cell::Text(b"b"), Cell::Text(b"")],
+        keys: 3,
         few: true,
     },
 ];
 
-/// The packed group of so many rows of a case, with the keys from 0 to 39 again and again.
+/// The packed group of so many rows of a case.
 fn packed_of(
     rt: &impl Abort,
     alloc: Global,
@@ -156,7 +183,7 @@ fn packed_of(
         let cell = case.cell(alloc, row)?;
         assert!(rt; case.kind.keeps(&cell));
         versions.push(Version {
-            row: row_of(alloc, case.kind, i64::from(row % 40), cell)?,
+            row: row_of(alloc, case.kind, i64::from(row % case.keys.max(1)), cell)?,
             begin: 1,
             end: None,
         })?;
@@ -164,8 +191,8 @@ fn packed_of(
     pack_rows(alloc, &schema, versions, 1)
 }
 
-/// The items of a query and its grouping columns, and whether it has the filter `k >= 7`.
-type Asked = (&'static [Item], &'static [usize], bool);
+/// The items of a query and its grouping columns, and the least key that its filter keeps, where it has one.
+type Asked = (&'static [Item], &'static [usize], Option<i128>);
 
 const ALL: &[Item] = &[
     Item::CountAll,
@@ -176,10 +203,22 @@ const ALL: &[Item] = &[
     Item::Sum(0),
 ];
 
+/// Those that a segment's own fields tell of all rows of a group.
+const BOUNDS: &[Item] = &[
+    Item::CountAll,
+    Item::Min(0),
+    Item::Max(0),
+    Item::Min(1),
+    Item::Max(1),
+];
+
 const BY_CELL: &[Item] = &[
     Item::Column(1),
     Item::CountAll,
     Item::Count(1),
+    Item::Min(1),
+    Item::Max(1),
+    Item::Sum(1),
     Item::Min(0),
     Item::Max(0),
     Item::Avg(0),
@@ -200,13 +239,15 @@ const BY_BOTH: &[Item] = &[
     Item::Sum(0),
 ];
 
-const QUERIES: [Asked; 6] = [
-    (ALL, &[], false),
-    (ALL, &[], true),
-    (BY_CELL, &[1], false),
-    (BY_CELL, &[1], true),
-    (BY_KEY, &[0], false),
-    (BY_BOTH, &[0, 1], true),
+const QUERIES: [Asked; 8] = [
+    (ALL, &[], None),
+    (ALL, &[], Some(7)),
+    (BOUNDS, &[], None),
+    (BOUNDS, &[], Some(0)),
+    (BY_CELL, &[1], None),
+    (BY_CELL, &[1], Some(7)),
+    (BY_KEY, &[0], None),
+    (BY_BOTH, &[0, 1], Some(7)),
 ];
 
 /// A list of these elements.
@@ -214,21 +255,21 @@ fn list<T: Copy + Drop>(alloc: Global, elements: &[T]) -> Result<Items<T>, Memor
     Ok(Items::from_vec(elements.to_vec(alloc)?))
 }
 
-/// The filter `k >= 7`.
-fn filter() -> Pred {
+/// The filter `k >= least`.
+fn filter(least: i128) -> Pred {
     Pred::Compare {
         left: Operand::Column(0),
         sign: Relation::GreaterEqual,
-        right: Operand::Constant(Loose::Number { m: 7, s: 0 }),
+        right: Operand::Constant(Loose::Number { m: least, s: 0 }),
     }
 }
 
 /// A query that puts rows together.
 fn query_of(alloc: Global, asked: Asked) -> Result<Query, Memory> {
-    let (items, groups, filtered) = asked;
+    let (items, groups, least) = asked;
     Ok(Query {
         items: list(alloc, items)?,
-        filter: if filtered { Some(filter()) } else { None },
+        filter: least.map(filter),
         groups: list(alloc, groups)?,
         grouped: true,
         order: Items::new(alloc),
@@ -249,6 +290,17 @@ fn shown_of(alloc: Global, flags: &[bool], length: usize) -> Result<Option<Posit
     Ok(Some(shown))
 }
 
+/// All positions of a group but one, whose version is ended.
+fn all_but(alloc: Global, ended: usize, length: usize) -> Result<Positions, Memory> {
+    let mut shown = Positions::none(alloc, length);
+    for position in 0..length {
+        if position != ended {
+            shown.insert(position)?;
+        }
+    }
+    Ok(shown)
+}
+
 /// Adds the rows of a group that are shown by their codes. False where nothing has changed.
 fn add_codes(
     alloc: Global,
@@ -257,6 +309,7 @@ fn add_codes(
     query: &Query,
     packed: &Packed,
     shown: Option<&Positions>,
+    batch: &mut Batch,
 ) -> Result<bool, Memory>
     requires schema { partial.old.schema.now ≡ schema.now }
     requires query { partial.old.query.now ≡ query.now }
@@ -264,10 +317,10 @@ fn add_codes(
     ensures query { partial.new.query.now ≡ query.now }
 {
     match &query.filter {
-        None => tally_group(alloc, partial, packed, shown, &EveryRow),
+        None => tally_group(alloc, partial, packed, shown, &EveryRow, batch),
         Some(pred) => {
             let sieve = Sieve::of(alloc, pred, packed, schema)?;
-            tally_group(alloc, partial, packed, shown, &sieve)
+            tally_group(alloc, partial, packed, shown, &sieve, batch)
         }
     }
 }
@@ -297,16 +350,15 @@ fn check(
     case: &Case,
     packed: &Packed,
     asked: Asked,
-    flags: &[bool],
+    shown: Option<&Positions>,
+    batch: &mut Batch,
 ) -> Result<(), Memory>
     requires { IsColumnType case.now.kind }
 {
     let schema = table(alloc, case.kind)?;
     let query = query_of(alloc, asked)?;
-    let set = shown_of(alloc, flags, packed.len())?;
-    let shown = set.as_ref();
     let mut by_codes = Partial::new(alloc, &schema, &query)?;
-    let done = add_codes(alloc, &mut by_codes, &schema, &query, packed, shown)?;
+    let done = add_codes(alloc, &mut by_codes, &schema, &query, packed, shown, batch)?;
     assert!(rt; done || !case.few, "{case:?} by {asked:?}");
     if !done {
         add_rows(&mut by_codes, packed, shown)?;
@@ -330,9 +382,16 @@ fn check_count(rt: &impl Abort, alloc: Global, case: &Case, count: u16) -> Resul
     let packed = packed_of(rt, alloc, case, count)?;
     assert!(rt; packed.is_some());
     let packed = packed.unwrap();
+    let length = packed.len();
+    let mut batch = Batch::new();
     for asked in QUERIES {
         for flags in FLAGS {
-            check(rt, alloc, case, &packed, asked, flags)?;
+            let shown = shown_of(alloc, flags, length)?;
+            check(rt, alloc, case, &packed, asked, shown.as_ref(), &mut batch)?;
+        }
+        if asked.1.is_empty() {
+            let shown = all_but(alloc, length.saturating_sub(1), length)?;
+            check(rt, alloc, case, &packed, asked, Some(&shown), &mut batch)?;
         }
     }
     Ok(())
@@ -389,19 +448,31 @@ fn sum_by_codes(
     groups: &[&'static [Cell]],
 ) -> Result<Items<Items<Loose>>, AnswerRefusal> {
     let schema = table(alloc, ColumnType::BigInt)?;
-    let query = query_of(alloc, (&[Item::Sum(1)], &[], false))?;
+    let query = query_of(alloc, (&[Item::Sum(1)], &[], None))?;
     let mut partial = Partial::new(alloc, &schema, &query)?;
+    let mut batch = Batch::new();
     for cells in groups {
         let case = Case {
             kind: ColumnType::BigInt,
             cells,
+            keys: 40,
             few: true,
         };
         assert!(rt; cells.len() < 1_000);
         let packed = packed_of(rt, alloc, &case, cells.len() as u16)?;
         assert!(rt; packed.is_some());
         let packed = packed.unwrap();
-        assert!(rt; add_codes(alloc, &mut partial, &schema, &query, &packed, None)?);
+        assert!(rt;
+            add_codes(
+                alloc,
+                &mut partial,
+                &schema,
+                &query,
+                &packed,
+                None,
+                &mut batch
+            )?
+        );
     }
     partial.result()
 }
@@ -428,16 +499,25 @@ fn some_queries_go_by_rows(rt: HostRuntime) -> Result<(), Fail> {
     let schema = table(alloc, case.kind)?;
     let packed = packed_of(&rt, alloc, &case, 63)?.ok_or("no group")?;
     let asked: [(Asked, bool); 5] = [
-        ((ALL, &[0], false), true),
-        ((BY_CELL, &[1], false), false),
-        ((BY_BOTH, &[0, 1], false), false),
-        ((&[Item::Sum(2)], &[], false), false),
-        ((&[Item::CountAll], &[2], false), false),
+        ((ALL, &[0], None), true),
+        ((BY_CELL, &[1], None), false),
+        ((BY_BOTH, &[0, 1], None), false),
+        ((&[Item::Sum(2)], &[], None), false),
+        ((&[Item::CountAll], &[2], None), false),
     ];
+    let mut batch = Batch::new();
     for (asked, by_codes) in asked {
         let query = query_of(alloc, asked)?;
         let mut partial = Partial::new(alloc, &schema, &query)?;
-        let done = add_codes(alloc, &mut partial, &schema, &query, &packed, None)?;
+        let done = add_codes(
+            alloc,
+            &mut partial,
+            &schema,
+            &query,
+            &packed,
+            None,
+            &mut batch,
+        )?;
         assert_eq!(rt; done, by_codes, "{asked:?}");
     }
     Ok(())

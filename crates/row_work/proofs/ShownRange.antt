@@ -4,7 +4,7 @@ use Rattle.std.specs.Prelude.{Option, None, Some, slice_index}
 use Rattle.std.specs.List.{All, cons_option, filter_map}
 use Rattle.std.specs.Map.{values_of}
 use Rattle.std.proofs.lemmas.Bool.{and_parts, eq-eqb, ne_eqb}
-use Rattle.std.proofs.lemmas.List.{get_or-drop, get_or-map, get_or-take, get_or_default, length-drop, length-map, length-take-le}
+use Rattle.std.proofs.lemmas.List.{append-nil, get_or-drop, get_or-map, get_or-take, get_or_default, length-drop, length-map, length-take-le}
 use Rattle.std.proofs.lemmas.List.Folds.{list_any_none}
 use Rattle.std.proofs.lemmas.Option.{slice_get-get_or}
 use Rattle.cs_types.specs.declared.Key.{Key}
@@ -40,7 +40,7 @@ use Rattle.row_work.specs.Stores.{is_read_within, AreRowsRead}
 use Rattle.row_work.proofs.KeptRange.{and_turned}
 use Rattle.row_work.proofs.Positions.{where_true}
 use Rattle.row_work.proofs.Ranges.{key_as, long_as}
-use Rattle.row_work.proofs.Sieved.{packed_keys, packed_rows, row_is, shown_passed}
+use Rattle.row_work.proofs.Sieved.{packed_keys, packed_rows, row_is, shown_no_row, shown_passed}
 use Rattle.row_work.proofs.Standing.{stands_as}
 use Rattle.row_work.proofs.Stored.{kept_same}
 
@@ -172,6 +172,31 @@ module _ (schema : Schema) (condition : Option Pred) (pinned : Pinned) (group : 
         stands_as schema query partial rest bounded all of_schema of_query
         (subst (λ (c : Option Pred). chosen schema c bounded ≡ chosen schema c all) (sym same) (kept_same schema condition pinned bounds keeps_within versions rows))
         (subst (λ l. StandsFor partial (rest ++ l)) rows_shown stands)
+
+-- ---- no place
+
+module _ (schema : Schema) (condition : Option Pred) (pinned : Pinned) (group : Group) (marks : List (Option MarkedEnd)) (fits : length marks ≡ length group.rows) (by_key : AreByKey group) (bounds : Bounds) (from to : ℕ)
+    (places : ArePlacesWithin group bounds from to) (empty : length (take (to - from) (drop from group.places)) ≡ 0) where
+  abbrev no_flags : List Bool
+  no_flags = map (λ (row : PackedRow). false) group.rows
+
+  no_flag : (p : ℕ) (d : Bool) → p < length group.rows → get_or no_flags p d ≡ false
+  no_flag p d below = get_or-map (λ (row : PackedRow). false) group.rows p (record { cells = []; begin = 0 }) d below
+
+  nowhere : (p : ℕ) → p < length group.rows → get_or no_flags p false ≡ (is_one_of (take (to - from) (drop from group.places)) p && get_or (read_flags pinned group marks) p false)
+  nowhere p below =
+      let none = sym (part_long group by_key bounds from to places) ∙ empty in
+      no_flag p false below ∙ sym (ap (λ (n : ℕ). is_one_of (take n (drop from group.places)) p && get_or (read_flags pinned group marks) p false) none)
+
+  -- where no row is of these keys, what is read of the group changes nothing of what a partial answer stands for
+  pub stands_still : All (λ (row : PackedRow). length row.cells ≡ length schema.columns) group.rows → AreRowsRead schema pinned (packed_versions group.key group.rows marks) → KeepsRange schema condition bounds
+      → (query : Query) (partial : Partial) (rest : List (List Value)) → partial.schema.now ≡ schema → partial.query.now ≡ query → query.filter ≡ condition
+      → StandsFor partial rest → StandsFor partial (rest ++ read_in (length schema.columns) pinned (packed_versions group.key group.rows marks))
+  stands_still wide rows exact query partial rest of_schema of_query same stands =
+      let long = length-map group.rows (λ (row : PackedRow). false) in
+      let no_row = shown_no_row group no_flags (λ p d within. no_flag p d (omega (arith, within, long))) long in
+      stands_in schema condition pinned group marks fits by_key bounds from to places no_flags long nowhere wide rows exact query partial rest of_schema of_query same
+      (subst (λ l. StandsFor partial (rest ++ l)) (sym no_row) (subst (StandsFor partial) (sym (append-nil rest)) stands))
 
 -- a set of positions that are shown is of as many as the group has
 pub shown_set : (flags : List Bool) (shown : Shown) (count : ℕ) → AreShown flags shown → length flags ≡ count → IsSetOf count shown

@@ -7,7 +7,7 @@ ghost use Rattle.row_work.specs.Ranges.{ArePlacesWithin, AreReadBetween, HasKeys
 ghost use Rattle.row_work.specs.Reads.{rowed_at};
 ghost use Rattle.row_work.specs.Stores.{is_read_within, positions_of};
 
-use crate::bounds::Bounds;
+use crate::bounds::{ALL, Bounds};
 use batch_scan::key_seen;
 use cs_base::Memory;
 use cs_types::Key;
@@ -90,6 +90,9 @@ pub fn positions_in_range(
     requires { HasKeysOf pinned.now group packed.now }
     ensures { IfOk result (λ found. IfSome found (λ positions. positions.items ≡ positions_of (is_read_within pinned.now bounds) (rowed_at pinned.now.view group))) }
 {
+    if bounds == ALL {
+        return Ok(None);
+    }
     let places = places_within(packed, bounds);
     if places.to - places.from > packed.places().len() / SCANNED {
         return Ok(None);

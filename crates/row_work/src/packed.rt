@@ -14,8 +14,8 @@ ghost use Rattle.row_work.specs.Sieved.{read_in};
 use crate::adding::add_versions;
 use batch_aggregate::Partial;
 use batch_filter::Sieve;
-use batch_scan::{Shown, is_skipped, sieve_of};
-use code_tallies::{EveryRow, tally_group};
+use batch_scan::{Shown, sieve_of};
+use code_tallies::{Batch, EveryRow, tally_group};
 use cs_base::Memory;
 use cs_model::Query;
 use cs_types::Schema;
@@ -42,6 +42,7 @@ fn tally_kept(
     packed: &Packed,
     shown: Option<&Positions>,
     sieve: &Option<Sieve>,
+    batch: &mut Batch,
 ) -> Result<bool, Memory>
     requires { sieve.now ≡ verdicts_of partial.old.schema.now partial.old.query.now.filter packed.now }
     ensures schema { partial.new.schema.now ≡ partial.old.schema.now }
@@ -50,8 +51,8 @@ fn tally_kept(
     ensures declined { IfOk result (λ done. done ≡ false → partial.new ≡ partial.old) }
 {
     match sieve {
-        Some(sieve) => tally_group(alloc, partial, packed, shown, sieve),
-        None => tally_group(alloc, partial, packed, shown, &EveryRow),
+        Some(sieve) => tally_group(alloc, partial, packed, shown, sieve, batch),
+        None => tally_group(alloc, partial, packed, shown, &EveryRow, batch),
     }
 }
 
@@ -64,6 +65,7 @@ fn tally_shown(
     width: usize,
     shown: &Shown,
     sieve: &Option<Sieve>,
+    batch: &mut Batch,
 ) -> Result<bool, Memory>
     requires { sieve.now ≡ verdicts_of partial.old.schema.now partial.old.query.now.filter packed.now }
     ensures schema { partial.new.schema.now ≡ partial.old.schema.now }
@@ -77,9 +79,9 @@ fn tally_shown(
         return Ok(false);
     }
     match shown {
-        Shown::Every => tally_kept(alloc, partial, packed, None, sieve),
+        Shown::Every => tally_kept(alloc, partial, packed, None, sieve, batch),
         Shown::Nowhere => Ok(true),
-        Shown::Some(positions) => tally_kept(alloc, partial, packed, Some(positions), sieve),
+        Shown::Some(positions) => tally_kept(alloc, partial, packed, Some(positions), sieve, batch),
     }
 }
 
@@ -94,6 +96,7 @@ fn add_positions(
     group: usize,
     packed: &Packed,
     shown: Shown,
+    batch: &mut Batch,
 ) -> Result<(), Memory>
     requires there { group < length pinned.now.view.groups }
     requires fitting { All (λ group. IsFitting group.1) pinned.now.view.groups }
@@ -111,7 +114,7 @@ fn add_positions(
     if keeps_none(&sieve) {
         return Ok(());
     }
-    let is_tallied = tally_shown(alloc, partial, packed, width, &shown, &sieve)?;
+    let is_tallied = tally_shown(alloc, partial, packed, width, &shown, &sieve, batch)?;
     if is_tallied {
         return Ok(());
     }
@@ -119,8 +122,7 @@ fn add_positions(
     add_versions(alloc, partial, pinned, group, width, &known, &sieve)
 }
 
-/// Adds the rows of a packed group that are read. Where the least and greatest cells of its columns tell that the filter keeps none of
-/// them, none is read.
+/// Adds the rows of a packed group that are read, by verdicts of the filter.
 pub fn add_packed(
     alloc: Global,
     partial: &mut Partial<'_>,
@@ -130,6 +132,7 @@ pub fn add_packed(
     group: usize,
     packed: &Packed,
     marks: &Marks,
+    batch: &mut Batch,
 ) -> Result<(), Memory>
     requires there { group < length pinned.now.view.groups }
     requires fitting { All (λ group. IsFitting group.1) pinned.now.view.groups }
@@ -141,13 +144,11 @@ pub fn add_packed(
     ensures query { partial.new.query.now ≡ partial.old.query.now }
     ensures added { (rows : List (List Value)) → StandsFor partial.old rows → OnOk result (StandsFor partial.new (rows ++ read_in (length schema.now.columns) pinned.now (rowed_at pinned.now.view group))) }
 {
-    let filter = query.filter.as_ref();
-    if is_skipped(schema, filter, packed) {
-        return Ok(());
-    }
     let shown = Shown::of(alloc, pinned, packed, marks)?;
     match shown {
         Shown::Nowhere => Ok(()),
-        some => add_positions(alloc, partial, schema, query, pinned, group, packed, some),
+        some => add_positions(
+            alloc, partial, schema, query, pinned, group, packed, some, batch,
+        ),
     }
 }

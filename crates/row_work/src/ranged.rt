@@ -12,7 +12,7 @@ use crate::exact::kept_range;
 use crate::key_ranges::places_within;
 use batch_aggregate::Partial;
 use batch_scan::Shown;
-use code_tallies::{EveryRow, tally_group};
+use code_tallies::{Batch, EveryRow, tally_group};
 use cs_base::Memory;
 use cs_model::Query;
 use cs_types::Schema;
@@ -36,6 +36,7 @@ pub fn tally_range(
     pinned: &Pinned,
     packed: &Packed,
     marks: &Marks,
+    batch: &mut Batch,
 ) -> Result<bool, Memory>
     requires table { IsSchema schema.now }
     requires fits { length marks.now ≡ length packed.now.rows }
@@ -54,11 +55,14 @@ pub fn tally_range(
         return Ok(false);
     };
     let places = places_within(packed, bounds);
-    if places.to - places.from > packed.len() / SHARE {
+    let positions = &packed.places()[places.from..places.to];
+    if positions.is_empty() {
+        return Ok(true);
+    }
+    if positions.len() > packed.len() / SHARE {
         return Ok(false);
     }
     let shown = Shown::of(alloc, pinned, packed, marks)?;
-    let positions = &packed.places()[places.from..places.to];
     let set = shown.among(alloc, packed.len(), positions)?;
-    tally_group(alloc, partial, packed, Some(&set), &EveryRow)
+    tally_group(alloc, partial, packed, Some(&set), &EveryRow, batch)
 }

@@ -20,6 +20,8 @@ use crate::lookup::read_at_key;
 use crate::packed::add_packed;
 use crate::ranged::tally_range;
 use batch_aggregate::Partial;
+use batch_scan::is_skipped;
+use code_tallies::Batch;
 use cs_base::{Items, Memory};
 use cs_model::{AnswerRefusal, AnswerRow, Query};
 use cs_types::{Key, Schema};
@@ -54,7 +56,8 @@ fn add_at_positions(
     Ok(())
 }
 
-/// Adds the rows of a packed group that are read: by their keys where the filter names a range of these, and else by verdicts.
+/// Adds the rows of a packed group that are read: by their keys where the filter names a range of these, and else by verdicts. Where
+/// the least and greatest cells of its columns tell that the filter keeps none of them, none is read.
 fn add_by_codes(
     alloc: Global,
     partial: &mut Partial<'_>,
@@ -64,6 +67,7 @@ fn add_by_codes(
     group: usize,
     packed: &Packed,
     marks: &Marks,
+    batch: &mut Batch,
 ) -> Result<(), Memory>
     requires there { group < length pinned.now.view.groups }
     requires may { MayRead schema.now pinned.now }
@@ -75,11 +79,16 @@ fn add_by_codes(
     ensures query { partial.new.query.now ≡ partial.old.query.now }
     ensures added { (rows : List (List Value)) → StandsFor partial.old rows → OnOk result (StandsFor partial.new (rows ++ read_in (length schema.now.columns) pinned.now (rowed_at pinned.now.view group))) }
 {
-    let is_tallied = tally_range(alloc, partial, schema, query, pinned, packed, marks)?;
+    if is_skipped(schema, query.filter.as_ref(), packed) {
+        return Ok(());
+    }
+    let is_tallied = tally_range(alloc, partial, schema, query, pinned, packed, marks, batch)?;
     if is_tallied {
         return Ok(());
     }
-    add_packed(alloc, partial, schema, query, pinned, group, packed, marks)
+    add_packed(
+        alloc, partial, schema, query, pinned, group, packed, marks, batch,
+    )
 }
 
 /// Adds the rows of a group that are read, by a walk over all of it.
@@ -90,6 +99,7 @@ fn add_whole(
     query: &Query,
     pinned: &Pinned,
     group: usize,
+    batch: &mut Batch,
 ) -> Result<(), Memory>
     requires there { group < length pinned.now.view.groups }
     requires may { MayRead schema.now pinned.now }
@@ -102,7 +112,9 @@ fn add_whole(
     let width = schema.columns.len();
     match pinned.view.group(group) {
         GroupRef::Packed(packed, marks) => {
-            add_by_codes(alloc, partial, schema, query, pinned, group, packed, marks)
+            add_by_codes(
+                alloc, partial, schema, query, pinned, group, packed, marks, batch,
+            )
         }
         GroupRef::Store(_) => add_versions(alloc, partial, pinned, group, width, &None, &None),
     }
@@ -116,6 +128,7 @@ fn add_group(
     query: &Query,
     pinned: &Pinned,
     group: usize,
+    batch: &mut Batch,
 ) -> Result<(), Memory>
     requires there { group < length pinned.now.view.groups }
     requires may { MayRead schema.now pinned.now }
@@ -128,7 +141,7 @@ fn add_group(
     let width = schema.columns.len();
     match positions_read(alloc, schema, &query.filter, pinned, group)? {
         Some(positions) => add_at_positions(alloc, partial, pinned, group, width, &positions),
-        None => add_whole(alloc, partial, schema, query, pinned, group),
+        None => add_whole(alloc, partial, schema, query, pinned, group, batch),
     }
 }
 
@@ -150,8 +163,9 @@ pub fn add_groups(
     ensures query { partial.new.query.now ≡ partial.old.query.now }
     ensures added { (rows : List (List Value)) → StandsFor partial.old rows → OnOk result (StandsFor partial.new (rows ++ read_of (length schema.now.columns) pinned.now (take (to - from) (drop from pinned.now.view.groups)))) }
 {
+    let mut batch = Batch::new();
     for group in from..to {
-        add_group(alloc, partial, schema, query, pinned, group)?;
+        add_group(alloc, partial, schema, query, pinned, group, &mut batch)?;
     }
     Ok(())
 }

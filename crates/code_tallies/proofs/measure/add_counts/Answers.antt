@@ -1,5 +1,5 @@
 use Rattle.std.proofs.Common.{arith}
-use Rattle.code_tallies.specs.Tables.{chosen_in, present_in}
+use Rattle.code_tallies.specs.Tables.{is_chosen, present_in}
 use Rattle.code_tallies.proofs.Standing.{cells-skipped, counts-small, keys-below, counts-next}
 use Rattle.code_tallies.proofs.measure.add_counts.Goals as goal
 
@@ -10,7 +10,7 @@ returns-then-not-has_rows c =
 pub count_by_key-requires : goal.count_by_key-requires
 count_by_key-requires c =
     let chosen = c.args.chosen.now in
-    let test = present_in c.args.column.now (chosen_in chosen.masks.items) in
+    let test = present_in c.args.column.now (is_chosen chosen) in
     let batch = c.read.new.self in
     record {
       room = (c.read.ensures.some, omega (arith, c.read.ensures.count));
@@ -21,5 +21,5 @@ count_by_key-requires c =
 pub returns : goal.returns
 returns c =
     let chosen = c.args.chosen.now in
-    counts-next chosen (present_in c.args.column.now (chosen_in chosen.masks.items)) c.args.number c.read.new.self c.read.ensures (omega arith)
+    counts-next chosen (present_in c.args.column.now (is_chosen chosen)) c.args.number c.read.new.self c.read.ensures (omega arith)
     c.args.counts.now c.count_by_key.new.counts c.count_by_key.auto.counts c.requires.before c.count_by_key.ensures

@@ -1,5 +1,5 @@
 use Rattle.std.proofs.Common.{arith}
-use Rattle.code_tallies.specs.Tables.{chosen_in, present_in}
+use Rattle.code_tallies.specs.Tables.{is_chosen, present_in}
 use Rattle.code_tallies.proofs.Standing.{cells-skipped, greatest-skipped, counts-small, keys-below, counts-next, greatest-next}
 use Rattle.code_tallies.proofs.measure.add_greatest.Goals as goal
 
@@ -15,7 +15,7 @@ returns-then-not-has_rows c =
 pub count_by_key-requires : goal.count_by_key-requires
 count_by_key-requires c =
     let chosen = c.args.chosen.now in
-    let test = present_in c.args.column.now (chosen_in chosen.masks.items) in
+    let test = present_in c.args.column.now (is_chosen chosen) in
     let batch = c.read_codes.new.self in
     record {
       room = (c.read_codes.ensures.batch.some, omega (arith, c.read_codes.ensures.batch.count));
@@ -27,7 +27,7 @@ pub greatest_by_key-requires : goal.greatest_by_key-requires
 greatest_by_key-requires c =
     let chosen = c.args.chosen.now in
     let column = c.args.column.now in
-    let test = present_in column (chosen_in chosen.masks.items) in
+    let test = present_in column (is_chosen chosen) in
     let batch = c.read_codes.new.self in
     record {
       room = (c.read_codes.ensures.batch.some, omega (arith, c.read_codes.ensures.batch.count));
@@ -37,7 +37,7 @@ greatest_by_key-requires c =
 pub returns-clause-counts : goal.returns-clause-counts
 returns-clause-counts c =
     let chosen = c.args.chosen.now in
-    counts-next chosen (present_in c.args.column.now (chosen_in chosen.masks.items)) c.args.number c.read_codes.new.self c.read_codes.ensures.batch (omega arith)
+    counts-next chosen (present_in c.args.column.now (is_chosen chosen)) c.args.number c.read_codes.new.self c.read_codes.ensures.batch (omega arith)
     c.args.counts.now c.count_by_key.new.counts c.count_by_key.auto.counts c.requires.counted c.count_by_key.ensures
 
 pub returns-clause-greatest : goal.returns-clause-greatest

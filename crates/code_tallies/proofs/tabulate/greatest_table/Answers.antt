@@ -1,4 +1,5 @@
 use Rattle.std.proofs.Common.{slice_index, arith}
+use Rattle.code_tallies.proofs.Bounds.{whole-greatest}
 use Rattle.code_tallies.proofs.Tallying.{greatest-tally}
 use Rattle.code_tallies.proofs.tabulate.greatest_table.Goals as goal
 
@@ -12,3 +13,11 @@ returns c =
           (slice_index c.in_ok-counts.counts.items k) (is.counts.each k within)
           c.codes_in_order.ensures.order (slice_index c.in_ok-counts.codes.items k) (is.greatest.each k within);
     }
+
+pub returns-then-is_whole : goal.returns-then-is_whole
+returns-then-is_whole c = record {
+  long = λ k within. tt;
+  tallies = λ k within.
+      whole-greatest c.args.chosen.now c.if-is_whole.ensures.each c.if-is_whole.ensures.alone c.args.packed.now c.args.place c.requires.length k within
+      c.in-Some.column.segment.now.greatest c.in-Some.ensures.kept.greatest_is;
+}

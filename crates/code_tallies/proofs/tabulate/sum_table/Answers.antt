@@ -1,7 +1,13 @@
 use Rattle.std.proofs.Common.{slice_index, arith, pos}
 use Rattle.std.specs.Prelude.{slice_index_or}
+use Rattle.code_tallies.specs.Columns.{code_at}
 use Rattle.code_tallies.proofs.Tallying.{sum-tally}
 use Rattle.code_tallies.proofs.tabulate.sum_table.Goals as goal
+
+pub sums_of-requires-clause-known : goal.sums_of-requires-clause-known
+sums_of-requires-clause-known c = λ i within.
+    let is = c.in-Some.ensures in
+    is.known (code_at c.in-Some.column i) (is.most i (omega (arith, within, is.counted)))
 
 pub returns-clause-sum : goal.returns-clause-sum
 returns-clause-sum c =

@@ -6,7 +6,7 @@ use Rattle.cs_model.specs.declared.plan.Query.{Query}
 use Rattle.batch_aggregate.specs.Standing.{StandsFor}
 use Rattle.code_tallies.specs.Shown.{is_shown, rows_at, shown_rows}
 use Rattle.code_tallies.specs.Keys.{AreColumnsOf}
-use Rattle.code_tallies.specs.Tables.{chosen_in}
+use Rattle.code_tallies.specs.Tables.{is_chosen}
 use Rattle.code_tallies.specs.Scans.{IsChoice}
 use Rattle.code_tallies.proofs.Choices.{choice-kept, choice-shown, ok-mapped}
 use Rattle.code_tallies.proofs.tally.tally_group.Goals as goal
@@ -26,7 +26,7 @@ returns-in-Some-clause-tallied g c = λ rows stands.
     let of_query : places ≡ old.query.now.groups = c.as_slice-groups.ensures ∙ ap (λ (q : Query). q.groups) c.query-2.ensures in
     let columns : AreColumnsOf group old.query.now.groups chosen.keys.items = subst (λ ps. AreColumnsOf group ps chosen.keys.items) of_query choice.columns in
     let kept = choice-kept group old new places shown verdict chosen choice c.requires in
-    ok-mapped (λ done. done ≡ true → StandsFor new (rows ++ rows_at group (filter (chosen_in chosen.masks.items) (range_with_len 0 chosen.length))))
+    ok-mapped (λ done. done ≡ true → StandsFor new (rows ++ rows_at group (filter (is_chosen chosen) (range_with_len 0 chosen.length))))
     (λ done. done ≡ true → StandsFor new (rows ++ shown_rows group (option_copied c.args.shown)))
     c.tally_chosen.result
     (λ done holds yes. choice-shown group old new places shown verdict chosen choice c.requires c.tally_chosen.ensures.schema c.tally_chosen.ensures.query rows (holds yes))

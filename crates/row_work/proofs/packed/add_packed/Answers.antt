@@ -1,28 +1,11 @@
-use Rattle.std.proofs.Common.{◌∙◌, ◌++◌, List, length, map, filter, sym, ap, subst}
+use Rattle.std.proofs.Common.{◌∙◌, ◌++◌, List, length, map, sym, ap, subst}
 use Rattle.std.proofs.lemmas.List.{append-nil}
-use Rattle.cs_model.specs.Queries.{keeps}
-use Rattle.cs_model.specs.Scans.{is_skipped}
-use Rattle.row_group.specs.Rows.{column_of}
 use Rattle.batch_aggregate.specs.Standing.{StandsFor}
 use Rattle.batch_scan.specs.Reads.{is_read, AreShown}
 use Rattle.group_view.specs.Parts.{Rowed, packed_versions}
-use Rattle.row_work.specs.Reads.{rowed_at}
 use Rattle.row_work.specs.Sieved.{read_in}
-use Rattle.batch_scan.proofs.Passed.{passed_over}
-use Rattle.row_work.proofs.Passed.{stands_on}
 use Rattle.row_work.proofs.Sieved.{packed_rows, shown_nowhere}
 use Rattle.row_work.proofs.packed.add_packed.Goals as goal
-
-pub returns-then-is_skipped-clause-added : goal.returns-then-is_skipped-clause-added
-returns-then-is_skipped-clause-added c = λ rows stands.
-    let schema = c.args.schema.now in
-    let query = c.args.query.now in
-    let pinned = c.args.pinned.now in
-    let group = c.args.packed.now in
-    let skipped = ap (λ o. is_skipped schema o (column_of group.rows)) (sym c.as_ref-filter.ensures.value) ∙ sym c.is_skipped.ensures ∙ c.if-is_skipped.true in
-    let none = passed_over schema pinned group.key query.filter group.rows c.args.marks.now skipped in
-    stands_on schema query c.args.partial.now rows (read_in (length schema.columns) pinned (rowed_at pinned.view c.args.group)) c.requires.of_schema c.requires.of_query
-    (ap (λ (versions : List Rowed). filter (keeps schema query.filter) (read_in (length schema.columns) pinned versions)) c.requires.versions ∙ none) stands
 
 pub returns-in-Nowhere-clause-added : goal.returns-in-Nowhere-clause-added
 returns-in-Nowhere-clause-added c = λ rows stands.

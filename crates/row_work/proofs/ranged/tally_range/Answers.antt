@@ -1,5 +1,6 @@
 use Rattle.std.proofs.Common.{◌≡◌, ◌∙◌, ◌-◌, ◌<◌, ◌&&◌, ℕ, List, false, length, get_or, take, drop, ap, refl, sym, subst, arith}
 use Rattle.std.specs.List.{All}
+use Rattle.std.proofs.lemmas.Bool.{eqb-true}
 use Rattle.std.proofs.lemmas.Result.{IfOk-weaker}
 use Rattle.cs_types.specs.declared.Schema.{Schema}
 use Rattle.cs_model.specs.declared.plan.Query.{Query}
@@ -8,8 +9,19 @@ use Rattle.row_group.specs.Rows.{PackedRow}
 use Rattle.code_tallies.specs.Shown.{cells_at}
 use Rattle.batch_scan.specs.Hidden.{is_one_of}
 use Rattle.batch_scan.specs.Reads.{read_flags}
-use Rattle.row_work.proofs.ShownRange.{flags_long, keeps_in, part_within, shown_set, stands_in}
+use Rattle.row_work.proofs.ShownRange.{flags_long, keeps_in, part_within, shown_set, stands_in, stands_still}
 use Rattle.row_work.proofs.ranged.tally_range.Goals as goal
+
+-- no row is of the keys that the filter keeps
+pub returns-then-is_empty-clause-tallied : goal.returns-then-is_empty-clause-tallied
+returns-then-is_empty-clause-tallied c = λ answered stands yes.
+    let group = c.args.packed.now in
+    let from = c.places_within-places.result.from in
+    let to = c.places_within-places.result.to in
+    let wide = subst (λ (n : ℕ). All (λ (row : PackedRow). length row.cells ≡ n) group.rows) (omega (arith, c.width.ensures.value, c.len.ensures, c.if-width-len.false)) c.width.ensures.rows in
+    let empty : length (take (to - from) (drop from group.places)) ≡ 0 = ap (λ (list : List ℕ). length (take (to - from) (drop from list))) (sym c.places.ensures.value) ∙ eqb-true (length (take (to - from) (drop from c.places.result.now))) 0 (sym c.if-is_empty.ensures) in
+    stands_still c.args.schema.now c.args.query.now.filter c.args.pinned.now group c.args.marks.now c.requires.fits c.places.ensures.by_key c.in-Some.bounds from to c.places_within-places.ensures empty
+    wide c.requires.rows c.in-Some.ensures c.args.query.now c.args.partial.now answered c.requires.of_schema c.requires.of_query refl stands
 
 pub among-requires-clause-shown : goal.among-requires-clause-shown
 among-requires-clause-shown c =

@@ -1,5 +1,5 @@
 use Rattle.std.proofs.Common.{arith}
-use Rattle.code_tallies.specs.Tables.{chosen_in}
+use Rattle.code_tallies.specs.Tables.{is_chosen}
 use Rattle.code_tallies.proofs.Standing.{rows-skipped, counts-small, keys-below, counts-next}
 use Rattle.code_tallies.proofs.chosen.Chosen.count_batch.Goals as goal
 
@@ -13,12 +13,12 @@ count_by_key-requires c =
     let batch = c.read_chosen.new.self in
     record {
       room = (c.read_chosen.ensures.some, omega (arith, c.read_chosen.ensures.count));
-      keys = keys-below chosen (chosen_in chosen.masks.items) c.args.number batch c.read_chosen.ensures (omega arith) c.args.counts.now c.requires.before.long;
-      small = counts-small chosen (chosen_in chosen.masks.items) c.args.number batch c.read_chosen.ensures (omega arith) (omega arith) c.args.counts.now c.requires.before;
+      keys = keys-below chosen (is_chosen chosen) c.args.number batch c.read_chosen.ensures (omega arith) c.args.counts.now c.requires.before.long;
+      small = counts-small chosen (is_chosen chosen) c.args.number batch c.read_chosen.ensures (omega arith) (omega arith) c.args.counts.now c.requires.before;
     }
 
 pub returns : goal.returns
 returns c =
     let chosen = c.args.self.now in
-    counts-next chosen (chosen_in chosen.masks.items) c.args.number c.read_chosen.new.self c.read_chosen.ensures (omega arith)
+    counts-next chosen (is_chosen chosen) c.args.number c.read_chosen.new.self c.read_chosen.ensures (omega arith)
     c.args.counts.now c.count_by_key.new.counts c.count_by_key.auto.counts c.requires.before c.count_by_key.ensures

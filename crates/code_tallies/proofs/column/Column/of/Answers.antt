@@ -7,6 +7,7 @@ returns c =
     let segment = c.segment-segment.result.now in
     record {
       counted = c.segment-segment.ensures.rows;
+      kept = c.segment-segment.ensures.cells;
       each = c.segment-segment.ensures.each;
       most = λ i within. c.last_code-last.ensures.most i (omega (arith, within, c.segment-segment.ensures.rows));
       known = c.last_code-last.ensures.known;

@@ -2,7 +2,7 @@ use Rattle.std.proofs.Common.{◌≡◌, ◌<◌, ◌*◌, ◌&&◌, ℕ, vec_le
 use Rattle.std.specs.Option.{option_copied}
 use Rattle.code_tallies.specs.Shown.{is_shown}
 use Rattle.code_tallies.specs.Tables.{chosen_in}
-use Rattle.code_tallies.proofs.batch.masks_of.Given as goal
+use Rattle.code_tallies.proofs.batch.each_mask.Given as goal
 
 abbrev pub invariant-loop-number : goal.invariant-loop-number
 invariant-loop-number g l = record {
