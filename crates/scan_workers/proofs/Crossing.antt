@@ -44,11 +44,11 @@ u32_send = search sendable
 pub usize_send : IsSend (usize-field).row
 usize_send = search sendable
 
--- a closure over five things, as an argument
-pub closure_of_five : (i : ℕ) (δ : Ty) (ν : List ℕ) (A B C D E : RattleType) → IsSend A → IsSend B → IsSend C → IsSend D → IsSend E → IsSend (param i (arg δ no (TupleAt ν (A ∷ B ∷ C ∷ D ∷ E ∷ []))))
-closure_of_five i δ ν A B C D E a b c d e =
-    let Ts : List RattleType = A ∷ B ∷ C ∷ D ∷ E ∷ [] in
-    param_send i (arg δ no (TupleAt ν Ts)) (arg_send δ no (TupleAt ν Ts) (recorded_send (field_at ν Ts).row _ _ (type_at ν Ts).to_one (struct_send (shape (type_at ν Ts)) (a, (b, (c, (d, (e, tt))))))))
+-- a closure over four things, as an argument
+pub closure_of_four : (i : ℕ) (δ : Ty) (ν : List ℕ) (A B C D : RattleType) → IsSend A → IsSend B → IsSend C → IsSend D → IsSend (param i (arg δ no (TupleAt ν (A ∷ B ∷ C ∷ D ∷ []))))
+closure_of_four i δ ν A B C D a b c d =
+    let Ts : List RattleType = A ∷ B ∷ C ∷ D ∷ [] in
+    param_send i (arg δ no (TupleAt ν Ts)) (arg_send δ no (TupleAt ν Ts) (recorded_send (field_at ν Ts).row _ _ (type_at ν Ts).to_one (struct_send (shape (type_at ν Ts)) (a, (b, (c, (d, tt)))))))
 
 -- a value, as a result
 pub one_of : (i : ℕ) (δ : Ty) (A : RattleType) → IsSend A → IsSend (param i (arg δ no A))

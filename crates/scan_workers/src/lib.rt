@@ -11,3 +11,6 @@ mod workers;
 
 pub use turn::{NoTurn, Turn};
 pub use workers::answer;
+
+#[cfg(test)]
+mod tests;

@@ -53,38 +53,37 @@ fn part<'a, T: Turn>(
     Ok(partial)
 }
 
-/// What the workers from this one to the last find in the groups from a place on, each in its share of them. This thread is the
-/// worker, and the others have threads of their own.
+/// What so many workers find in the groups from a place on, each in its share of them. This thread is the first worker and has the
+/// last share; each of the others has a thread of its own, so none but this one needs the runtime.
 #[cycle(workers)]
-fn parts<'a, R: Threads + Sync, T: Turn>(
+fn parts<'a, R: Threads, T: Turn>(
     rt: &R,
     scan: &Scan<'a, T>,
-    worker: u32,
-    last: u32,
+    workers: u32,
     from: usize,
 ) -> Result<Partial<'a>, Memory>
     requires may { MayRead scan.now.schema.now scan.now.pinned.now }
-    requires workers { (worker ≤ last) × (last ≤ 16) }
+    requires workers { 1 ≤ workers }
     requires there { from ≤ length scan.now.pinned.now.view.groups }
     ensures { IfOk result (IsPart scan.now.schema.now scan.now.query.now scan.now.pinned.now (drop from scan.now.pinned.now.view.groups)) }
 {
     let end = scan.pinned.view.len();
-    if worker == last {
-        return part(scan, worker, from, end);
+    if workers == 1 {
+        return part(scan, 1, from, end);
     }
-    let cut = from + (end - from) / (last - worker + 1) as usize;
-    let next = worker + 1;
-    let rest = move || -> Result<Partial<'_>, Memory>
-        requires { IsSync R.row × IsSync T.row × MayRead scan.now.schema.now scan.now.pinned.now × (next ≤ last) × (last ≤ 16) × (cut ≤ length scan.now.pinned.now.view.groups) }
-        ensures { IfOk result (IsPart scan.entry.now.schema.now scan.entry.now.query.now scan.entry.now.pinned.now (drop cut scan.entry.now.pinned.now.view.groups)) }
-    { parts(rt, scan, next, last, cut) };
-    let own = move || -> Result<Partial<'_>, Memory>
+    let cut = from + (end - from) / workers as usize;
+    let others = workers - 1;
+    let front = move || -> Result<Partial<'_>, Memory>
         requires { MayRead scan.now.schema.now scan.now.pinned.now × (from ≤ cut) × (cut ≤ length scan.now.pinned.now.view.groups) }
         ensures { IfOk result (IsPart scan.entry.now.schema.now scan.entry.now.query.now scan.entry.now.pinned.now (take (cut - from) (drop from scan.entry.now.pinned.now.view.groups))) }
-    { part(scan, worker, from, cut) };
-    let (others, mine) = join(rt, rest, own);
-    let mut partial = mine?;
-    partial.merge(others?)?;
+    { part(scan, workers, from, cut) };
+    let back = move || -> Result<Partial<'_>, Memory>
+        requires { IsSync T.row × MayRead scan.now.schema.now scan.now.pinned.now × (1 ≤ others) × (cut ≤ length scan.now.pinned.now.view.groups) }
+        ensures { IfOk result (IsPart scan.entry.now.schema.now scan.entry.now.query.now scan.entry.now.pinned.now (drop cut scan.entry.now.pinned.now.view.groups)) }
+    { parts(rt, scan, others, cut) };
+    let (before, behind) = join(rt, front, back);
+    let mut partial = before?;
+    partial.merge(behind?)?;
     Ok(partial)
 }
 
@@ -100,7 +99,7 @@ fn busy(workers: u32, groups: usize) -> u32
 }
 
 /// The answer of a SELECT over all rows that are read.
-fn answer_of_all<R: Threads + Sync, T: Turn>(
+fn answer_of_all<R: Threads, T: Turn>(
     rt: &R,
     scan: &Scan<'_, T>,
     workers: u32,
@@ -109,8 +108,8 @@ fn answer_of_all<R: Threads + Sync, T: Turn>(
     requires workers { (1 ≤ workers) × (workers ≤ 16) }
     ensures { Gives result (answer scan.now.schema.now scan.now.query.now (values_of (read_by (length scan.now.schema.now.columns) scan.now.pinned.now))) }
 {
-    let last = busy(workers, scan.pinned.view.len());
-    let mut partial = parts(rt, scan, 1, last, 0)?;
+    let workers = busy(workers, scan.pinned.view.len());
+    let mut partial = parts(rt, scan, workers, 0)?;
     add_own(&mut partial, &scan.pinned.own)?;
     partial.result()
 }
@@ -119,7 +118,7 @@ fn answer_of_all<R: Threads + Sync, T: Turn>(
 /// thread is the first, and it takes the own writes. `turn` is told of each worker as it starts. Where the filter names keys, the
 /// rows at these alone are read, without workers. `Overflow` at the first row of the answer and its first item whose whole count or
 /// sum is out of the range of its type; `Memory` where there is no room.
-pub fn answer<R: Threads + Sync, T: Turn>(
+pub fn answer<R: Threads, T: Turn>(
     rt: &R,
     alloc: Global,
     turn: &T,

@@ -40,6 +40,7 @@ decided_write schema (bound.Delete condition) table r write valued = valued
 decided_write schema (bound.Select query) table r write valued = absurd (cc write)
 decided_write schema bound.GroupReport table r write valued = absurd (cc write)
 decided_write schema bound.SegmentReport table r write valued = absurd (cc write)
+decided_write schema (bound.Reorganize all) table r write valued = absurd (cc write)
 decided_write schema (bound.Refused refusal) table r write valued = absurd (cc write)
 
 -- the refusal that a write is defined to have

@@ -91,7 +91,7 @@ fn delete(alloc: Global, started: &Started, condition: &Option<Pred>) -> Outcome
 
 /// The outcome of a SELECT: its answer with the counts of segments, or the first row and item whose whole count or sum is out of
 /// its range. The scan has so many workers.
-fn select<R: Threads + Sync>(
+fn select<R: Threads>(
     rt: &R,
     alloc: Global,
     workers: u32,
@@ -140,7 +140,7 @@ fn commit(alloc: Global, started: &Started) -> Outcome
 }
 
 impl Desk for Clerk {
-    fn work<R: Threads + Wait + Sync>(&self, rt: &R, alloc: Global, started: &Started) -> Outcome {
+    fn work<R: Threads + Wait>(&self, rt: &R, alloc: Global, started: &Started) -> Outcome {
         if started.short {
             return Outcome::Short;
         }
@@ -156,6 +156,7 @@ impl Desk for Clerk {
             | Bound::Statistics(_)
             | Bound::GroupReport
             | Bound::SegmentReport
+            | Bound::Reorganize { .. }
             | Bound::Refused(_) => Outcome::Nothing,
         }
     }

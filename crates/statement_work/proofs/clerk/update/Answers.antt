@@ -1,4 +1,4 @@
-use Rattle.std.proofs.Common.{◌∙◌, length, true, refl, sym, ap, subst, Ok}
+use Rattle.std.proofs.Common.{◌∙◌, length, refl, sym, ap, subst, Ok}
 use Rattle.std.specs.List.{All}
 use Rattle.cs_types.specs.declared.Schema.{Schema}
 use Rattle.cs_model.specs.declared.entry.Bound.TheVariants.{Update}
