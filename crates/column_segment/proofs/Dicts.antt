@@ -232,3 +232,25 @@ All-more P cells i d low all here =
 pub copied-none : (r : Option (Bor (List ℕ))) (o : Option (List ℕ)) → option_copied r ≡ o → is_some r ≡ false → is_some o ≡ false
 copied-none None o e h = ap is_some (sym e)
 copied-none (Some t) o e h = cc
+
+-- bare numbers as cells, and back
+pub numbers-back : (numbers : List (Option ℤ)) → numbers ≡ map number_of (map number_cell numbers)
+numbers-back [] = refl
+numbers-back (n ∷ numbers) = ap (λ (o : Option ℤ). o ∷ numbers) (sym (number-back n)) ∙ ap (λ (rest : List (Option ℤ)). number_of (number_cell n) ∷ rest) (numbers-back numbers)
+
+pub bare-no-text : (numbers : List (Option ℤ)) → HasNoText (map number_cell numbers)
+bare-no-text numbers = λ k d l. go (get_or numbers k None) k d l (get_or-map number_cell numbers k None d (omega (arith, l, length-map numbers number_cell)))
+  where
+    bare : (o : Option ℤ) → IsNone (text_of (number_cell o))
+    bare None = refl
+    bare (Some n) = refl
+
+    go : (o : Option ℤ) (k : ℕ) (d : Value) → k < length (map number_cell numbers) → get_or (map number_cell numbers) k d ≡ number_cell o → IsNone (text_of (get_or (map number_cell numbers) k d))
+    go o k d l e = let P : Value → Type 0 = λ v. IsNone (text_of v) in subst P (sym e) (bare o)
+
+-- cells of which none is a text are bare numbers
+pub cells-bare : (cells : List Value) → HasNoText cells → map number_cell (map number_of cells) ≡ cells
+cells-bare [] none = refl
+cells-bare (v ∷ cells) none =
+    ap (λ (w : Value). w ∷ map number_cell (map number_of cells)) (own-number (v ∷ cells) none v (zero, omega arith, refl))
+    ∙ ap (λ (rest : List Value). v ∷ rest) (cells-bare cells (λ k d l. none (suc k) d (omega arith)))

@@ -1,5 +1,5 @@
 -- What a segment of some cells says of its body.
-use Rattle.std.proofs.Common.{◌≡◌, ℕ, ℤ, ◌+◌, ◌*◌, ◌<◌, ◌≤◌, ◌↔◌, inl, inr, List, [], ◌∷◌, ◌++◌, length, get_or, map, refl, sym, ◌∙◌, ap, subst, arith, Bool, IsTrue, All, Contains, Option, None, Some, slice_get}
+use Rattle.std.proofs.Common.{◌≡◌, ℕ, ℤ, ◌+◌, ◌*◌, ◌<◌, ◌≤◌, ◌↔◌, inl, inr, List, [], ◌∷◌, ◌++◌, length, get_or, map, sym, ◌∙◌, ap, subst, arith, Bool, IsTrue, All, Contains, Option, None, Some, slice_get}
 use Rattle.std.proofs.Math.Logic.{∥∥₁_elim, ∥∥₁_map}
 use Rattle.std.proofs.Math.Nat.{ℕ_set, ∣_prop}
 use Rattle.std.proofs.Props.{props}
@@ -136,9 +136,9 @@ pub known-at : (count : ℕ) (body : SegmentBody) (least greatest : Value) (null
 known-at count body least greatest nulls of i code low is = let P : ℕ → Type 0 = λ n. IsKnown body n in subst P (sym is) (known count body least greatest nulls of i low)
 
 -- the segment of the parts that were made of some cells
-pub made : (cells : List Value) (body : SegmentBody) (least greatest : Value) (nulls : Bool) → IsBest cells body → IsLeastCell cells least → IsGreatestCell cells greatest → (IsTrue nulls ↔ Contains cells Null) → IsSegmentOf cells (length cells) body least greatest nulls
-made cells body least greatest nulls best low high null = record {
-  counted = refl;
+pub made : (cells : List Value) (count : ℕ) (body : SegmentBody) (least greatest : Value) (nulls : Bool) → count ≡ length cells → IsBest cells body → IsLeastCell cells least → IsGreatestCell cells greatest → (IsTrue nulls ↔ Contains cells Null) → IsSegmentOf cells count body least greatest nulls
+made cells count body least greatest nulls counted best low high null = record {
+  counted = counted;
   best = best;
   least_is = low;
   greatest_is = high;

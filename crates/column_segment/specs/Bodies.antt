@@ -66,6 +66,10 @@ rank_of (ValueRuns scale runs) = 1
 rank_of (DictPacked dict width words) = 2
 rank_of (DictRuns dict runs) = 3
 
+-- no scale keeps the cells: their codes would be no words, or there is a text among them
+abbrev pub HasNoScale : List Value → Type 0
+HasNoScale cells = (HasNoText cells × IsScaling (map number_of cells) None) ⊎ HasText cells
+
 -- how cells become codes: by a scale, which numbers alone have, and not where a code would be no word; or by a dictionary
 pub record Codings (cells : List Value) : Type 0 where
   pub scale : Option Scale

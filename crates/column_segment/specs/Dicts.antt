@@ -57,3 +57,7 @@ HasNumbers (Texts dict) numbers = ⊥
 abbrev pub AreNumberCodes : Dict → List (Option ℤ) → List ℕ → Type 0
 AreNumberCodes (Numbers dict) numbers codes = AreCodesOf dict.entries dict.nulls numbers codes
 AreNumberCodes (Texts dict) numbers codes = ⊥
+
+-- the dictionary is that of the cells, of which there is one at least, and these are their codes
+abbrev pub IsCoded : List Value → Dict → List ℕ → Type 0
+IsCoded cells dict codes = (0 < length cells) × IsDictFor cells dict × AreDictCodes dict cells codes

@@ -1,12 +1,13 @@
-ghost use Rattle.std.specs.Prelude.{◌≡◌, map, IfOk};
+ghost use Rattle.std.specs.Prelude.{◌≡◌, map, All, IfOk, IsTrue};
 ghost use Rattle.std.specs.Bool.{OnTrue, OnFalse};
-ghost use Rattle.std.specs.Option.{option_copied};
+ghost use Rattle.std.specs.Option.{option_copied, is_some};
 ghost use Rattle.cs_types.specs.Rows.{number_in};
+ghost use Rattle.cs_types.specs.Kinds.{is_of_type};
 ghost use Rattle.cs_types.specs.Values.{value_cmp};
-ghost use Rattle.column_segment.specs.Cells.{seen, is_below, number_of, number_cell, text_of, HasText, HasNoText};
+ghost use Rattle.column_segment.specs.Cells.{seen, is_below, number_of, number_cell, text_of, HasText, HasNoText, HasNoNumber};
 
 use cs_base::{Items, Memory};
-use cs_types::{Value, compare};
+use cs_types::{ColumnType, Value, compare};
 use std::alloc::Global;
 use std::cmp::Ordering;
 
@@ -53,6 +54,23 @@ impl CellRef<'_> {
     {
         let order = self.order(bound);
         if tied { order.is_le() } else { order.is_lt() }
+    }
+
+    /// Whether the cell is a text.
+    fn is_text(&self) -> bool
+        ensures { result ≡ is_some (text_of (seen self.now)) }
+    {
+        matches!(self, CellRef::Text(_))
+    }
+
+    /// The number that the cell is, None where it is none.
+    fn number(self) -> Option<i64>
+        ensures { result ≡ number_of (seen self.entry) }
+    {
+        match self {
+            CellRef::Number(number) => Some(number),
+            _ => None,
+        }
     }
 
     /// The number that the cell is, and 0 for NULL and a text.
@@ -140,4 +158,41 @@ pub fn has_text(cells: &[Value]) -> bool
         }
     }
     false
+}
+
+/// Whether a cell of a column is a text. In a column of texts all may be NULL.
+pub fn shows_text(kind: ColumnType, cells: &[CellRef<'_>]) -> bool
+    requires { All (λ cell. IsTrue (is_of_type kind cell)) (map seen cells.now) }
+    ensures text { OnTrue result (HasText (map seen cells.now)) }
+    ensures no_number { OnTrue result (HasNoNumber (map seen cells.now)) }
+    ensures none { OnFalse result (HasNoText (map seen cells.now)) }
+{
+    match kind {
+        ColumnType::VarChar { .. } => has_shown_text(cells),
+        _ => false,
+    }
+}
+
+/// Whether one of some cells is a text.
+fn has_shown_text(cells: &[CellRef<'_>]) -> bool
+    ensures text { OnTrue result (HasText (map seen cells.now)) }
+    ensures none { OnFalse result (HasNoText (map seen cells.now)) }
+{
+    for cell in cells {
+        if cell.is_text() {
+            return true;
+        }
+    }
+    false
+}
+
+/// The numbers of some cells.
+pub fn numbers_shown(alloc: Global, cells: &[CellRef<'_>]) -> Result<Vec<Option<i64>>, Memory>
+    ensures { IfOk result (λ numbers. numbers.items ≡ map number_of (map seen cells.now)) }
+{
+    let mut numbers = Vec::with_capacity(alloc, cells.len())?;
+    for cell in cells {
+        numbers.push(cell.number())?;
+    }
+    Ok(numbers)
 }

@@ -1,12 +1,12 @@
-ghost use Rattle.std.specs.Prelude.{◌≡◌, ◌+◌, ◌<◌, ◌≤◌, ℕ, All, map, length, min, IfOk, IsTrue, None, Some, ◌⊎◌, slice_get};
+ghost use Rattle.std.specs.Prelude.{◌≡◌, ◌+◌, ◌<◌, ◌≤◌, ℕ, List, All, map, length, min, IfOk, IsTrue, Some, slice_get};
 ghost use Rattle.bit_pack.specs.Codes.{packed};
-ghost use Rattle.segment_value.specs.Scales.{IsScaling};
 ghost use Rattle.cs_types.specs.Kinds.{is_of_type};
+ghost use Rattle.cs_types.specs.declared.Value.{Value as Cell};
 ghost use Rattle.std.specs.Bool.{OnTrue, OnFalse};
-ghost use Rattle.column_segment.specs.Cells.{number_of, HasText, HasNoText, HasNoNumber};
+ghost use Rattle.column_segment.specs.Cells.{number_cell, HasText, HasNoText, HasNoNumber};
 ghost use Rattle.column_segment.specs.Layouts.{IsLeastWidth};
-ghost use Rattle.column_segment.specs.Dicts.{IsDictFor, AreDictCodes};
-ghost use Rattle.column_segment.specs.Bodies.{IsBest, cell_in};
+ghost use Rattle.column_segment.specs.Dicts.{IsCoded};
+ghost use Rattle.column_segment.specs.Bodies.{HasNoScale, IsBest, cell_in};
 ghost use Rattle.column_segment.specs.Segments.{IsSegmentOf};
 ghost use Rattle.column_segment.specs.Choices.{AreCosts, IsValueBody, IsDictBody};
 
@@ -110,69 +110,70 @@ fn dict_body(alloc: Global, dict: Dict, codes: &[u64], costs: Costs) -> Result<S
 }
 
 /// The best way to keep cells that have no scale, whose dictionary and codes these are.
-fn unscaled_body(
-    alloc: Global,
-    cells: &[Value],
-    dict: Dict,
-    codes: &[u64],
-) -> Result<SegmentBody, Memory>
-    requires some { 0 < length cells.now }
-    requires unscaled { (HasNoText cells.now × IsScaling (map number_of cells.now) None) ⊎ HasText cells.now }
-    requires dict { IsDictFor cells.now dict }
-    requires codes { AreDictCodes dict cells.now codes.now }
-    ensures { IfOk result (IsBest cells.now) }
+fn unscaled_body(alloc: Global, dict: Dict, codes: &[u64]) -> Result<SegmentBody, Memory>
+    requires { (cells : List Cell) × IsCoded cells dict codes.now }
+    ensures { IfOk result (λ body. (cells : List Cell) → IsCoded cells dict codes.now → HasNoScale cells → IsBest cells body) }
 {
     let costs = costs_of(
         words_of(&dict),
-        cells.len(),
+        codes.len(),
         width_in(&dict),
         runs_in(codes),
     );
     dict_body(alloc, dict, codes, costs)
 }
 
-/// The best way to keep numbers, whose dictionary this is.
+/// The best way to keep numbers, whose dictionary and codes in it these are.
 fn number_body(
     alloc: Global,
-    cells: &[Value],
     numbers: &[Option<i64>],
     dict: Dict,
+    dict_codes: &[u64],
 ) -> Result<SegmentBody, Memory>
-    requires some { 0 < length cells.now }
-    requires no_text { HasNoText cells.now }
-    requires numbers { numbers.now ≡ map number_of cells.now }
-    requires dict { IsDictFor cells.now dict }
-    ensures { IfOk result (IsBest cells.now) }
+    requires { IsCoded (map number_cell numbers.now) dict dict_codes.now }
+    ensures { IfOk result (IsBest (map number_cell numbers.now)) }
 {
     let Some(scale) = scale_of(numbers) else {
-        let codes = number_codes(alloc, &dict, numbers)?;
-        return unscaled_body(alloc, cells, dict, codes.as_slice());
+        return unscaled_body(alloc, dict, dict_codes);
     };
     let codes = shrink_all(alloc, scale, numbers)?;
-    let runs = runs_in(codes.as_slice());
-    let by_dict = costs_of(words_of(&dict), cells.len(), width_in(&dict), runs);
-    let by_scale = costs_of(2, cells.len(), width_of(codes.as_slice()), runs);
+    let runs = runs_in(dict_codes);
+    let by_dict = costs_of(words_of(&dict), numbers.len(), width_in(&dict), runs);
+    let by_scale = costs_of(2, numbers.len(), width_of(codes.as_slice()), runs);
     if fewest(by_scale) <= fewest(by_dict) {
         return value_body(alloc, scale, codes.as_slice(), by_scale);
     }
-    let codes = number_codes(alloc, &dict, numbers)?;
-    dict_body(alloc, dict, codes.as_slice(), by_dict)
+    dict_body(alloc, dict, dict_codes, by_dict)
 }
 
 /// The segment of numbers, or of NULLs alone.
-pub fn number_segment(alloc: Global, cells: &[Value]) -> Result<Segment, Memory>
+fn number_segment(alloc: Global, cells: &[Value]) -> Result<Segment, Memory>
     requires some { 0 < length cells.now }
     requires no_text { HasNoText cells.now }
     ensures { IfOk result (λ segment. IsSegmentOf cells.now segment.length segment.body segment.least segment.greatest segment.nulls) }
 {
     let numbers = numbers_in(alloc, cells)?;
     let dict = Dict::Numbers(numbers_of(alloc, numbers.as_slice())?);
+    let codes = number_codes(alloc, &dict, numbers.as_slice())?;
+    bare_segment(alloc, numbers.as_slice(), dict, codes.as_slice())
+}
+
+/// The segment of numbers, whose dictionary and codes in it these are.
+pub fn bare_segment(
+    alloc: Global,
+    numbers: &[Option<i64>],
+    dict: Dict,
+    codes: &[u64],
+) -> Result<Segment, Memory>
+    requires { IsCoded (map number_cell numbers.now) dict codes.now }
+    ensures { IfOk result (λ segment. IsSegmentOf (map number_cell numbers.now) segment.length segment.body segment.least segment.greatest segment.nulls) }
+{
     let least = least_in(alloc, &dict)?;
     let greatest = greatest_in(alloc, &dict)?;
     let nulls = has_null(&dict);
-    let body = number_body(alloc, cells, numbers.as_slice(), dict)?;
+    let body = number_body(alloc, numbers, dict, codes)?;
     Ok(Segment {
-        length: cells.len(),
+        length: numbers.len(),
         body,
         least,
         greatest,
@@ -190,28 +191,20 @@ fn text_segment(alloc: Global, cells: &[Value]) -> Result<Segment, Memory>
     let texts = texts_in(alloc, cells)?;
     let dict = Dict::Texts(texts_of(alloc, texts.as_slice())?);
     let codes = codes_in(alloc, &dict, cells)?;
-    dict_segment(alloc, cells, dict, codes.as_slice())
+    dict_segment(alloc, dict, codes.as_slice())
 }
 
 /// The segment of texts, whose dictionary and codes these are.
-pub fn dict_segment(
-    alloc: Global,
-    cells: &[Value],
-    dict: Dict,
-    codes: &[u64],
-) -> Result<Segment, Memory>
-    requires some { 0 < length cells.now }
-    requires text { HasText cells.now }
-    requires dict { IsDictFor cells.now dict }
-    requires codes { AreDictCodes dict cells.now codes.now }
-    ensures { IfOk result (λ segment. IsSegmentOf cells.now segment.length segment.body segment.least segment.greatest segment.nulls) }
+pub fn dict_segment(alloc: Global, dict: Dict, codes: &[u64]) -> Result<Segment, Memory>
+    requires { (cells : List Cell) × IsCoded cells dict codes.now × HasText cells }
+    ensures { IfOk result (λ segment. (cells : List Cell) → IsCoded cells dict codes.now → HasText cells → IsSegmentOf cells segment.length segment.body segment.least segment.greatest segment.nulls) }
 {
     let least = least_in(alloc, &dict)?;
     let greatest = greatest_in(alloc, &dict)?;
     let nulls = has_null(&dict);
-    let body = unscaled_body(alloc, cells, dict, codes)?;
+    let body = unscaled_body(alloc, dict, codes)?;
     Ok(Segment {
-        length: cells.len(),
+        length: codes.len(),
         body,
         least,
         greatest,

@@ -18,10 +18,10 @@ mod ranked;
 mod segment;
 
 pub use body::SegmentBody;
-pub use cell::CellRef;
+pub use cell::{CellRef, number_shown, shown};
 pub use choice::encode;
 pub use laws::codes_in_order;
-pub use ranked::encode_ranked;
+pub use ranked::{encode_numbers, encode_ranked};
 pub use segment::{Batch, Segment};
 
 #[cfg(test)]

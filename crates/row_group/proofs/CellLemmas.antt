@@ -1,5 +1,5 @@
 -- The two parts of a column's cells: bare numbers, and values from the first text on.
-use Rattle.std.proofs.Common.{◌≡◌, ◌≢◌, ℕ, ℤ, ◌+◌, ◌-◌, ◌<◌, ◌≤◌, inl, inr, List, ◌++◌, length, map, take, sym, ◌∙◌, ap, arith, Option, Some}
+use Rattle.std.proofs.Common.{◌≡◌, ℕ, ℤ, ◌+◌, ◌-◌, ◌<◌, ◌≤◌, inl, inr, List, ◌++◌, length, map, take, sym, ◌∙◌, ap, arith, Option, Some}
 use Rattle.std.specs.List.{slice_get}
 use Rattle.std.proofs.lemmas.Bool.{cases_lt}
 use Rattle.std.proofs.Math.Seq.{take-append-add}
@@ -44,12 +44,3 @@ cell-behind numbers values place l =
 pub cell-past : (numbers : List (Option ℤ)) (place : ℕ) → length numbers ≤ place → Null ≡ cell_at (map number_cell numbers) place
 cell-past numbers place l =
     sym (cell_at-get_or (map number_cell numbers) place ∙ get_or_past (map number_cell numbers) place Null (omega (arith, l, length-map numbers number_cell)))
-
--- values that differ in one cell
-pub others-kept : (numbers : List (Option ℤ)) (old new : List Value) (place : ℕ) → length numbers ≤ place → ((i : ℕ) → i ≢ place - length numbers → cell_at new i ≡ cell_at old i) → (i : ℕ) → i ≢ place → cell_at (map number_cell numbers ++ new) i ≡ cell_at (map number_cell numbers ++ old) i
-others-kept numbers old new place past others i apart = elim (cases_lt i (length numbers)) [
-  | inl before ↦ cell-before numbers new i before ∙ sym (cell-before numbers old i before)
-  | inr behind ↦
-      cell-behind numbers new i behind ∙ others (i - length numbers) (λ same. apart (omega (arith, same, past, behind)))
-      ∙ sym (cell-behind numbers old i behind)
-]

@@ -6,6 +6,7 @@ pub mod DistanceLemmas
 pub mod DistinctLemmas
 pub mod ShownLemmas
 pub mod GroupLemmas
+pub mod HeadLemmas
 pub mod SideLemmas
 pub mod ArrangeLemmas
 pub mod StampLemmas

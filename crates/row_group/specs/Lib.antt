@@ -1,6 +1,7 @@
 pub mod Orders
 pub mod Rows
 pub mod Groups
+pub mod Heads
 pub mod Packings
 pub mod Marks
 pub mod Distances

@@ -1,12 +1,12 @@
-ghost use Rattle.std.specs.Prelude.{◌≡◌, ◌≢◌, ◌++◌, ◌∷◌, [], ℕ, length, map, take, IfOk, IfSome, OnOk, OnErr};
+ghost use Rattle.std.specs.Prelude.{◌≡◌, ◌++◌, ◌∷◌, [], map, take, IfSome, OnOk, OnErr};
 ghost use Rattle.cs_types.specs.Rows.{cell_at};
-ghost use Rattle.column_segment.specs.Cells.{number_cell};
+ghost use Rattle.column_segment.specs.Cells.{number_cell, seen};
 
+use column_segment::{CellRef, number_shown, shown};
 use cs_base::Memory;
 use cs_types::Value;
 use std::alloc::Global;
 use std::marker::Model;
-use std::mem;
 
 /// The cells of a column on its way to a segment. Contracts see the list of them. Up to the first text they stand as bare
 /// numbers: so a column of numbers takes half the memory, and is read without a look at what each cell is.
@@ -97,14 +97,13 @@ impl Cells {
         self.numbers.truncate(count);
     }
 
-    /// Takes the cell at a place out, NULL past the end.
-    pub fn take_at(&mut self, place: usize) -> Value
-        ensures cell { result ≡ cell_at self.old place }
-        ensures others { (i : ℕ) → i ≢ place → cell_at self.new i ≡ cell_at self.old i }
+    /// The cell at a place, NULL past the end.
+    pub fn cell(&self, place: usize) -> CellRef<'_>
+        ensures { seen result ≡ cell_at self.now place }
     {
         match self.numbers.get(place) {
-            Some(number) => number_value(*number),
-            None => take_cell(&mut self.values, place - self.numbers.len()),
+            Some(number) => number_shown(*number),
+            None => cell_shown(&self.values, place - self.numbers.len()),
         }
     }
 }
@@ -120,23 +119,12 @@ fn bare(cell: &Value) -> Option<Option<i64>>
     }
 }
 
-/// A bare number or NULL as a cell.
-pub fn number_value(number: Option<i64>) -> Value
-    ensures { result ≡ number_cell number }
+/// The cell at a place of a list, NULL past its end.
+fn cell_shown(cells: &[Value], place: usize) -> CellRef<'_>
+    ensures { seen result ≡ cell_at cells.now place }
 {
-    match number {
-        None => Value::Null,
-        Some(number) => Value::Number(number),
-    }
-}
-
-/// Takes the cell at a place out of a list, NULL past its end.
-fn take_cell(cells: &mut Vec<Value>, place: usize) -> Value
-    ensures cell { result ≡ cell_at cells.old.items place }
-    ensures others { (i : ℕ) → i ≢ place → cell_at cells.new.items i ≡ cell_at cells.old.items i }
-{
-    match cells.get_mut(place) {
-        Some(cell) => mem::replace(cell, Value::Null),
-        None => Value::Null,
+    match cells.get(place) {
+        Some(cell) => shown(cell),
+        None => CellRef::Null,
     }
 }

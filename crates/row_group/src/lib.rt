@@ -13,6 +13,7 @@ mod cells;
 mod columns;
 mod distance;
 mod few;
+mod heads;
 mod keys;
 mod marks;
 mod order;

@@ -8,12 +8,12 @@ ghost use Rattle.row_group.specs.Fields.{AreStamps};
 ghost use Rattle.row_group.specs.Orders.{AreRanks};
 ghost use Rattle.row_group.specs.Arranged.{AreSegmentsOf, IsColumnSegment, KeepColumns, AreColumnRanks, AreNumbers, IsArranged};
 
-use crate::arrange::{arranged, picked};
+use crate::arrange::{cells_arranged, numbers_arranged, picked};
 use crate::cells::Cells;
 use crate::order::code_order;
 use crate::packed::Packed;
 use crate::ranks::Ranks;
-use column_segment::{Segment, encode, encode_ranked};
+use column_segment::{Segment, encode_numbers, encode_ranked};
 use cs_base::{Items, Memory};
 use cs_types::{ColumnType, Schema};
 use std::alloc::Global;
@@ -76,7 +76,7 @@ fn segments_of(
     Ok(segments)
 }
 
-/// The segment of a column whose cells are put in order: of texts by their codes.
+/// The segment of a column whose cells are put in order, by their codes.
 fn segment_of(
     alloc: Global,
     kind: ColumnType,
@@ -90,12 +90,12 @@ fn segment_of(
     requires some { 0 < length order.now }
     ensures { IfOk result (λ segment. IsColumnSegment (map (cell_at cells) order.now) segment) }
 {
-    let are_numbers = cells.numbers().is_some();
-    let moved = arranged(alloc, cells, order)?;
-    if are_numbers {
-        return encode(alloc, kind, &moved);
-    }
     let codes = picked(alloc, &ranks.codes, order)?;
+    if let Some(numbers) = cells.numbers() {
+        let moved = numbers_arranged(alloc, numbers, order)?;
+        return encode_numbers(alloc, &moved, &codes, ranks.count);
+    }
+    let moved = cells_arranged(alloc, &cells, order)?;
     encode_ranked(alloc, kind, &moved, &codes, ranks.count)
 }
 

@@ -114,7 +114,8 @@ pub fn parcel_of(
     requires groups { 1 ≤ group_rows }
     requires direct { 1 ≤ direct_rows }
     requires fit { All (FitsIn schema.now) (edits_of own.now) }
-    ensures { IfOk result (IsParcelFor schema.now (record { group_rows = group_rows; direct_rows = direct_rows }) (edits_of own.now)) }
+    ensures parcel { IfOk result (IsParcelFor schema.now (record { group_rows = group_rows; direct_rows = direct_rows }) (edits_of own.now)) }
+    ensures base { IfOk result (λ parcel. All (λ group. group.base ≡ 0) parcel.groups) }
 {
     let mut left = rows_in(own);
     let mut writes = own;

@@ -1,20 +1,34 @@
-use Rattle.std.proofs.Common.{◌∙◌, List, Option, ℤ, subst}
+use Rattle.std.proofs.Common.{◌∙◌, ℕ, ℤ, List, Option, map, sym, ap, subst}
 use Rattle.std.specs.Ordering.{int_cmp}
-use Rattle.std.proofs.lemmas.Grind.{merely}
+use Rattle.std.proofs.lemmas.Result.{IfOk-weaker}
+use Rattle.cs_types.specs.declared.Value.{Value}
 use Rattle.segment_dict.specs.declared.Dict.TheVariants.{Numbers}
 use Rattle.segment_dict.specs.Dictionaries.{IsDictOf}
-use Rattle.column_segment.specs.Dicts.{IsDictFor}
-use Rattle.column_segment.proofs.Kept.{made}
+use Rattle.column_segment.specs.declared.segment.Segment.{Segment}
+use Rattle.column_segment.specs.Cells.{number_cell}
+use Rattle.column_segment.specs.Dicts.{IsCoded, IsDictFor}
+use Rattle.column_segment.specs.Segments.{IsSegmentOf}
+use Rattle.column_segment.proofs.Dicts.{has-numbers, number-codes, cells-bare}
 use Rattle.column_segment.proofs.choice.number_segment.Goals as goal
 
-pub invariant_of-result : goal.invariant_of-result
-invariant_of-result c =
+pub number_codes-requires : goal.number_codes-requires
+number_codes-requires c =
     let P : List (Option ℤ) → Type 0 = λ numbers. IsDictOf int_cmp numbers c.in_ok-numbers_of.field-0.entries c.in_ok-numbers_of.field-0.nulls in
     let is : IsDictFor c.args.cells.now (Numbers c.in_ok-numbers_of.field-0) = (c.requires.no_text, subst P (c.as_slice.ensures.value ∙ c.in_ok-numbers.ensures) c.in_ok-numbers_of.ensures) in
-    record { of_cells = merely (c.args.cells.now, made c.args.cells.now _ _ _ _ c.in_ok-body.ensures (c.in_ok-least.ensures c.args.cells.now is) (c.in_ok-greatest.ensures c.args.cells.now is) (c.has_null-nulls.ensures.null c.args.cells.now is)) }
+    rw (c.as_slice-2.ensures.value, c.in_ok-numbers.ensures) (has-numbers c.args.cells.now (Numbers c.in_ok-numbers_of.field-0) c.requires.no_text is)
+
+pub bare_segment-requires : goal.bare_segment-requires
+bare_segment-requires c =
+    let cells = c.args.cells.now in
+    let P : List (Option ℤ) → Type 0 = λ numbers. IsDictOf int_cmp numbers c.in_ok-numbers_of.field-0.entries c.in_ok-numbers_of.field-0.nulls in
+    let is : IsDictFor cells (Numbers c.in_ok-numbers_of.field-0) = (c.requires.no_text, subst P (c.as_slice.ensures.value ∙ c.in_ok-numbers.ensures) c.in_ok-numbers_of.ensures) in
+    let codes = number-codes cells c.as_slice-2.result.now (Numbers c.in_ok-numbers_of.field-0) c.in_ok-codes.codes.items c.requires.no_text (c.as_slice-2.ensures.value ∙ c.in_ok-numbers.ensures) c.in_ok-codes.ensures in
+    let back = ap (map number_cell) (c.as_slice-3.ensures.value ∙ c.in_ok-numbers.ensures) ∙ cells-bare cells c.requires.no_text in
+    subst (λ (l : List ℕ). IsCoded (map number_cell c.as_slice-3.result.now) (Numbers c.in_ok-numbers_of.field-0) l) (sym c.as_slice-4.ensures.value)
+    (subst (λ (some : List Value). IsCoded some (Numbers c.in_ok-numbers_of.field-0) c.in_ok-codes.codes.items) (sym back) (c.requires.some, is, codes))
 
 pub returns : goal.returns
 returns c =
-    let P : List (Option ℤ) → Type 0 = λ numbers. IsDictOf int_cmp numbers c.in_ok-numbers_of.field-0.entries c.in_ok-numbers_of.field-0.nulls in
-    let is : IsDictFor c.args.cells.now (Numbers c.in_ok-numbers_of.field-0) = (c.requires.no_text, subst P (c.as_slice.ensures.value ∙ c.in_ok-numbers.ensures) c.in_ok-numbers_of.ensures) in
-    made c.args.cells.now _ _ _ _ c.in_ok-body.ensures (c.in_ok-least.ensures c.args.cells.now is) (c.in_ok-greatest.ensures c.args.cells.now is) (c.has_null-nulls.ensures.null c.args.cells.now is)
+    let cells = c.args.cells.now in
+    let back = ap (map number_cell) (c.as_slice-3.ensures.value ∙ c.in_ok-numbers.ensures) ∙ cells-bare cells c.requires.no_text in
+    IfOk-weaker c.bare_segment.result _ _ (λ (s : Segment) is. subst (λ (some : List Value). IsSegmentOf some s.length s.body s.least s.greatest s.nulls) back is) c.bare_segment.ensures

@@ -1,5 +1,7 @@
 use Rattle.std.proofs.Common.{◌≡◌, ◌∙◌, ℕ, ◌++◌, ◌<◌, List, [], length, get_or, take, drop, sym, ap, subst, arith}
 use Rattle.std.proofs.lemmas.List.{append-nil}
+use Rattle.std.proofs.lemmas.List.Elements.{All-push}
+use Rattle.std.specs.List.{All}
 use Rattle.cs_types.specs.declared.Key.{Key}
 use Rattle.cs_types.specs.declared.Value.{Value}
 use Rattle.cs_model.specs.Changes.{Edit}
@@ -9,7 +11,7 @@ use Rattle.row_group.specs.Groups.{Group}
 use Rattle.group_book.specs.Commits.{Sizes, inserted_by}
 use Rattle.group_view.specs.declared.claim.Parcel.{Parcel}
 use Rattle.group_view.specs.Parcels.{IsParcelFor}
-use Rattle.tuple_mover.specs.Inserts.{rows_given, FitsIn}
+use Rattle.tuple_mover.specs.Inserts.{rows_given, FitsIn, IsDirectOf}
 use Rattle.tuple_mover.proofs.ParcelLemmas.{rest_parcel, parcel_step, edits-split, fit-front, fit-back, split-count}
 use Rattle.tuple_mover.proofs.parcels.parcel_of.Goals as goal
 
@@ -34,6 +36,8 @@ loop-left-preserved c =
     let counts = split-count (edits_of front) (edits_of back) (edits_of writes) both in
     let left = c.loop-left.invariant.left in
     let group : Group = c.in_ok-direct_group.field-0 in
+    let direct : IsDirectOf schema (edits_of front) group = c.in_ok-direct_group.ensures in
+    let is_based = λ (group : Group). group.base ≡ 0 in
     record {
       left = omega (arith, counts, count, left);
       fit = fit-back (FitsIn schema) (edits_of front) (edits_of back) (edits_of writes) both c.loop-left.invariant.fit;
@@ -42,10 +46,12 @@ loop-left-preserved c =
           (parcel_step schema c.requires.schema sizes c.requires.groups c.requires.direct (edits_of c.args.own.now) (edits_of writes) (edits_of front) (edits_of back) c.loop-left.groups.items group both
           (fit-front (FitsIn schema) (edits_of front) (edits_of back) (edits_of writes) both c.loop-left.invariant.fit) c.in_ok-direct_group.ensures
           (omega (arith, left, c.loop-left-test.true)) (omega (arith, left, count, c.min-count.ensures)) c.loop-left.invariant.parcel tail rest);
+      base = subst (λ (groups : List Group). All is_based groups) (sym c.in_ok-push.ensures.items)
+          (All-push is_based c.loop-left.groups.items group c.loop-left.invariant.base direct.base);
     }
 
-pub returns : goal.returns
-returns c =
+pub returns-clause-parcel : goal.returns-clause-parcel
+returns-clause-parcel c =
     let schema = c.args.schema.now in
     let sizes : Sizes = record { group_rows = c.args.group_rows; direct_rows = c.args.direct_rows } in
     let writes = c.loop-left.writes.now in
@@ -56,3 +62,7 @@ returns c =
     subst (λ (rows : List (Key × List Value)). IsParcelFor schema sizes (edits_of c.args.own.now) (record { groups = c.from_vec.result; rest = rows })) rest
     (subst (λ (groups : List Group). IsParcelFor schema sizes (edits_of c.args.own.now) (record { groups = groups; rest = rows_given (edits_of writes) })) groups
     (c.loop-left.invariant.parcel (record { groups = []; rest = rows_given (edits_of writes) }) (rest_parcel schema sizes (edits_of writes) c.loop-left.invariant.fit few)))
+
+pub returns-clause-base : goal.returns-clause-base
+returns-clause-base c =
+    subst (λ (groups : List Group). All (λ (group : Group). group.base ≡ 0) groups) (sym c.from_vec.ensures) c.loop-left.invariant.base
