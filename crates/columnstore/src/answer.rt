@@ -93,7 +93,7 @@ pub(crate) fn runner_for(
 
 /// Runs a script with a runner that was made for it, the work done at this desk, and gives the text of the log. Where memory gives
 /// out, in the run or for the text, the runner still has the log of the steps that were made.
-pub(crate) fn run<R: Threads + Wait + Sync, D: Desk>(
+pub(crate) fn run<R: Threads + Wait, D: Desk>(
     rt: &R,
     alloc: Global,
     runner: &mut Runner,
@@ -114,7 +114,7 @@ pub(crate) fn run<R: Threads + Wait + Sync, D: Desk>(
 }
 
 /// The text of the log of a run line by line, with row groups so large.
-fn replay<R: Threads + Wait + Sync>(
+fn replay<R: Threads + Wait>(
     rt: &R,
     alloc: Global,
     options: RunOptions,

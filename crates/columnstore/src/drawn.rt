@@ -44,7 +44,7 @@ fn read_drawn(alloc: Global, drawn: Workload) -> Result<Script, Memory>
 }
 
 /// The summary of the log of a run of a workload's script. `Memory` where there is no room for the script, its run or the summary.
-pub fn load<R: Threads + Wait + Sync>(
+pub fn load<R: Threads + Wait>(
     rt: &R,
     alloc: Global,
     options: RunOptions,

@@ -44,7 +44,7 @@ pub fn is_next(calls: &[u64], counted: &AtomicU64) -> bool {
 }
 
 impl<D: Desk> Desk for ShortDesk<'_, D> {
-    fn work<R: Threads + Wait + Sync>(&self, rt: &R, alloc: Global, started: &Started) -> Outcome {
+    fn work<R: Threads + Wait>(&self, rt: &R, alloc: Global, started: &Started) -> Outcome {
         if is_next(self.work, &self.worked) {
             return Outcome::Short;
         }
@@ -223,6 +223,69 @@ const PACKED_SECOND: &str = "1 s1.1 >
 33 s1 end
 ";
 
+/// A CLOSED store and an OPEN one, a REORGANIZE with ON and one without, and a report behind each.
+const REORGANIZE: &str = "setup CREATE TABLE t (k int NOT NULL PRIMARY KEY, v int NULL)
+s1 INSERT INTO t VALUES (1, 10), (2, 20)
+s1 INSERT INTO t VALUES (3, 30)
+s1 ALTER INDEX ALL ON t REORGANIZE WITH (COMPRESS_ALL_ROW_GROUPS = ON)
+s1 SELECT * FROM sys.dm_db_column_store_row_group_physical_stats
+s1 ALTER INDEX ALL ON t REORGANIZE
+s1 SELECT * FROM sys.dm_db_column_store_row_group_physical_stats
+";
+
+/// Where the first work of the first one finds no memory: it gives its claim back and makes no more turns. What it closed stays
+/// CLOSED, and the second one compresses both.
+const REORGANIZE_FIRST: &str = "1 s1.1 >
+2 s1.1 < ok 2 affected
+3 s1.2 >
+4 s1.2 < ok 1 affected
+5 s1.3 >
+6 s1 close 2
+7 s1 claim compress 1 to 3
+8 s1 release compress 1 to 3
+9 s1.3 < error 701
+10 s1.4 >
+11 s1.4 < ok 2 groups, 0 buffered
+  1, 2, CLOSED, 2, 0
+  2, 2, CLOSED, 1, 0
+12 s1.5 >
+13 s1 claim compress 1 to 4
+14 s1 install compress 1 to 4 rows 2
+15 s1 claim compress 2 to 5
+16 s1 install compress 2 to 5 rows 1
+17 s1.5 < ok 0 left
+18 s1.6 >
+19 s1.6 < ok 4 groups, 0 buffered
+  1, 4, TOMBSTONE, 2, 0
+  2, 4, TOMBSTONE, 1, 0
+  4, 3, COMPRESSED, 2, 0
+  5, 3, COMPRESSED, 1, 0
+20 s1 end
+";
+
+/// Where the statement itself finds none: nothing is closed, and nothing claimed.
+const REORGANIZE_NEVER: &str = "1 s1.1 >
+2 s1.1 < ok 2 affected
+3 s1.2 >
+4 s1.2 < ok 1 affected
+5 s1.3 >
+6 s1.3 < error 701
+7 s1.4 >
+8 s1.4 < ok 2 groups, 0 buffered
+  1, 2, CLOSED, 2, 0
+  2, 1, OPEN, 1, 0
+9 s1.5 >
+10 s1 claim compress 1 to 3
+11 s1 install compress 1 to 3 rows 2
+12 s1.5 < ok 0 left
+13 s1.6 >
+14 s1.6 < ok 3 groups, 0 buffered
+  1, 4, TOMBSTONE, 2, 0
+  2, 1, OPEN, 1, 0
+  3, 3, COMPRESSED, 2, 0
+15 s1 end
+";
+
 /// Runs a script at a desk that finds no memory at these calls of `work` and of `mend`, where groups have at most four versions and two rows are loaded directly, or two versions and
 /// none are, and compares the text of the log.
 fn check(
@@ -268,5 +331,13 @@ fn refuses_what_found_no_memory(rt: HostRuntime) -> Result<(), Fail> {
     let alloc = rt.alloc();
     check(&rt, alloc, false, (&[3], &[]), INSERTS, INSERTS_SECOND)?;
     check(&rt, alloc, false, (&[1, 4], &[]), INSERTS, INSERTS_BOUNDS)?;
+    Ok(())
+}
+
+#[test]
+fn reorganizes_until_it_finds_no_memory(rt: HostRuntime) -> Result<(), Fail> {
+    let alloc = rt.alloc();
+    check(&rt, alloc, false, (&[], &[1]), REORGANIZE, REORGANIZE_FIRST)?;
+    check(&rt, alloc, false, (&[3], &[]), REORGANIZE, REORGANIZE_NEVER)?;
     Ok(())
 }

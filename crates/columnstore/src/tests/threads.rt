@@ -71,7 +71,7 @@ struct MeetingDesk<'a, D> {
 }
 
 impl<D: Desk> Desk for MeetingDesk<'_, D> {
-    fn work<R: Threads + Wait + Sync>(&self, rt: &R, alloc: Global, started: &Started) -> Outcome {
+    fn work<R: Threads + Wait>(&self, rt: &R, alloc: Global, started: &Started) -> Outcome {
         if is_next(self.work, &self.worked) {
             self.meeting.wait();
         }

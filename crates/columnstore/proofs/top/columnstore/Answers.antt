@@ -24,19 +24,19 @@ generate-requires g c =
     in_range (map string_bytes c.args.words.now) (Generate c.in-Some-Generate.workload) found
 
 pub load-requires-clause-sizes : goal.load-requires-clause-sizes
-load-requires-clause-sizes g c κs within =
+load-requires-clause-sizes g c =
     let found = rw c.in-Some-Load.field-0-is at c.in-Some-Load.ensures.found in
     let range = in_range (map string_bytes c.args.words.now) (Load c.in-Some-Load.workload c.in-Some-Load.options) found in
     terms_of c.in-Some-Load.options range.1
 
 pub load-requires-clause-workers : goal.load-requires-clause-workers
-load-requires-clause-workers g c κs within =
+load-requires-clause-workers g c =
     let found = rw c.in-Some-Load.field-0-is at c.in-Some-Load.ensures.found in
     let range = in_range (map string_bytes c.args.words.now) (Load c.in-Some-Load.workload c.in-Some-Load.options) found in
     range.1.2
 
 pub load-requires-clause-drawn : goal.load-requires-clause-drawn
-load-requires-clause-drawn g c κs within =
+load-requires-clause-drawn g c =
     let found = rw c.in-Some-Load.field-0-is at c.in-Some-Load.ensures.found in
     let range = in_range (map string_bytes c.args.words.now) (Load c.in-Some-Load.workload c.in-Some-Load.options) found in
     range.0
