@@ -1,4 +1,4 @@
--- Transactions and settings, and forms that come later, before all other refusals of binding.
+-- Transactions and settings, and a report in another form, which comes before all other refusals of binding.
 setup CREATE TABLE t (k bigint NOT NULL PRIMARY KEY, v int)
 s1 BEGIN TRAN
 s1 COMMIT
@@ -7,4 +7,3 @@ s1 SET STATISTICS IO ON
 s1 SET LOCK_TIMEOUT 0.0
 s1 SET LOCK_TIMEOUT 5
 s1 SELECT x FROM sys.column_store_segments WHERE 1 = 1
-s1 ALTER INDEX ALL ON t REORGANIZE
