@@ -1,0 +1,210 @@
+use cs_base::{Items, Memory};
+use cs_model::{Bound, Refusal};
+use cs_types::{Bytes, Column, ColumnType, Schema};
+use std::alloc::Global;
+use std::process::Abort;
+use std::test::Fail;
+use tsql_binder::bind_text;
+
+/// What a text means, in short.
+#[derive(Clone, Copy, Debug, PartialEq, Eq)]
+enum Meant {
+    Groups,
+    Segments,
+    Query,
+    /// STATISTICS IO on or off.
+    Setting(bool),
+    /// REORGANIZE, and whether the open store is closed.
+    Reorganize(bool),
+    /// The number and the place of a refusal.
+    Refused(u32, u32),
+    Other,
+}
+
+use Meant::{Groups, Other, Query, Refused, Reorganize, Segments, Setting};
+
+fn bytes(alloc: Global, text: &[u8]) -> Result<Bytes, Memory> {
+    let mut bytes = Items::new(alloc);
+    for byte in text {
+        bytes.push(*byte)?;
+    }
+    Ok(bytes)
+}
+
+/// A table of this name with the key column `k`.
+fn table(alloc: Global, name: &[u8]) -> Result<Schema, Memory> {
+    let mut columns = Items::new(alloc);
+    columns.push(Column {
+        name: bytes(alloc, b"k")?,
+        kind: ColumnType::Int,
+        nullable: false,
+    })?;
+    Ok(Schema {
+        name: bytes(alloc, name)?,
+        columns,
+        key: 0,
+    })
+}
+
+fn outcome(bound: &Bound) -> Meant {
+    match bound {
+        Bound::GroupReport => Groups,
+        Bound::SegmentReport => Segments,
+        Bound::Select(_) => Query,
+        Bound::Statistics(on) => Setting(*on),
+        Bound::Reorganize { all } => Reorganize(*all),
+        Bound::Refused(Refusal::Reading { number, at }) => Refused(*number, *at),
+        _ => Other,
+    }
+}
+
+/// Each text means what stands beside it.
+fn check(
+    rt: &impl Abort,
+    alloc: Global,
+    schema: &Schema,
+    cases: &[(&[u8], Meant)],
+) -> Result<(), Memory> {
+    for (text, want) in cases {
+        assert!(rt; text.len() <= 131_072);
+        let bound = bind_text(alloc, schema, text)?;
+        assert_eq!(rt; outcome(&bound), *want);
+    }
+    Ok(())
+}
+
+#[test]
+fn a_report_is_bound_by_select_of_all(rt: HostRuntime) -> Result<(), Fail> {
+    let schema = table(rt.alloc(), b"t")?;
+    let cases: [(&[u8], Meant); 10] = [
+        (
+            b"SELECT * FROM sys.dm_db_column_store_row_group_physical_stats",
+            Groups,
+        ),
+        (
+            b"select * from [SYS].[DM_db_column_store_row_group_physical_stats] ;",
+            Groups,
+        ),
+        (b"SELECT * FROM sys.column_store_segments", Segments),
+        (b"SELECT * FROM Sys . Column_Store_Segments", Segments),
+        (
+            b"SELECT k FROM sys.column_store_segments",
+            Refused(50001, 1),
+        ),
+        (
+            b"SELECT COUNT(*) FROM sys.column_store_segments",
+            Refused(50001, 1),
+        ),
+        (
+            b"SELECT * FROM sys.column_store_segments WHERE x = 1",
+            Refused(50001, 1),
+        ),
+        (
+            b"SELECT * FROM sys.column_store_segments GROUP BY k",
+            Refused(50001, 1),
+        ),
+        (
+            b"SELECT * FROM sys.column_store_segments ORDER BY k",
+            Refused(50001, 1),
+        ),
+        (
+            b"SELECT * FROM sys.column_store_segments WHERE",
+            Refused(102, 46),
+        ),
+    ];
+    check(&rt, rt.alloc(), &schema, &cases)?;
+    Ok(())
+}
+
+#[test]
+fn a_report_stands_behind_sys_in_a_select_alone(rt: HostRuntime) -> Result<(), Fail> {
+    let schema = table(rt.alloc(), b"t")?;
+    let cases: [(&[u8], Meant); 8] = [
+        (b"SELECT * FROM column_store_segments", Refused(208, 15)),
+        (b"SELECT * FROM dbo.column_store_segments", Refused(208, 15)),
+        (b"SELECT * FROM sys.column_store_segment", Refused(208, 15)),
+        (b"SELECT * FROM sys.t", Query),
+        (
+            b"INSERT INTO sys.column_store_segments VALUES (1)",
+            Refused(208, 13),
+        ),
+        (
+            b"UPDATE sys.column_store_segments SET x = 1",
+            Refused(208, 8),
+        ),
+        (b"DELETE FROM sys.column_store_segments", Refused(208, 13)),
+        (
+            b"ALTER INDEX ALL ON sys.column_store_segments REORGANIZE",
+            Refused(208, 20),
+        ),
+    ];
+    check(&rt, rt.alloc(), &schema, &cases)?;
+    Ok(())
+}
+
+#[test]
+fn a_table_may_have_the_name_of_a_report(rt: HostRuntime) -> Result<(), Fail> {
+    let schema = table(rt.alloc(), b"column_store_segments")?;
+    let cases: [(&[u8], Meant); 6] = [
+        (b"SELECT * FROM sys.column_store_segments", Segments),
+        (
+            b"SELECT k FROM sys.column_store_segments",
+            Refused(50001, 1),
+        ),
+        (b"SELECT k FROM column_store_segments", Query),
+        (b"SELECT k FROM dbo.COLUMN_STORE_SEGMENTS", Query),
+        (b"DELETE FROM sys.column_store_segments", Other),
+        (
+            b"ALTER INDEX ALL ON sys.column_store_segments REORGANIZE",
+            Reorganize(false),
+        ),
+    ];
+    check(&rt, rt.alloc(), &schema, &cases)?;
+    Ok(())
+}
+
+#[test]
+fn statistics_io_is_a_setting(rt: HostRuntime) -> Result<(), Fail> {
+    let schema = table(rt.alloc(), b"t")?;
+    let cases: [(&[u8], Meant); 4] = [
+        (b"SET STATISTICS IO ON", Setting(true)),
+        (b"set statistics io off", Setting(false)),
+        (b"SET STATISTICS TIME ON", Refused(102, 16)),
+        (b"SET LOCK_TIMEOUT 0", Other),
+    ];
+    check(&rt, rt.alloc(), &schema, &cases)?;
+    Ok(())
+}
+
+#[test]
+fn a_reorganize_closes_the_open_store_where_it_says_on(rt: HostRuntime) -> Result<(), Fail> {
+    let schema = table(rt.alloc(), b"t")?;
+    let cases: [(&[u8], Meant); 9] = [
+        (b"ALTER INDEX ALL ON t REORGANIZE", Reorganize(false)),
+        (
+            b"ALTER INDEX ALL ON t REORGANIZE WITH (COMPRESS_ALL_ROW_GROUPS = ON)",
+            Reorganize(true),
+        ),
+        (
+            b"ALTER INDEX ALL ON t REORGANIZE WITH (COMPRESS_ALL_ROW_GROUPS = OFF)",
+            Reorganize(false),
+        ),
+        (
+            b"alter index cci on [T] reorganize with ( compress_all_row_groups = on ) ;",
+            Reorganize(true),
+        ),
+        (
+            b"ALTER INDEX [no such index] ON dbo.t REORGANIZE",
+            Reorganize(false),
+        ),
+        (b"ALTER INDEX [ALL] ON sys.t REORGANIZE", Reorganize(false)),
+        (b"ALTER INDEX ALL ON u REORGANIZE", Refused(208, 20)),
+        (
+            b"ALTER INDEX cci ON t.u REORGANIZE WITH (COMPRESS_ALL_ROW_GROUPS = ON)",
+            Refused(208, 20),
+        ),
+        (b"ALTER INDEX ALL ON u REBUILD", Refused(50001, 22)),
+    ];
+    check(&rt, rt.alloc(), &schema, &cases)?;
+    Ok(())
+}
