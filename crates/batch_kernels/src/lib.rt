@@ -22,6 +22,3 @@ pub use masks::{
 };
 pub use sums::{greatest_chosen, least_chosen, sum_chosen};
 pub use tables::{count_by_key, greatest_by_key, least_by_key, sum_by_key};
-
-#[cfg(test)]
-mod tests;

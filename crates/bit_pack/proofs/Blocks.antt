@@ -49,7 +49,7 @@ block_next w b cs old out new words small there more before block =
 whole_rest : (a : ℕ) (cs : List ℕ) → take (length cs - a) (drop a cs) ≡ drop a cs
 whole_rest a cs = ap (λ n. take n (drop a cs)) (sym (length-drop a cs)) ∙ take-length (drop a cs)
 
--- the codes behind the blocks
+-- the codes after the blocks
 pub blocks_end : (w b : ℕ) (cs old out new words : List ℕ) → ((i : ℕ) → get_or cs i 0 < 2 ^ w) → 64 * b ≤ length cs → new ≡ out ++ words → out ≡ old ++ packed w (take (64 * b) cs) → words ≡ packed w (take (length cs - 64 * b) (drop (64 * b) cs)) → new ≡ old ++ packed w cs
 blocks_end w b cs old out new words small there more before rest =
     let a : List ℕ = take (64 * b) cs in

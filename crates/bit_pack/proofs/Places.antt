@@ -116,7 +116,7 @@ single_more w ws from a i v old mid past within is h =
     subst Q (let e : i - a + 1 ≡ i + 1 - a = omega (arith, past) in e)
     (append w ws (from + a) a (i - a) 1 old mid (slice_set mid i v) h (subst P (sym here) (one w ws (from + a + (i - a)) i mid v within code)))
 
--- the codes before the first whole block, those of the blocks, and those behind them
+-- the codes before the first whole block, those of the blocks, and those after them
 pub front_there : (from head count w len : ℕ) → head ≤ count → (from + count) * w ≤ 64 * len → (from + head) * w ≤ 64 * len
 front_there from head count w len within there =
     let most : (from + head) * w ≤ (from + count) * w = mul-le (from + head) w (from + count) w (omega (arith, within)) (le_refl w) in

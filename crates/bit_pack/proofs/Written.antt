@@ -24,7 +24,7 @@ merged_is word used c small low =
     ∙ sym (mod-pow-add n j used)
     ∙ ap (λ e. n % 2 ^ e) whole
 
--- of a number of p bits the whole words stand in front, and the last bits in a word of their own
+-- of a number of p bits the whole words stand first, and the last bits in a word of their own
 abbrev pub Stands : ℕ → ℕ → List ℕ → ℕ → Type 0
 Stands p v front last = (front ≡ words_of (p / 64) v) × (last ≡ v / 2 ^ (64 * (p / 64)))
 

@@ -33,7 +33,7 @@ four_codes = refl
 abbrev pub across_words : packed 40 (5 ∷ 1099511627775 ∷ 6 ∷ []) ≡ 18446742974197923845 ∷ 458751 ∷ []
 across_words = refl
 
--- the first n codes are written: the words that they fill stand in front, and their last bits in a word of their own
+-- the first n codes are written: the words that they fill stand first, and their last bits in a word of their own
 abbrev pub IsWritten : ℕ → List ℕ → ℕ → List ℕ → ℕ → Type 0
 IsWritten width codes n words last =
     (take (n * width / 64) words ≡ words_of (n * width / 64) (number_of width (take n codes)))

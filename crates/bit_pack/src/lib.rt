@@ -12,6 +12,3 @@ mod write;
 pub use read::{lane, unpack};
 pub use widths::{lane_width, pack_width, unpack_width};
 pub use write::pack;
-
-#[cfg(test)]
-mod tests;

@@ -23,7 +23,7 @@ fn carried(used: usize, code: u64) -> u64
     if used == 0 { 0 } else { code >> (64 - used) }
 }
 
-/// Puts code `i` of at most sixty-four behind those before it, whose last bits stand in `last`, and answers the new last
+/// Puts code `i` of at most sixty-four after those before it, whose last bits stand in `last`, and answers the new last
 /// bits.
 #[inline(always)]
 fn put<const W: usize>(codes: &[u64], i: usize, last: u64, words: &mut [u64; 64]) -> u64
@@ -99,7 +99,7 @@ fn rest_of<const W: usize>(codes: &[u64], words: &mut [u64; 64]) -> usize
     bits / 64 + 1
 }
 
-/// As `pack`, but where memory is wanting some of the words may stand behind those that were there.
+/// As `pack`, but where memory is wanting some of the words may stand after those that were there.
 fn put_blocks<const W: usize>(codes: &[u64], out: &mut Vec<u64>) -> Result<(), Memory>
     requires width { W ≤ 64 }
     requires below { All (λ code. code < 2 ^ W) codes.now }
@@ -118,7 +118,7 @@ fn put_blocks<const W: usize>(codes: &[u64], out: &mut Vec<u64>) -> Result<(), M
     Ok(())
 }
 
-/// Puts the codes behind the words that are there, `W` bits each, from a new word on; the bits past the last code are 0.
+/// Puts the codes after the words that are there, `W` bits each, from a new word on; the bits past the last code are 0.
 /// After `Memory` the words are as before.
 pub fn pack<const W: usize>(codes: &[u64], out: &mut Vec<u64>) -> Result<(), Memory>
     requires width { W ≤ 64 }

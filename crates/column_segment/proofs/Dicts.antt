@@ -170,7 +170,8 @@ dict-neighbours cells dict is codes are = (are.0, (λ i low. both i low))
               dict_cell-injective cells dict is (get_or codes i 0) (get_or codes (i + 1) 0) a.0 b.0 (a.1 ∙ (let g : v ≡ w = cc in g) ∙ sym b.1)),
         )
 
-last-of : (cells : List Value) (dict : Dict) → IsDictFor cells dict → 0 < length cells → (v : Value) × Contains cells v × (dict_cell dict (dict_codes dict - 1) ≡ v)
+-- the cell of the last code is one of the cells
+pub last-of : (cells : List Value) (dict : Dict) → IsDictFor cells dict → 0 < length cells → (v : Value) × Contains cells v × (dict_cell dict (dict_codes dict - 1) ≡ v)
 last-of cells (Numbers dict) is some =
     let last = last-cell number_of cells dict.entries dict.nulls is.1 some in
     (last.0, last.1, ap number_cell last.2 ∙ own-number cells is.0 last.0 last.1)

@@ -1,10 +1,10 @@
 -- The last code of a segment.
-use Rattle.std.proofs.Common.{◌≡◌, ◌≢◌, ℕ, ℤ, ◌-◌, ◌<◌, ◌≤◌, inl, inr, List, [], length, get_or, map, refl, sym, ◌∙◌, ap, subst, arith, Bool, All, Contains, Option, None, Some, pos, unwrap_or}
+use Rattle.std.proofs.Common.{◌≡◌, ◌≢◌, ℕ, ℤ, zero, suc, ◌-◌, ◌<◌, ◌≤◌, ◌⊎◌, inl, inr, List, [], length, get_or, map, refl, sym, ◌∙◌, ap, subst, arith, Bool, All, Contains, Option, None, Some, pos, unwrap_or}
 use Rattle.std.proofs.Math.Logic.{∥∥₁_elim, ∥∥₁_map}
 use Rattle.std.specs.Coded.{le_prop}
 use Rattle.std.specs.declared.cmp.Ordering.TheVariants.{Less, Greater}
 use Rattle.std.specs.Ordering.{ordering_reverse}
-use Rattle.std.proofs.lemmas.Bool.{cases_lt}
+use Rattle.std.proofs.lemmas.Bool.{cases_lt, cases_eq}
 use Rattle.std.proofs.lemmas.List.{get_or_default}
 use Rattle.std.proofs.lemmas.List.Elements.{All-contains}
 use Rattle.cs_types.specs.declared.Value.{Value}
@@ -18,13 +18,14 @@ use Rattle.segment_value.proofs.Exponents.{IsExponent-most}
 use Rattle.column_segment.specs.declared.body.SegmentBody.{SegmentBody}
 use Rattle.column_segment.specs.declared.body.SegmentBody.TheVariants.{ValuePacked, ValueRuns, DictPacked, DictRuns}
 use Rattle.column_segment.specs.Cells.{number_of, number_cell, IsGreatestCell}
-use Rattle.column_segment.specs.Dicts.{dict_codes}
+use Rattle.segment_dict.specs.declared.Dict.{Dict}
+use Rattle.column_segment.specs.Dicts.{IsDictFor, dict_cell, dict_codes}
 use Rattle.column_segment.specs.Bodies.{Codings, Keeps, IsKnown, code_in, cell_of_code}
 use Rattle.column_segment.specs.Segments.{IsSegmentOf}
 use Rattle.column_segment.proofs.Best.{takes-at}
-use Rattle.column_segment.proofs.Dicts.{own-number}
+use Rattle.column_segment.proofs.Dicts.{own-number, last-of}
 use Rattle.column_segment.proofs.Kept.{Takes-prop, scaling-of, scale-known, kept-known, kept-cell, known}
-use Rattle.column_segment.proofs.Orders.{value_total, codes-less}
+use Rattle.column_segment.proofs.Orders.{value_total, codes-less, codes-same}
 
 -- some cells have a segment of these parts
 abbrev pub HasSegment : ℕ → SegmentBody → Value → Value → Bool → Type 0
@@ -86,6 +87,52 @@ scale-most cells by scale e greatest is body keeps seen i low =
       | inr high ↦ high
     ]
 
+-- a known code of one of the cells stands at its place
+place-of : (cells : List Value) (by : Codings cells) (body : SegmentBody) → Keeps cells by body → (v : Value) → Contains cells v → (code : ℕ) → IsKnown body code → cell_of_code body code ≡ v → (i : ℕ) × (i < length cells) × (code_in body i ≡ code)
+place-of cells by body keeps v (k, low, is) code known top =
+    (k, low, codes-same body (code_in body k) code (kept-known cells by body keeps k low) known (kept-cell cells by body keeps k low ∙ get_or_default cells k Null v low ∙ is ∙ sym top))
+
+scale-reached : (cells : List Value) (by : Codings cells) (scale : Scale) → by.scale ≡ Some scale → (greatest : Value) → IsGreatestCell cells greatest → 0 < length cells → (body : SegmentBody) → Keeps cells by body
+    → IsKnown body (code_of scale (number_of greatest)) → ((code : ℕ) → cell_of_code body code ≡ cell_of_code (ValuePacked scale 0 []) code) → (i : ℕ) × (i < length cells) × (code_in body i ≡ code_of scale (number_of greatest))
+scale-reached cells by scale e greatest is some body keeps known seen =
+    let scaling = scaling-of cells by scale e in
+    let among = greatest-among cells greatest is some in
+    place-of cells by body keeps greatest among (code_of scale (number_of greatest)) known
+    (seen (code_of scale (number_of greatest)) ∙ ap number_cell (cell_of-code_of scale (number_of greatest) (taken cells scale scaling.1.1 greatest among)) ∙ own-number cells scaling.0 greatest among)
+
+dict-reached : (cells : List Value) (by : Codings cells) (dict : Dict) → by.dict ≡ dict → 0 < length cells → (body : SegmentBody) → Keeps cells by body
+    → IsKnown body (dict_codes dict - 1) → ((code : ℕ) → cell_of_code body code ≡ dict_cell dict code) → (i : ℕ) × (i < length cells) × (code_in body i ≡ dict_codes dict - 1)
+dict-reached cells by dict e some body keeps known seen =
+    let last = last-of cells dict (subst (IsDictFor cells) e by.of_cells) some in
+    place-of cells by body keeps last.0 last.1 (dict_codes dict - 1) known (seen (dict_codes dict - 1) ∙ last.2)
+
+-- a cell has the last code
+reached : (cells : List Value) (by : Codings cells) (greatest : Value) → IsGreatestCell cells greatest → 0 < length cells → (body : SegmentBody) → Keeps cells by body → (i : ℕ) × (i < length cells) × (code_in body i ≡ last_of body greatest)
+reached cells by greatest is some (ValuePacked scale width words) keeps =
+    scale-reached cells by scale keeps.0 greatest is some (ValuePacked scale width words) keeps (scale-below cells by scale keeps.0 greatest is some _ (omega arith)) (λ code. refl)
+reached cells by greatest is some (ValueRuns scale runs) keeps =
+    scale-reached cells by scale keeps.0 greatest is some (ValueRuns scale runs) keeps (scale-below cells by scale keeps.0 greatest is some _ (omega arith)) (λ code. refl)
+reached cells by greatest is some (DictPacked dict width words) keeps =
+    let first = kept-known cells by (DictPacked dict width words) keeps 0 some in
+    dict-reached cells by dict keeps.0 some (DictPacked dict width words) keeps (omega (arith, first)) (λ code. refl)
+reached cells by greatest is some (DictRuns dict runs) keeps =
+    let first = kept-known cells by (DictRuns dict runs) keeps 0 some in
+    dict-reached cells by dict keeps.0 some (DictRuns dict runs) keeps (omega (arith, first)) (λ code. refl)
+
+-- among the first places one has the code, or none does
+search : (body : SegmentBody) (code n : ℕ) → ((i : ℕ) × (i < n) × (code_in body i ≡ code)) ⊎ ((i : ℕ) → i < n → code_in body i ≢ code)
+search body code zero = inr (λ i low. omega (arith, low))
+search body code (suc n) = elim (search body code n) [
+  | inl found ↦ inl (found.0, omega (arith, found.1), found.2)
+  | inr none ↦ elim (cases_eq (code_in body n) code) [
+    | inl here ↦ inl (n, omega arith, here)
+    | inr other ↦ inr (λ i low is. elim (cases_lt i n) [
+      | inl before ↦ none i before is
+      | inr last ↦ let same : i ≡ n = omega (arith, low, last) in other (ap (code_in body) (sym same) ∙ is)
+    ])
+  ]
+]
+
 -- what the calls ask that read the last code: the scale takes the greatest cell, or the dictionary has a code
 abbrev pub HasLast : SegmentBody → Value → Type 0
 HasLast (ValuePacked scale width words) greatest = Takes scale (number_of greatest)
@@ -142,6 +189,17 @@ module _ (count : ℕ) (least greatest : Value) (nulls : Bool) where
       scale-most is.0 is.1.best.by scale is.1.best.kept.0 greatest is.1.greatest_is (ValueRuns scale runs) is.1.best.kept (λ code. refl) i (omega (arith, low, counted)))
   last-most (DictPacked dict width words) of i low = let is = known count (DictPacked dict width words) least greatest nulls of i low in omega (arith, is)
   last-most (DictRuns dict runs) of i low = let is = known count (DictRuns dict runs) least greatest nulls of i low in omega (arith, is)
+
+  -- and one place has it
+  pub last-reached : (body : SegmentBody) → HasSegment count body least greatest nulls → 0 < count → (i : ℕ) × (i < count) × (code_in body i ≡ last_of body greatest)
+  last-reached body of some = elim (search body (last_of body greatest) count) [
+    | inl found ↦ found
+    | inr none ↦ absurd (∥∥₁_elim of (λ a b. absurd a) (λ is.
+        let counted = is.1.counted in
+        let at = reached is.0 is.1.best.by greatest is.1.greatest_is (omega (arith, some, counted)) body is.1.best.kept in
+        let low = at.1 in
+        none at.0 (omega (arith, low, counted)) at.2))
+  ]
 
   -- a scale has an exponent of at most 18
   pub small-exponent : (body : SegmentBody) → HasSegment count body least greatest nulls → HasSmallExponent body

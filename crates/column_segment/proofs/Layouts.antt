@@ -101,7 +101,7 @@ runs_to all codes ends runs (suc r) there =
 pub runs-count : (all codes ends : List ℕ) → AreRunsOf all codes ends → length ends ≡ runs_below all (length all)
 runs-count all codes ends runs = sym (runs_to all codes ends runs (length ends) (omega arith)) ∙ ap (runs_below all) runs.whole
 
--- the front of a list passes a test, and nothing behind it
+-- the first elements of a list pass a test, and nothing after them
 count_front : (p : ℕ → Bool) (xs : List ℕ) (r : ℕ) → r ≤ length xs → ((k : ℕ) → k < r → p (get_or xs k 0) ≡ true) → ((k : ℕ) → r ≤ k → k < length xs → p (get_or xs k 0) ≡ false) → count_by p xs ≡ r
 count_front p [] r most pass fail = omega (arith, most)
 count_front p (x ∷ xs) zero most pass fail =

@@ -23,6 +23,3 @@ pub use choice::encode;
 pub use laws::codes_in_order;
 pub use ranked::{encode_numbers, encode_ranked};
 pub use segment::{Batch, Segment};
-
-#[cfg(test)]
-mod tests;

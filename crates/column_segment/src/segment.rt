@@ -97,6 +97,7 @@ impl Segment {
         requires { 0 < self.now.length }
         ensures known { (code : ℕ) → code ≤ result → IsKnown self.now.body code }
         ensures most { (i : ℕ) → i < self.now.length → code_in self.now.body i ≤ result }
+        ensures reached { (i : ℕ) × (i < self.now.length) × (code_in self.now.body i ≡ result) }
     {
         match &self.body {
             SegmentBody::ValuePacked { scale, .. } => shrink(*scale, as_number(&self.greatest)),

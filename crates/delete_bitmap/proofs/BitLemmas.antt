@@ -29,7 +29,7 @@ bits_in-none n =
     sym (fill_by_all (bit_in []) (replicate n false) n false (length-replicate n false)
     (λ k below. get_or-replicate n k false false below ∙ sym (ap (λ bit. eqb bit 1) (bit_at-zero (k % 64)))))
 
--- a position that lies so far behind another in the same word
+-- a position that lies so far after another in the same word
 pub bit_in-word : (words : List ℕ) (p q j : ℕ) → q ≡ p + j → p % 64 + j < 64 → bit_in words q ≡ eqb (bit_at (get_or words (p / 64) 0) (p % 64 + j)) 1
 bit_in-word words p q j e near =
     let word : q / 64 ≡ p / 64 = omega arith in

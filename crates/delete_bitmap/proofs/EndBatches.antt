@@ -15,7 +15,7 @@ use Rattle.delete_bitmap.specs.Marks.{end_at, is_removable, with_each, with_ends
 use Rattle.delete_bitmap.proofs.EndLemmas.{End, IsFree, IsSetIn, AreMarked, IsApart, AreApart, AreApart-order, length-ends_of, later, in_order_tail, set_within, at_bit, at_apart, plain_under, ends_of-set, above-leb}
 use Rattle.delete_bitmap.proofs.StampSearch.{count-set}
 
--- of ascending positions those behind the first are so too, and are others than it
+-- of ascending positions those after the first are so too, and are others than it
 ascend_tail : (p : ℕ) (ps : List ℕ) → Ascend (p ∷ ps) → Ascend ps
 ascend_tail p ps up i j d less there = up (suc i) (suc j) d (omega arith) (omega arith)
 
@@ -88,7 +88,7 @@ apart-all (s ∷ rest) stamps up none apart =
 later_positions : (s : Stamp) (rest : List Stamp) → AreInOrder (s ∷ rest) → All (λ (t : Stamp). t.0 ≢ s.0) rest
 later_positions s rest up k d there same = let less = up 0 (suc k) d (omega arith) (omega arith) in absurd (omega (arith, less, same))
 
--- an end at another position may be set before the batch or behind it
+-- an end at another position may be set before the batch or after it
 with_each-set : (news : List Stamp) (ends : List End) (p : ℕ) (end : End) → All (λ (s : Stamp). s.0 ≢ p) news → with_each news (set ends p end) ≡ set (with_each news ends) p end
 with_each-set [] ends p end other = refl
 with_each-set (s ∷ rest) ends p end other =
@@ -180,7 +180,7 @@ length-without_above floor (s ∷ rest) bits = length-without_above floor rest (
     step true = length-set bits s.0 false
     step false = refl
 
--- a position may be taken out before those of the stamps or behind them
+-- a position may be taken out before those of the stamps or after them
 without_above-set : (floor : ℕ) (stamps : List Stamp) (bits : List Bool) (p : ℕ) → HasNone p stamps → without_above floor stamps (set bits p false) ≡ set (without_above floor stamps bits) p false
 without_above-set floor [] bits p none = refl
 without_above-set floor (s ∷ rest) bits p none =

@@ -34,7 +34,7 @@ pub length-ends_of : (stamps : List Stamp) (bits : List Bool) → length (ends_o
 length-ends_of [] bits = length-map bits plain_end
 length-ends_of (s ∷ rest) bits = length-set (ends_of rest bits) s.0 (Some (Stamped s.1)) ∙ length-ends_of rest bits
 
--- stamps in order are so behind the first, and stand at other positions than it
+-- stamps in order are so after the first, and stand at other positions than it
 pub in_order_tail : (s : Stamp) (rest : List Stamp) → AreInOrder (s ∷ rest) → AreInOrder rest
 in_order_tail s rest up i j d less there = up (suc i) (suc j) d (omega arith) (omega arith)
 

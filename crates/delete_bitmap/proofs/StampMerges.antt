@@ -31,7 +31,7 @@ merges_start stamps others count sized order up =
     IsMerging-start IsBefore (take count stamps) others stamps count (length others) (sym (length-take-le count stamps (omega arith))) refl sized refl order up
 
 module _ (all before others cells : List Stamp) (i j : ℕ) (merging : IsMerging IsBefore all before others cells i j) where
-  -- what stands at a place in front was there before
+  -- what stands at a place before it was there before
   at_front : (k : ℕ) (d : Stamp) → k < i → get_or cells k d ≡ get_or before k d
   at_front k d less = sym (get_or-take i cells k d less) ∙ ap (λ xs. get_or xs k d) merging.front ∙ get_or-take i before k d less
 

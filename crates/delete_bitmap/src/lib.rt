@@ -186,6 +186,3 @@ impl Marks {
         })
     }
 }
-
-#[cfg(test)]
-mod tests;

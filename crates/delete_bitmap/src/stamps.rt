@@ -90,7 +90,7 @@ pub fn add_all(stamps: &mut Vec<(usize, u64)>, others: &[(usize, u64)])
     merge(stamps, count, others);
 }
 
-/// Puts other stamps behind these. There is room for them.
+/// Puts other stamps after these. There is room for them.
 fn append(stamps: &mut Vec<(usize, u64)>, others: &[(usize, u64)])
     requires { vec_len stamps.old + length others.now ≤ vec_capacity stamps.old }
     ensures { stamps.new.items ≡ stamps.old.items ++ others.now }
@@ -100,7 +100,7 @@ fn append(stamps: &mut Vec<(usize, u64)>, others: &[(usize, u64)])
     }
 }
 
-/// Merges other stamps into the first `count` stamps, from the back. What stands behind these is written over.
+/// Merges other stamps into the first `count` stamps, from the back. What stands after these is written over.
 fn merge(stamps: &mut [(usize, u64)], count: usize, others: &[(usize, u64)])
     requires sized { length stamps.old ≡ count + length others.now }
     requires order { AreInOrder (take count stamps.old) }

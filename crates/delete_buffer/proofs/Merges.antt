@@ -47,7 +47,7 @@ merges_start entries keys end count sized order up =
     (sym (length-take-le count entries (omega arith))) (sym (length-ended keys end)) sized refl order (in_order-ended keys end up)
 
 module _ (all before : List Entry) (keys : List Key) (end : ℕ) (cells : List Entry) (i j : ℕ) (merging : IsMerging IsLess all before (ended keys end) cells i j) where
-  -- what stands at a place in front was there before
+  -- what stands at a place before it was there before
   at_front : (k : ℕ) (d : Entry) → k < i → get_or cells k d ≡ get_or before k d
   at_front k d less =
       sym (get_or-take i cells k d less) ∙ ap (λ xs. get_or xs k d) merging.front ∙ get_or-take i before k d less

@@ -22,7 +22,7 @@ pub fn add_all(entries: &mut Vec<(Key, u64)>, keys: &[Key], end: u64)
     merge(entries, count, keys, end);
 }
 
-/// Puts an entry of each key behind the others. There is room for them.
+/// Puts an entry of each key after the others. There is room for them.
 fn append(entries: &mut Vec<(Key, u64)>, keys: &[Key], end: u64)
     requires { vec_len entries.old + length keys.now ≤ vec_capacity entries.old }
     ensures items { entries.new.items ≡ entries.old.items ++ ended keys.now end }
@@ -33,7 +33,7 @@ fn append(entries: &mut Vec<(Key, u64)>, keys: &[Key], end: u64)
     }
 }
 
-/// Merges an entry of each key into the first `count` entries, from the back. What stands behind these is written over.
+/// Merges an entry of each key into the first `count` entries, from the back. What stands after these is written over.
 fn merge(entries: &mut [(Key, u64)], count: usize, keys: &[Key], end: u64)
     requires sized { length entries.old ≡ count + length keys.now }
     requires order { AreInOrder (take count entries.old) }
@@ -77,7 +77,7 @@ pub fn remove_all(entries: &mut Vec<(Key, u64)>, taken: &[(Key, u64)])
     entries.truncate(kept);
 }
 
-/// Moves the entries that are not among these to the front, and gives their number.
+/// Moves the entries that are not among these to the beginning, and gives their number.
 fn keep_others(entries: &mut [(Key, u64)], taken: &[(Key, u64)]) -> usize
     requires order { AreInOrder entries.old }
     requires taken { AreInOrder taken.now }

@@ -180,6 +180,3 @@ fn forget(shared: &mut Option<Arc<Ends>>)
 {
     *shared = None;
 }
-
-#[cfg(test)]
-mod tests;

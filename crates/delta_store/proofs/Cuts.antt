@@ -153,6 +153,6 @@ cut_none least greatest q = step (is_between least greatest q) None
     step true o = refl
     step false o = refl
 
--- the runs from a place on have the pairs of those behind it and then its own
+-- the runs from a place on have the pairs of those after it and then its own
 pub pairs_of-drop : (runs : List (Arc Run Global)) (i : ℕ) (run : Arc Run Global) → i < length runs → run ≡ get_or runs i run → pairs_of (drop i runs) ≡ pairs_of (drop (i + 1) runs) ++ pairs_in run
 pairs_of-drop runs i run there is = ap pairs_of (drop_more runs i run there) ∙ ap (λ r. pairs_of (drop (i + 1) runs) ++ pairs_in r) (sym is)

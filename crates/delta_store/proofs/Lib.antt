@@ -1,5 +1,6 @@
 pub mod ChunkLemmas
 pub mod Cuts
+pub mod FilterLemmas
 pub mod LinkLemmas
 pub mod Merges
 pub mod Pairs

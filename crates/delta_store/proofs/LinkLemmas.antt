@@ -232,7 +232,7 @@ IsStored-push l v old new n ok sets dead previous ended live = record {
   counted = ok.counted ∙ sym (counts is_ended (keyed_in l)) ∙ sym (how_many-push is_ended (keyed_in l) v.keyed live) ∙ counts is_ended (keyed_in l ++ v.keyed ∷ []) ∙ ap (count_by is_ended) (sym (map-append keyed l (v ∷ [])));
 }
 
--- a place at which a key may be live is that of an own chunk, after a version more behind the others
+-- a place at which a key may be live is that of an own chunk, after a version more after the others
 pub ready-push : (vs : List KeyedVersion) (v : KeyedVersion) (own : List Bool) (q : Key) → slice_index_or own (length vs / 1024) false ≡ true → ((place : ℕ) (w : KeyedVersion) → slice_get vs place ≡ Some w → is_live q w ≡ true → slice_index_or own (place / 1024) false ≡ true) → (place : ℕ) (w : KeyedVersion) → slice_get (vs ++ v ∷ []) place ≡ Some w → is_live q w ≡ true → slice_index_or own (place / 1024) false ≡ true
 ready-push vs v own q here ready place w is live = elim (cases_lt place (length vs)) [
   | inl below ↦ ready place w (sym (get_front vs (v ∷ []) place below) ∙ is) live

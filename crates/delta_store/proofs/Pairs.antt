@@ -76,9 +76,9 @@ place_in-insert (x ∷ l) k v (suc i) no_key q = rw (place_in-insert l k v i (no
     step false true is_s is_t = refl
     step false false is_s is_t = refl
 
--- ---- lists of pairs one behind the other
+-- ---- lists of pairs one after the other
 
--- a key has its place in the front, and where it has none there, that behind
+-- a key has its place among the first pairs, and where it has none there, its place among those after
 pub place_in-append : (l r : List (Key × ℕ)) (q : Key) → place_in (l ++ r) q ≡ option_or (place_in l q) (place_in r q)
 place_in-append [] r q = refl
 place_in-append (x ∷ l) r q = step (same_key x.0 q) (place_in-append l r q)
@@ -87,7 +87,7 @@ place_in-append (x ∷ l) r q = step (same_key x.0 q) (place_in-append l r q)
     step true rest = refl
     step false rest = rest
 
--- what is done to the front is done to the whole
+-- what is done to the first part is done to the whole
 pub SetsOnly-front : (old new r : List (Key × ℕ)) (k : Key) (v : ℕ) → SetsOnly old new k v → SetsOnly (old ++ r) (new ++ r) k v
 SetsOnly-front old new r k v sets q =
     place_in-append new r q
@@ -99,14 +99,14 @@ SetsOnly-front old new r k v sets q =
     step true = refl
     step false = refl
 
--- so is what leaves the places of the front or of the rest
+-- so is what leaves the places of the first pairs or of the rest
 pub same-front : (old new r : List (Key × ℕ)) → HaveSamePlaces old new → HaveSamePlaces (old ++ r) (new ++ r)
 same-front old new r same q = place_in-append new r q ∙ ap (λ (o : Option ℕ). option_or o (place_in r q)) (same q) ∙ sym (place_in-append old r q)
 
 pub same-behind : (l old new : List (Key × ℕ)) → HaveSamePlaces old new → HaveSamePlaces (l ++ old) (l ++ new)
 same-behind l old new same q = place_in-append l new q ∙ ap (option_or (place_in l q)) (same q) ∙ sym (place_in-append l old q)
 
--- a pair behind others, none of which is of its key, may as well stand in front of them
+-- a pair after others, none of which is of its key, may as well stand before them
 pub place_in-behind : (l r : List (Key × ℕ)) (y : Key × ℕ) (q : Key) → NoKeyBefore l y.0 (length l) → place_in (l ++ y ∷ r) q ≡ place_in (y ∷ (l ++ r)) q
 place_in-behind [] r y q no_key = refl
 place_in-behind (x ∷ l) r y q no_key = rw (place_in-behind l r y q (no_key_before_tail x l y.0 (length l) no_key)) (step (same_key x.0 q) (same_key y.0 q) refl refl)
@@ -119,7 +119,7 @@ place_in-behind (x ∷ l) r y q no_key = rw (place_in-behind l r y q (no_key_bef
     step false true is_s is_t = refl
     step false false is_s is_t = refl
 
--- and behind one that is of its key it decides nothing
+-- and after one that is of its key it decides nothing
 pub place_in-shadowed : (x : Key × ℕ) (l r : List (Key × ℕ)) (y : Key × ℕ) → x.0.0 ≡ y.0.0 → NoKeyBefore l y.0 (length l) → HaveSamePlaces (x ∷ (l ++ y ∷ r)) (x ∷ (l ++ r))
 place_in-shadowed x l r y same no_key q = step (same_key x.0 q) refl
   where

@@ -57,7 +57,7 @@ module _ {X : Type 0} where
       set-append_right p (whole ps) 1024 n x (omega (arith, front)) (omega arith)
       ∙ ap (λ xs. p ++ xs) (set-whole ps (len - 1024) i r (n - 1024) x (rest p ps len cut) small (omega arith) (omega arith))
 
-  -- one more behind the last part that has some is one more behind them all
+  -- one more after the last part that has some is one more after them all
   pub push-whole : (ps : List (List X)) (len i : ℕ) (x : X) → IsCut ps len → i < length ps → 1024 * i ≤ len → len < 1024 * i + 1024 → whole (set ps i (get_or ps i [] ++ x ∷ [])) ≡ whole ps ++ x ∷ []
   push-whole [] len i x cut there from below = absurd (omega (arith, there))
   push-whole (p ∷ ps) len zero x cut there from below =

@@ -10,7 +10,7 @@ use Rattle.delta_store.specs.Index.{Index, place_in, newest_first, HaveSamePlace
 use Rattle.delta_store.specs.Runs.{pairs_in, pairs_of}
 use Rattle.delta_store.proofs.Pairs.{place_in-append, same-front}
 
--- the pairs of a run behind the others come first
+-- the pairs of a run after the others come first
 newest_first-push : (runs : List (List (Key × ℕ))) (run : List (Key × ℕ)) → newest_first (runs ++ run ∷ []) ≡ run ++ newest_first runs
 newest_first-push [] run = sym (append-nil run)
 newest_first-push (older ∷ runs) run = ap (λ l. l ++ older) (newest_first-push runs run) ∙ append_assoc run (newest_first runs) older

@@ -77,7 +77,7 @@ module _ (l : List (Key × ℕ)) (k : Key) (at : ℕ) (gap : IsGapFor l k at) wh
       let key_above : (i : ℕ) → at < i → key_at new i ≡ key_at l (i - 1) = λ i above. subst (λ q. key_at new q ≡ key_at l (i - 1)) {x = i - 1 + 1} (omega arith) (ap key (get_or-insert_above l at (k, v) no_pair (i - 1) (omega arith) gap.in_range)) in
       grind (arith, ints, key_below i, key_here i, key_above i, key_below j, key_here j, key_above j, sorted i j, sorted i (j - 1), sorted (i - 1) (j - 1), gap.smaller_before i, gap.greater_after (j - 1))
 
--- a key above the last one goes behind them all
+-- a key above the last one goes after them all
 pub past_gap : (l : List (Key × ℕ)) → AreInOrder l → (k : Key) (last : Key × ℕ) → Some last ≡ slice_get l (length l - 1) → (r : Bool) → r ≡ is_lt (int_cmp last.0.0 k.0) → OnTrue r (IsGapFor l k (length l))
 past_gap l sorted k last is false r_is = tt
 past_gap l sorted k last is true r_is = record {

@@ -19,7 +19,7 @@ key_is = one_key
 pub key_itself : (a b : Key) → a ≡ b → same_key b a ≡ true
 key_itself a b is = alike b a (ap (λ (k : Key). k.0) (sym is))
 
--- the place behind the last version is that of its key, and every other key keeps its place
+-- the place after the last version is that of its key, and every other key keeps its place
 last_place-push_step : (o : Option ℕ) (t s : Bool) (n : ℕ) → one_on (cond t (Some n) o) s ≡ cond t (Some (n + 1)) (one_on o s)
 last_place-push_step o true s n = refl
 last_place-push_step o false s n = refl
@@ -32,7 +32,7 @@ last_place-push [] v q = step (is_of q v)
     step false = refl
 last_place-push (u ∷ vs) v q = rw (last_place-push vs v q) (last_place-push_step (last_place vs q) (is_of q v) (is_of q u) (length vs) ∙ ap (λ n. cond (is_of q v) (Some n) (one_on (last_place vs q) (is_of q u))) (omega arith))
 
--- a version behind them all leaves the others ended but the last of each key, where its key has no live version
+-- a version after them all leaves the others ended but the last of each key, where its key has no live version
 ended-push_step : (u v : KeyedVersion) (vs : List KeyedVersion) (t : Bool) → is_of u.key v ≡ t → (is_live v.key u || has_live v.key vs) ≡ false → (is_none (last_place vs u.key) || is_ended u) ≡ true → (is_none (cond t (Some (length vs)) (last_place vs u.key)) || is_ended u) ≡ true
 ended-push_step u v vs false is dead was = was
 ended-push_step u v vs true is dead was = step (is_of v.key u) u.version.end (key_itself v.key u.key (key_is v.key u.key is)) dead
@@ -74,7 +74,7 @@ pub dead_absent : (vs : List KeyedVersion) (q : Key) → last_place vs q ≡ Non
 dead_absent [] q is = refl
 dead_absent (v ∷ vs) q is = dead_absent_step (last_place vs q) (is_of q v) (is_none v.version.end) (has_live q vs) is (dead_absent vs q)
 
--- a key that has no place among some versions has none among those behind the first
+-- a key that has no place among some versions has none among those after the first
 none_rest : (o : Option ℕ) (s : Bool) → one_on o s ≡ None → (o ≡ None) × (s ≡ false)
 none_rest (Some p) s is = cc
 none_rest None true is = cc

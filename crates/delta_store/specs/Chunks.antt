@@ -29,14 +29,14 @@ pub record IsKept (old new : Chunk) : Type 0 where
   pub free : free_in old ≤ free_in new
   pub own : is_own old ≡ true → is_own new ≡ true
 
--- what contracts see of chunks: all their versions, one chunk's behind another's, which chunks are own, and how many more
+-- what contracts see of chunks: all their versions, one chunk's after another's, which chunks are own, and how many more
 -- versions find room without memory
 pub record Chunked : Type 0 where
   pub versions : List LinkedVersion
   pub own : List Bool
   pub spare : ℕ
 
--- all versions, one chunk's behind another's
+-- all versions, one chunk's after another's
 abbrev pub joined : List Chunk → List LinkedVersion
 joined chunks = flat_map (λ part. part) (map versions_in chunks)
 

@@ -14,7 +14,7 @@ abbrev pub place_in : List (Key × ℕ) → Key → Option ℕ
 place_in [] key = None
 place_in (x ∷ rest) key = if same_key x.0 key then Some x.1 else place_in rest key
 
--- the pairs of runs, the oldest run given first: those of newer runs stand in front, so the newest run that has a key decides
+-- the pairs of runs, the oldest run given first: those of newer runs stand first, so the newest run that has a key decides
 abbrev pub newest_first : List (List (Key × ℕ)) → List (Key × ℕ)
 newest_first [] = []
 newest_first (run ∷ newer) = newest_first newer ++ run

@@ -1,4 +1,5 @@
 pub mod Chunks
+pub mod Filters
 pub mod Index
 pub mod Places
 pub mod Runs

@@ -10,6 +10,6 @@ use Rattle.delta_store.specs.Index.{newest_first}
 abbrev pub pairs_in : Arc Run Global → List (Key × ℕ)
 pairs_in run = let held = run.value in held.pairs
 
--- the pairs of runs, the oldest run given first and those of newer runs in front
+-- the pairs of runs, the oldest run given first and those of newer runs first
 abbrev pub pairs_of : List (Arc Run Global) → List (Key × ℕ)
 pairs_of runs = newest_first (map pairs_in runs)

@@ -28,7 +28,7 @@ impl Model for Chunks {
     ghost invariant = { λ c. AreFilled c.chunks.items c.len (c.len + c.spare) × (c.len + c.spare < 2 ^ 64) };
 }
 
-/// Adds a chunk without versions where there is none at a place, behind the last one.
+/// Adds a chunk without versions where there is none at a place, after the last one.
 fn add_chunk_at(chunks: &mut Vec<Chunk>, alloc: Global, at: usize) -> Result<(), Memory>
     requires { at ≤ vec_len chunks.old }
     ensures kept { AreKept chunks.old.items chunks.new.items }
@@ -41,7 +41,7 @@ fn add_chunk_at(chunks: &mut Vec<Chunk>, alloc: Global, at: usize) -> Result<(),
     Ok(())
 }
 
-/// Makes the chunk at a place own, with room for `room` versions in all. A chunk behind the last one is a new one.
+/// Makes the chunk at a place own, with room for `room` versions in all. A chunk after the last one is a new one.
 fn make_room_at(
     chunks: &mut Vec<Chunk>,
     alloc: Global,

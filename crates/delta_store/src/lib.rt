@@ -10,6 +10,7 @@
 
 mod chunk;
 mod chunks;
+mod filter;
 mod frozen;
 mod index;
 mod merge;
@@ -21,6 +22,3 @@ mod version;
 pub use frozen::Frozen;
 pub use store::Delta;
 pub use version::KeyedVersion;
-
-#[cfg(test)]
-mod tests;

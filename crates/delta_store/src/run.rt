@@ -2,28 +2,35 @@
 ghost use Rattle.std.specs.Prelude.{◌^◌, ◌≡◌, ◌+◌, ◌<◌, ◌≤◌, ◌++◌, [], ℕ, List, length, vec_len, OnOk, IfOk, IfErr};
 ghost use Rattle.std.specs.Bool.{OnTrue};
 
+use crate::filter::Filter;
 use crate::merge::merge;
 use cs_base::Memory;
 use cs_types::Key;
 use std::alloc::Global;
 use std::marker::Model;
 
+/// The most keys of a run that is searched without a filter.
+const UNFILTERED: usize = 1024;
+
 /// A place for each key of some, in the order of keys. Contracts see the pairs of key and place, and beside them `spare`,
 /// the number of keys that find room without memory.
 #[derive(Debug, Drop)]
 pub struct Run {
     pairs: Vec<(Key, usize)>,
+    /// The keys that it may have. A look-up of any other one ends here, and reads no pair.
+    filter: Filter,
 }
 
 impl Model for Run {
     ghost use Rattle.std.specs.Prelude.{◌-◌, vec_capacity, vec_len};
+    ghost use Rattle.delta_store.specs.Filters.{AreAllAdmitted};
     ghost use Rattle.delta_store.specs.Index.{Index, AreInOrder};
 
     ghost Value = { Index };
 
     ghost view = { λ run. record { pairs = run.pairs.items; spare = vec_capacity run.pairs - vec_len run.pairs } };
 
-    ghost invariant = { λ run. AreInOrder run.pairs.items };
+    ghost invariant = { λ run. AreInOrder run.pairs.items × AreAllAdmitted run.filter run.pairs.items };
 }
 
 impl Run {
@@ -35,6 +42,7 @@ impl Run {
     {
         Run {
             pairs: Vec::new(alloc),
+            filter: Filter::new(alloc),
         }
     }
 
@@ -58,6 +66,9 @@ impl Run {
     pub fn get(&self, key: Key) -> Option<usize>
         ensures { result ≡ place_in self.now.pairs key }
     {
+        if !self.filter.may_have(key) {
+            return None;
+        }
         match self.search(key) {
             Ok(at) => Some(self.pairs[at].1),
             Err(_) => None,
@@ -71,6 +82,7 @@ impl Run {
         ensures pairs { SetsOnly self.old.pairs self.new.pairs key place }
         ensures room { self.old.spare ≤ self.new.spare + 1 }
     {
+        self.filter.add(key);
         match self.search(key) {
             Ok(at) => {
                 self.pairs[at] = (key, place);
@@ -86,7 +98,22 @@ impl Run {
     pub fn merged(alloc: Global, newer: &Run, older: &Run) -> Result<Run, Memory>
         ensures { IfOk result (λ run. HaveSamePlaces (newer.now.pairs ++ older.now.pairs) run.pairs) }
     {
-        Run::of_both(alloc, &newer.pairs, &older.pairs)
+        let run = Run::of_both(alloc, &newer.pairs, &older.pairs)?;
+        run.filtered(alloc)
+    }
+
+    /// The same pairs with a filter of their keys, where they are many.
+    fn filtered(self, alloc: Global) -> Result<Run, Memory>
+        ensures { IfOk result (λ run. run.pairs ≡ self.pairs) }
+    {
+        if self.pairs.len() <= UNFILTERED {
+            return Ok(self);
+        }
+        let filter = Filter::of(alloc, &self.pairs)?;
+        Ok(Run {
+            pairs: self.pairs,
+            filter,
+        })
     }
 
     /// The pairs of this run, which is a part of a newer index, with those of an older run of the keys from `least` to `greatest`.
@@ -121,7 +148,10 @@ impl Run {
         };
         let mut pairs = Vec::with_capacity(alloc, room)?;
         merge(&mut pairs, newer, older);
-        Ok(Run { pairs })
+        Ok(Run {
+            pairs,
+            filter: Filter::new(alloc),
+        })
     }
 
     /// The pairs of the keys from `least` to `greatest`.

@@ -1,5 +1,5 @@
 -- A merge in place from the back: of the old elements the first i are left where they stood, of the new ones the first j,
--- and all others stand behind the gap between them.
+-- and all others stand after the gap between them.
 use Rattle.std.proofs.Common.{◌≡◌, ℕ, suc, ◌+◌, ◌-◌, ◌<◌, ◌≤◌, inl, inr, List, [], ◌∷◌, ◌++◌, length, get_or, take, drop, set, refl, sym, ap, subst, ◌∙◌, append_assoc, All, AllPairs, arith, length-append}
 use Rattle.std.specs.List.Sorted.{IsPermutation}
 use Rattle.std.proofs.Math.ListN.{get_or-append}
@@ -32,7 +32,7 @@ AllPairs-back : {X : Type 0} (R : X → X → Type 0) (xs ys : List X) → AllPa
 AllPairs-back R [] ys up = up
 AllPairs-back R (x ∷ xs) ys up = AllPairs-back R xs ys (AllPairs-tail R x (xs ++ ys) up)
 
--- an element that is above all in front and below all behind keeps the order between them
+-- an element that is above all before it and below all after it keeps the order between them
 AllPairs-between : {X : Type 0} (R : X → X → Type 0) (xs : List X) (x : X) (ys : List X) → AllPairs R (xs ++ ys) → AllPairs R (x ∷ ys) → All (λ y. R y x) xs → AllPairs R (xs ++ x ∷ ys)
 AllPairs-between R [] x ys up behind above = behind
 AllPairs-between R (y ∷ xs) x ys up behind above =
@@ -68,7 +68,7 @@ pub record IsMerging {X : Type 0} (R : X → X → Type 0) (all before news cell
   pub kept : IsPermutation all (take j news ++ (take i before ++ drop (i + j) cells))
 
 module _ {X : Type 0} (R : X → X → Type 0) where
-  -- as it begins, no element stands behind
+  -- as it begins, no element stands after
   pub IsMerging-start : (before news cells : List X) (i j : ℕ) → i ≡ length before → j ≡ length news → length cells ≡ i + j → take i cells ≡ before
       → AllPairs R before → AllPairs R news → IsMerging R (news ++ before) before news cells i j
   IsMerging-start before news cells i j all_old all_new sized front olds_up news_up =

@@ -73,17 +73,18 @@ impl Cells {
         Ok(())
     }
 
-    /// Adds a cell at the end. After `Memory` nothing has changed.
-    pub fn push(&mut self, cell: Value) -> Result<(), Memory>
-        ensures ok { OnOk result (self.new ≡ self.old ++ cell ∷ []) }
+    /// Adds a copy of a cell at the end. After `Memory` nothing has changed.
+    pub fn push(&mut self, cell: CellRef<'_>) -> Result<(), Memory>
+        ensures ok { OnOk result (self.new ≡ self.old ++ seen cell.entry ∷ []) }
         ensures err { OnErr result (self.new ≡ self.old) }
     {
-        if let Some(number) = bare(&cell)
+        if let Some(number) = bare(cell)
             && self.values.is_empty()
         {
             self.numbers.push(number)?;
         } else {
-            self.values.push(cell)?;
+            let value = cell.to_value(self.allocator())?;
+            self.values.push(value)?;
         }
         Ok(())
     }
@@ -109,13 +110,13 @@ impl Cells {
 }
 
 /// A cell as a bare number or NULL, None where it is a text.
-fn bare(cell: &Value) -> Option<Option<i64>>
-    ensures { IfSome result (λ number. number_cell number ≡ cell.now) }
+fn bare(cell: CellRef<'_>) -> Option<Option<i64>>
+    ensures { IfSome result (λ number. number_cell number ≡ seen cell.entry) }
 {
     match cell {
-        Value::Null => Some(None),
-        Value::Number(number) => Some(Some(*number)),
-        Value::Text(_) => None,
+        CellRef::Null => Some(None),
+        CellRef::Number(number) => Some(Some(number)),
+        CellRef::Text(_) => None,
     }
 }
 

@@ -5,7 +5,7 @@ ghost use Rattle.row_group.specs.Packings.{AreEven, HaveMore, BeginAs, AreCut, c
 
 use crate::cells::Cells;
 use crate::packed::Packed;
-use column_segment::Segment;
+use column_segment::{Segment, shown};
 use cs_base::Memory;
 use cs_types::Row;
 use std::alloc::Global;
@@ -53,8 +53,7 @@ fn add_row(columns: &mut Vec<Cells>, row: &Row) -> Result<(), Memory>
     ensures err { OnErr result (BeginAs columns.old.items columns.new.items) }
 {
     for place in 0..columns.len() {
-        let cell = row.cell(place).copy()?;
-        columns[place].push(cell)?;
+        columns[place].push(shown(row.cell(place)))?;
     }
     Ok(())
 }
@@ -103,11 +102,9 @@ fn add_cells(column: &mut Cells, segment: &Segment, positions: &[usize]) -> Resu
     ensures ok { OnOk result (column.new ≡ column.old ++ map (cell_in segment.now.body) positions.now) }
     ensures err { OnErr result (take (length column.old) column.new ≡ column.old) }
 {
-    let alloc = column.allocator();
     column.reserve(positions.len())?;
     for position in positions {
-        let cell = segment.cell(*position).to_value(alloc)?;
-        column.push(cell)?;
+        column.push(segment.cell(*position))?;
     }
     Ok(())
 }

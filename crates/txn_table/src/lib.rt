@@ -12,6 +12,3 @@ mod txns;
 
 pub use txn::Txn;
 pub use txns::Txns;
-
-#[cfg(test)]
-mod tests;

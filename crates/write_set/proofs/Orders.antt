@@ -31,7 +31,7 @@ module _ (a b : Write) (ab : key_cmp a.key b.key ≡ Less) where
       beside : key_cmp b.key v.key ≡ Equal → key_cmp a.key v.key ≡ Less
       beside e = subst (λ k. key_cmp a.key k ≡ Less) (exact_key b.key v.key e) ab
 
-      -- b is put behind a, where a is put first
+      -- b is put after a, where a is put first
       behind : (o : Ordering) → key_cmp b.key v.key ≡ o → at b a (v ∷ vs) (key_cmp b.key a.key) ≡ a ∷ at b v vs o
       behind o e = ap (λ p. at b a (v ∷ vs) p) ba ∙ ap (λ p. a ∷ at b v vs p) e
 

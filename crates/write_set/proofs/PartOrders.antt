@@ -1,4 +1,4 @@
--- Parts one behind another, and the part for a key or a place.
+-- Parts one after another, and the part for a key or a place.
 use Rattle.std.proofs.Common.{◌≡◌, ℕ, zero, suc, ◌+◌, ◌-◌, ◌<◌, ◌≤◌, List, [], ◌∷◌, ◌++◌, length, get_or, take, drop, refl, sym, ◌∙◌, ap, subst, arith, false, All, HoldsAt, Some, slice_get, inl, inr}
 use Rattle.std.specs.List.Sorted.{IsNonDecreasingBy, IsPartitionPoint, IsSortedBy}
 use Rattle.std.specs.declared.cmp.Ordering.TheVariants.{Less, Equal, Greater}
@@ -76,7 +76,7 @@ module _ (xs zs : List Write) (p : Placed) (m : ℕ) (is : IsPart m p) (up : Asc
   up_by : Ascend (xs ++ first.0 ∷ (first.1 ++ zs))
   up_by = subst (λ (ws : List Write). Ascend (xs ++ (ws ++ zs))) first.2 up
 
-  -- what stands before a part has smaller keys, and what stands behind it greater ones
+  -- what stands before a part has smaller keys, and what stands after it greater ones
   all_before : All (λ (w : Write). key_cmp w.key p.first ≡ Less) xs
   all_before = subst (λ (k : Key). All (λ (w : Write). key_cmp w.key k ≡ Less) xs) first.3 (below xs first.0 (first.1 ++ zs) up_by)
 
@@ -133,7 +133,7 @@ module _ (parts : List Placed) (stand : StandFrom 0 parts) (up : Ascend (joined 
   whole : Ascend (front ++ (here.writes ++ behind))
   whole = subst Ascend (sym (joined_parted parts i d within)) up
 
-  -- what stands behind a part has greater keys, where the next part has
+  -- what stands after a part has greater keys, where the next part has
   next_behind : ((e : Placed) → i + 1 < length parts → key_cmp key (get_or parts (i + 1) e).first ≡ Less) → All (λ (w : Write). key_cmp key w.key ≡ Less) behind
   next_behind above = elim (cases_lt (i + 1) (length parts)) [
     | inl there ↦

@@ -1,12 +1,11 @@
 -- What a write more does to parts.
-use Rattle.std.proofs.Common.{◌≡◌, ◌≢◌, ℕ, zero, suc, ◌+◌, ◌-◌, ◌<◌, ◌≤◌, List, [], ◌∷◌, ◌++◌, length, map, get_or, set, take, drop, insert, refl, sym, ◌∙◌, ap, subst, arith, inl, inr, All, Bool, true, false, Some, slice_get}
+use Rattle.std.proofs.Common.{◌≡◌, ◌≢◌, ℕ, zero, suc, ◌+◌, ◌-◌, ◌<◌, ◌≤◌, List, [], ◌∷◌, ◌++◌, length, map, get_or, set, take, drop, insert, refl, sym, ◌∙◌, ap, subst, arith, inl, inr, All, Bool, true, false, IsTrue, ◌↔◌, Some, slice_get}
 use Rattle.std.specs.declared.cmp.Ordering.{Ordering}
 use Rattle.std.specs.declared.cmp.Ordering.TheVariants.{Less, Equal, Greater}
-use Rattle.std.specs.Bool.{OnTrue}
 use Rattle.std.specs.Ordering.{is_lt, match_ordering}
 use Rattle.std.proofs.lemmas.Bool.{cases_lt}
 use Rattle.std.proofs.lemmas.List.{append-nil, append_assoc, drop-set-lt, drop_all, get_or-append-add, get_or-set_same, get_or_append_left, get_or_default, length-append, length-drop, take_more_set, take_rest}
-use Rattle.std.proofs.lemmas.Option.{get_or_from_slice_get}
+use Rattle.std.proofs.lemmas.Option.{get_or_from_slice_get, slice_get_within}
 use Rattle.std.proofs.lemmas.List.Elements.{All-append}
 use borrow.Rule.Slice.PartMut.{put_mid}
 use Rattle.cs_types.specs.declared.Key.{Key}
@@ -41,7 +40,7 @@ put_middle (x ∷ xs) ys zs w under above =
     ap (at w x (xs ++ (ys ++ zs))) (greater w.key x.key (under 0 x (omega arith)))
     ∙ ap (λ (l : List Write). x ∷ l) (put_middle xs ys zs w (all_tail (λ (v : Write). key_cmp v.key w.key ≡ Less) x xs under) above)
 
--- and behind all
+-- and after all
 pub put_last : (xs : List Write) (w : Write) → All (λ (v : Write). key_cmp v.key w.key ≡ Less) xs → put xs w ≡ xs ++ w ∷ []
 put_last [] w under = refl
 put_last (x ∷ xs) w under =
@@ -123,7 +122,7 @@ none_in parts key i place e for gap =
 pub none_read : (parts : List Placed) (key : Key) (i place : ℕ) (e : Placed) → IsPartFor parts key i → e ≡ get_or parts i e → IsGapFor e.writes key place → All (λ (w : Write). w.key ≢ key) (joined parts)
 none_read parts key i place e for e_is gap = none_in parts key i place e for (subst (λ (p : Placed). IsGapFor p.writes key place) e_is gap)
 
--- a key behind the last write of a list in order is behind all
+-- a key after the last write of a list in order is after all
 pub behind_last : (ws : List Write) (key : Key) → Ascend ws → ((d : Write) → 0 < length ws → key_cmp (get_or ws (length ws - 1) d).key key ≡ Less) → All (λ (w : Write). key_cmp w.key key ≡ Less) ws
 behind_last ws key up last k d l = elim (cases_lt (k + 1) (length ws)) [
   | inl more ↦
@@ -134,16 +133,23 @@ behind_last ws key up last k d l = elim (cases_lt (k + 1) (length ws)) [
       subst (λ (n : ℕ). key_cmp (get_or ws n d).key key ≡ Less) same (last d (omega (arith, l)))
 ]
 
--- and so where the last write was compared with it
-pub below_if : (ws : List Write) (key : Key) (last : Write) → Ascend ws → Some last ≡ slice_get ws (length ws - 1) → (t : Bool) → t ≡ is_lt (key_cmp last.key key) → OnTrue t (All (λ (w : Write). key_cmp w.key key ≡ Less) ws)
-below_if ws key last up is false t_is = tt
-below_if ws key last up is true t_is =
-    behind_last ws key up (λ d some. ap (λ (w : Write). key_cmp w.key key) (get_or_from_slice_get ws (length ws - 1) last d (sym is)) ∙ step (key_cmp last.key key) refl t_is)
+-- and so exactly where the last write is of a smaller key
+pub below_if : (ws : List Write) (key : Key) (last : Write) → Ascend ws → Some last ≡ slice_get ws (length ws - 1) → (t : Bool) → t ≡ is_lt (key_cmp last.key key) → IsTrue t ↔ All (λ (w : Write). key_cmp w.key key ≡ Less) ws
+below_if ws key last up is t t_is = (λ lt. all (less_of (key_cmp last.key key) refl (sym lt ∙ t_is)), λ under. t_is ∙ ap is_lt (last_of under))
   where
-    step : (o : Ordering) → key_cmp last.key key ≡ o → true ≡ is_lt o → key_cmp last.key key ≡ Less
-    step Less o_is lt = o_is
-    step Equal o_is lt = absurd (cc)
-    step Greater o_is lt = absurd (cc)
+    last_is : (d : Write) → get_or ws (length ws - 1) d ≡ last
+    last_is d = get_or_from_slice_get ws (length ws - 1) last d (sym is)
+
+    less_of : (o : Ordering) → key_cmp last.key key ≡ o → true ≡ is_lt o → key_cmp last.key key ≡ Less
+    less_of Less o_is lt = o_is
+    less_of Equal o_is lt = absurd (cc)
+    less_of Greater o_is lt = absurd (cc)
+
+    all : key_cmp last.key key ≡ Less → All (λ (w : Write). key_cmp w.key key ≡ Less) ws
+    all less = behind_last ws key up (λ d some. ap (λ (w : Write). key_cmp w.key key) (last_is d) ∙ less)
+
+    last_of : All (λ (w : Write). key_cmp w.key key ≡ Less) ws → key_cmp last.key key ≡ Less
+    last_of under = ap (λ (w : Write). key_cmp w.key key) (sym (last_is last)) ∙ under (length ws - 1) last (slice_get_within ws (length ws - 1) last (sym is))
 
 -- ---- parts with another one in a place
 
@@ -208,7 +214,7 @@ split_read parts stand i e a b within e_is is_a is_b same ps is =
 pub fits_read : (parts : List Placed) → StandFrom 0 parts → (i : ℕ) (e : Placed) → i < length parts → e ≡ get_or parts i e → e.from + length e.writes ≤ length (joined parts)
 fits_read parts stand i e within e_is = subst (λ (p : Placed). p.from + length p.writes ≤ length (joined parts)) (sym e_is) (fits_here parts stand i e within)
 
--- ---- parts that stand behind more writes
+-- ---- parts that stand after more writes
 
 later_stand : (more n : ℕ) (ps : List Placed) → StandFrom n ps → StandFrom (n + more) (map (later more) ps)
 later_stand more n [] stand = tt
@@ -222,7 +228,7 @@ later_joined : (more : ℕ) (ps : List Placed) → joined (map (later more) ps) 
 later_joined more [] = refl
 later_joined more (p ∷ ps) = ap (λ (l : List Write). p.writes ++ l) (later_joined more ps)
 
--- none stands behind more writes than there are
+-- none stands after more writes than there are
 pub from_most : (n : ℕ) (ps : List Placed) → StandFrom n ps → All (λ (p : Placed). p.from ≤ n + length (joined ps)) ps
 from_most n [] stand k d l = absurd (omega (arith, l))
 from_most n (p ∷ ps) stand zero d l = let from = stand.0.from in omega (arith, from)
@@ -322,7 +328,7 @@ module _ (parts : List Placed) (i : ℕ) (within : i < length parts) (one two th
       let n = not_shorter in
       omega (arith, x, y, n)
 
--- the parts behind one that has changed
+-- the parts after one that has changed
 module _ (parts : List Placed) (i : ℕ) (new : Placed) (within : i < length parts) where
   abbrev rest_of : List Placed
   rest_of = take (length (set parts i new) - (i + 1)) (drop (i + 1) (set parts i new))
@@ -330,7 +336,7 @@ module _ (parts : List Placed) (i : ℕ) (new : Placed) (within : i < length par
   rest_is : rest_of ≡ drop (i + 1) parts
   rest_is = take_rest (set parts i new) (i + 1) ∙ drop-set-lt (i + 1) parts i new (omega arith)
 
-  -- stand behind a write more, where there are not too many
+  -- stand after a write more, where there are not too many
   pub may_shift : StandFrom 0 parts → (e : Placed) (more top : ℕ) → more ≤ 1 → length (joined parts) + 1 < top → All (λ (p : Placed). p.from + more < top) rest_of
   may_shift stand e more top one fits =
       subst (All (λ (p : Placed). p.from + more < top)) (sym rest_is)
@@ -369,7 +375,7 @@ module _ (parts : List Placed) (stand : StandFrom 0 parts) (i : ℕ) (one two th
   pub done_more : length (joined whole) ≡ length (joined parts) + (length after - length before)
   done_more = ap (λ (ps : List Placed). length (joined ps)) whole_is ∙ put_more parts stand w i one for new here_written here_from first (length after - length before) here_longer
 
--- where the key is behind all of the last part, it is behind all
+-- where the key is after all of the last part, it is after all
 pub all_below : (parts : List Placed) (key : Key) (i : ℕ) (e : Placed) → IsPartFor parts key i → i + 1 ≡ length parts → All (λ (w : Write). key_cmp w.key key ≡ Less) (get_or parts i e).writes → All (λ (w : Write). key_cmp w.key key ≡ Less) (joined parts)
 all_below parts key i e for last under =
     let P = λ (w : Write). key_cmp w.key key ≡ Less in

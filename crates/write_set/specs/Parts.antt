@@ -1,4 +1,4 @@
--- A list of writes in parts, one behind another.
+-- A list of writes in parts, one after another.
 use Rattle.std.specs.Prelude.{◌≡◌, ⊤, ℕ, ◌+◌, ◌<◌, ◌≤◌, List, [], ◌∷◌, length, take, drop, slice_index_or, All, Option, None, Some}
 use Rattle.std.specs.List.{flat_map}
 use Rattle.std.specs.declared.cmp.Ordering.TheVariants.{Less, Greater}
@@ -13,7 +13,7 @@ pub record Placed : Type 0 where
   pub from : ℕ
   pub writes : List Write
 
--- all writes, one part's behind another's
+-- all writes, one part's after another's
 abbrev pub joined : List Placed → List Write
 joined parts = flat_map (λ (part : Placed). part.writes) parts
 
@@ -23,7 +23,7 @@ pub record IsPart (before : ℕ) (part : Placed) : Type 0 where
   pub some : 0 < length part.writes
   pub first : (d : Write) → (slice_index_or part.writes 0 d).key ≡ part.first
 
--- parts that stand one behind another, with so many writes before them
+-- parts that stand one after another, with so many writes before them
 abbrev pub StandFrom : ℕ → List Placed → Type 0
 StandFrom before [] = ⊤
 StandFrom before (part ∷ parts) = IsPart before part × StandFrom (before + length part.writes) parts
@@ -34,7 +34,7 @@ pub record AreParts (parts : List Placed) (count : ℕ) : Type 0 where
   pub order : Ascend (joined parts)
   pub len : count ≡ length (joined parts)
 
--- a write of the key would stand in part i: the parts before have smaller keys, and those behind greater ones
+-- a write of the key would stand in part i: the parts before have smaller keys, and those after greater ones
 pub record IsPartFor (parts : List Placed) (key : Key) (i : ℕ) : Type 0 where
   pub within : i < length parts
   pub before : All (λ (write : Write). key_cmp write.key key ≡ Less) (joined (take i parts))

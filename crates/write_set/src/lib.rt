@@ -18,6 +18,3 @@ mod write;
 
 pub use own::Own;
 pub use write::Write;
-
-#[cfg(test)]
-mod tests;

@@ -1,6 +1,5 @@
 // A chunk in its place in a list.
-ghost use Rattle.std.specs.Prelude.{◌^◌, ◌≡◌, ◌+◌, ◌<◌, ◌++◌, length, slice_index_or, IfOk, OnOk, OnErr};
-ghost use Rattle.std.specs.Bool.{OnTrue};
+ghost use Rattle.std.specs.Prelude.{◌^◌, ◌≡◌, ◌+◌, ◌<◌, ◌++◌, ◌↔◌, length, slice_index_or, IsTrue, IfOk, OnOk, OnErr};
 ghost use Rattle.std.specs.List.{All};
 ghost use Rattle.std.specs.declared.cmp.Ordering.TheVariants.{Less};
 ghost use Rattle.cs_types.specs.Keys.{key_cmp};
@@ -73,7 +72,7 @@ impl Part {
 
     /// Whether the key is greater than those of all its writes.
     pub fn is_below(&self, key: Key) -> bool
-        ensures { OnTrue result (All (λ (write : Write). key_cmp write.key key ≡ Less) self.now.writes) }
+        ensures { IsTrue result ↔ All (λ (write : Write). key_cmp write.key key ≡ Less) self.now.writes }
     {
         match self.as_slice().last() {
             Some(last) => last.key < key,
@@ -105,7 +104,7 @@ impl Part {
         Ok(())
     }
 
-    /// Has it stand behind so many writes more.
+    /// Has it stand after so many writes more.
     pub fn shift(&mut self, more: usize)
         requires { self.old.from + more < 2 ^ 64 }
         ensures { self.new ≡ later more self.old }

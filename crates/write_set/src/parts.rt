@@ -1,4 +1,4 @@
-// Parts, one behind another.
+// Parts, one after another.
 ghost use Rattle.std.specs.Prelude.{◌^◌, ◌≡◌, ◌+◌, ◌<◌, length, map, slice_index_or, vec_len, IfOk, OnOk, OnErr};
 ghost use Rattle.std.specs.List.{All};
 ghost use Rattle.std.specs.declared.cmp.Ordering.TheVariants.{Less};
@@ -51,7 +51,7 @@ pub fn part_at(parts: &[Part], i: usize) -> usize
     }
 }
 
-/// Has the parts stand behind so many writes more.
+/// Has the parts stand after so many writes more.
 fn shift_all(parts: &mut [Part], more: usize)
     requires { All (λ (part : Placed). part.from + more < 2 ^ 64) parts.old }
     ensures { parts.new ≡ map (later more) parts.old }
@@ -79,7 +79,7 @@ fn put_at(parts: &mut [Part], alloc: Global, at: usize, write: Write) -> Result<
     Ok(more)
 }
 
-/// Adds a part of one write behind the `len` writes of the others. After `Memory` nothing has changed.
+/// Adds a part of one write after the `len` writes of the others. After `Memory` nothing has changed.
 fn add_part(parts: &mut Vec<Part>, alloc: Global, len: usize, write: Write) -> Result<(), Memory>
     requires parts { AreParts parts.old.items len }
     requires greatest { All (λ (other : Write). key_cmp other.key write.key ≡ Less) (joined parts.old.items) }

@@ -4,7 +4,7 @@ use Rattle.delta_store.specs.Runs.{pairs_of}
 use Rattle.delta_store.proofs.RunLemmas.{pairs_of-push}
 use Rattle.delta_store.proofs.runs.seal.Goals as goal
 
--- the own run stands behind the others, and so first
+-- the own run stands after the others, and so first
 pub returns-in-Ok : goal.returns-in-Ok
 returns-in-Ok c =
     let runs = c.args.runs.now.items in

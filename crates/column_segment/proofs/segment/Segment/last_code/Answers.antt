@@ -3,7 +3,7 @@ use Rattle.segment_value.specs.Scales.{Takes, code_of}
 use Rattle.column_segment.specs.declared.body.SegmentBody.{SegmentBody}
 use Rattle.column_segment.specs.Bodies.{code_in}
 use Rattle.column_segment.specs.Dicts.{dict_codes}
-use Rattle.column_segment.proofs.Last.{HasLast, last_of, has-last, last-known, last-most}
+use Rattle.column_segment.proofs.Last.{HasLast, last_of, has-last, last-known, last-most, last-reached}
 use Rattle.column_segment.proofs.segment.Segment.last_code.Goals as goal
 
 pub shrink-requires : goal.shrink-requires
@@ -22,6 +22,11 @@ returns-in-ValuePacked-clause-most c = λ i low.
     let P : ℕ → Type 0 = λ n. code_in c.args.self.now.body i ≤ n in
     subst P (sym (c.shrink.ensures.code ∙ ap (code_of c.in-ValuePacked.scale) c.as_number.ensures ∙ sym (ap (λ b. last_of b c.args.self.now.greatest) c.in-ValuePacked.is))) (last-most c.args.self.now.length c.args.self.now.least c.args.self.now.greatest c.args.self.now.nulls c.args.self.now.body c.args.self.now.of_cells i low)
 
+pub returns-in-ValuePacked-clause-reached : goal.returns-in-ValuePacked-clause-reached
+returns-in-ValuePacked-clause-reached c =
+    let (i, low, is) = last-reached c.args.self.now.length c.args.self.now.least c.args.self.now.greatest c.args.self.now.nulls c.args.self.now.body c.args.self.now.of_cells c.requires in
+    (i, low, is ∙ sym (c.shrink.ensures.code ∙ ap (code_of c.in-ValuePacked.scale) c.as_number.ensures ∙ sym (ap (λ b. last_of b c.args.self.now.greatest) c.in-ValuePacked.is)))
+
 pub shrink-requires-in-ValueRuns : goal.shrink-requires-in-ValueRuns
 shrink-requires-in-ValueRuns c =
     let P : SegmentBody → Type 0 = λ b. HasLast b c.args.self.now.greatest in
@@ -37,6 +42,11 @@ pub returns-in-ValueRuns-clause-most : goal.returns-in-ValueRuns-clause-most
 returns-in-ValueRuns-clause-most c = λ i low.
     let P : ℕ → Type 0 = λ n. code_in c.args.self.now.body i ≤ n in
     subst P (sym (c.shrink-in-ValueRuns.ensures.code ∙ ap (code_of c.in-ValueRuns.scale) c.as_number-in-ValueRuns.ensures ∙ sym (ap (λ b. last_of b c.args.self.now.greatest) c.in-ValueRuns.is))) (last-most c.args.self.now.length c.args.self.now.least c.args.self.now.greatest c.args.self.now.nulls c.args.self.now.body c.args.self.now.of_cells i low)
+
+pub returns-in-ValueRuns-clause-reached : goal.returns-in-ValueRuns-clause-reached
+returns-in-ValueRuns-clause-reached c =
+    let (i, low, is) = last-reached c.args.self.now.length c.args.self.now.least c.args.self.now.greatest c.args.self.now.nulls c.args.self.now.body c.args.self.now.of_cells c.requires in
+    (i, low, is ∙ sym (c.shrink-in-ValueRuns.ensures.code ∙ ap (code_of c.in-ValueRuns.scale) c.as_number-in-ValueRuns.ensures ∙ sym (ap (λ b. last_of b c.args.self.now.greatest) c.in-ValueRuns.is)))
 
 pub overflow_sub-result : goal.overflow_sub-result
 overflow_sub-result c =
@@ -54,6 +64,11 @@ returns-in-DictPacked-clause-most c = λ i low.
     let P : ℕ → Type 0 = λ n. code_in c.args.self.now.body i ≤ n in
     subst P (sym (ap (λ n. n - 1) c.codes_of.ensures ∙ sym (ap (λ b. last_of b c.args.self.now.greatest) c.in-DictPacked.is))) (last-most c.args.self.now.length c.args.self.now.least c.args.self.now.greatest c.args.self.now.nulls c.args.self.now.body c.args.self.now.of_cells i low)
 
+pub returns-in-DictPacked-clause-reached : goal.returns-in-DictPacked-clause-reached
+returns-in-DictPacked-clause-reached c =
+    let (i, low, is) = last-reached c.args.self.now.length c.args.self.now.least c.args.self.now.greatest c.args.self.now.nulls c.args.self.now.body c.args.self.now.of_cells c.requires in
+    (i, low, is ∙ sym (ap (λ n. n - 1) c.codes_of.ensures ∙ sym (ap (λ b. last_of b c.args.self.now.greatest) c.in-DictPacked.is)))
+
 pub overflow_sub-result-in-DictRuns : goal.overflow_sub-result-in-DictRuns
 overflow_sub-result-in-DictRuns c =
     let P : SegmentBody → Type 0 = λ b. HasLast b c.args.self.now.greatest in
@@ -69,3 +84,8 @@ pub returns-in-DictRuns-clause-most : goal.returns-in-DictRuns-clause-most
 returns-in-DictRuns-clause-most c = λ i low.
     let P : ℕ → Type 0 = λ n. code_in c.args.self.now.body i ≤ n in
     subst P (sym (ap (λ n. n - 1) c.codes_of-in-DictRuns.ensures ∙ sym (ap (λ b. last_of b c.args.self.now.greatest) c.in-DictRuns.is))) (last-most c.args.self.now.length c.args.self.now.least c.args.self.now.greatest c.args.self.now.nulls c.args.self.now.body c.args.self.now.of_cells i low)
+
+pub returns-in-DictRuns-clause-reached : goal.returns-in-DictRuns-clause-reached
+returns-in-DictRuns-clause-reached c =
+    let (i, low, is) = last-reached c.args.self.now.length c.args.self.now.least c.args.self.now.greatest c.args.self.now.nulls c.args.self.now.body c.args.self.now.of_cells c.requires in
+    (i, low, is ∙ sym (ap (λ n. n - 1) c.codes_of-in-DictRuns.ensures ∙ sym (ap (λ b. last_of b c.args.self.now.greatest) c.in-DictRuns.is)))

@@ -8,7 +8,7 @@ use Rattle.delta_store.proofs.run.Run.get.Goals as goal
 pub returns-in-Ok : goal.returns-in-Ok
 returns-in-Ok c =
     let found = rw (← c.self.view_is) at c.in-Ok.ensures.found in
-    let value = place_at c.self.inside.pairs.items c.self.invariant c.args.key c.in-Ok.at found in
+    let value = place_at c.self.inside.pairs.items c.self.invariant.0 c.args.key c.in-Ok.at found in
     let read = get_or_default c.self.inside.pairs.items c.in-Ok.at c.index.result.now no_pair found.in_range in
     rw (← c.self.view_is) (grind (arith, value, read))
 

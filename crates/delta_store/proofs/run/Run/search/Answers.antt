@@ -8,15 +8,15 @@ pub returns-clause-found : goal.returns-clause-found
 returns-clause-found c =
     let facts = c.binary_search_by_key.ensures in
     let by_key = facts.position (λ pair. pair.0) (answers_always _ _ _ (λ f a r g called. search rules)) in
-    let both = searched _ (rw c.deref.ensures.value c.self.invariant) c.args.key _ facts.bound by_key in
+    let both = searched _ (rw c.deref.ensures.value c.self.invariant.0) c.args.key _ facts.bound by_key in
     rw (← c.self.view_is, ← c.deref.ensures.value) both.found
 
 pub returns-clause-absent : goal.returns-clause-absent
 returns-clause-absent c =
     let facts = c.binary_search_by_key.ensures in
     let by_key = facts.position (λ pair. pair.0) (answers_always _ _ _ (λ f a r g called. search rules)) in
-    let both = searched _ (rw c.deref.ensures.value c.self.invariant) c.args.key _ facts.bound by_key in
+    let both = searched _ (rw c.deref.ensures.value c.self.invariant.0) c.args.key _ facts.bound by_key in
     rw (← c.self.view_is, ← c.deref.ensures.value) both.absent
 
 pub returns-clause-order : goal.returns-clause-order
-returns-clause-order c = rw (← c.self.view_is) c.self.invariant
+returns-clause-order c = rw (← c.self.view_is) c.self.invariant.0

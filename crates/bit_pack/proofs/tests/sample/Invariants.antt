@@ -1,5 +1,0 @@
-use Rattle.std.proofs.Common.{◌^◌, ◌<◌, All}
-use Rattle.bit_pack.proofs.tests.sample.Given as goal
-
-abbrev pub invariant-loop : goal.invariant-loop
-invariant-loop l = All (λ code. code < 2 ^ l.width) l.codes.items
