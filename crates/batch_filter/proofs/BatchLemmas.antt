@@ -28,7 +28,7 @@ pub needed_some : (columns : List (List Value)) (chain : List Pred) (k : ℕ) (p
 needed_some columns chain k part n l is some =
     ap first_count (from_part columns chain k part l is) ∙ front_some (batches_of columns (named part)) (batches_of columns (flat_map (λ n. n) (map named (drop (suc k) chain)))) n some
 
--- where it needs none, that of the chain behind it
+-- where it needs none, that of the chain after it
 pub needed_none : (columns : List (List Value)) (chain : List Pred) (k : ℕ) (part : Pred) → k < length chain → part ≡ get_or chain k part → ((n : ℕ) → first_count (batches_of columns (named part)) ≡ Some n → ⊥)
     → first_count (batches_of columns (flat_map (λ n. n) (map named (drop k chain)))) ≡ first_count (batches_of columns (flat_map (λ n. n) (map named (drop (k + 1) chain))))
 needed_none columns chain k part l is none =

@@ -118,6 +118,17 @@ narrowed_verdicts schema group pred n mask same is =
     ∙ true_asked (truth pred (row_at group i).cells schema)
     ∙ sym (get_or-map (λ row. keeps schema (Some pred) row.cells) group.rows i d false there))
 
+-- the verdict at a position: none past the last row
+pub verdict_at : (schema : Schema) (pred : Pred) (group : Group) (i : ℕ) → slice_index_or (verdicts schema pred group) i false ≡ (nat_lt i (length group.rows) && keeps schema (Some pred) (row_at group i).cells)
+verdict_at schema pred group i =
+    let test : PackedRow → Bool = λ row. keeps schema (Some pred) row.cells in
+    let d : PackedRow = record { cells = []; begin = 0 } in
+    ⊎_elim
+    (λ (there : i < length group.rows). get_or-map test group.rows i d false there ∙ sym (ap (λ b. b && test (row_at group i)) (lt-ltb i (length group.rows) there)))
+    (λ (past : length group.rows ≤ i).
+    get_or_past (verdicts schema pred group) i false (omega (arith, length-map group.rows test, past)) ∙ sym (ap (λ b. b && test (row_at group i)) (le-ltb i (length group.rows) past)))
+    (cases_lt i (length group.rows))
+
 pub from_false : (b : Bool) (P : Type 0) → OnFalse b P → b ≡ false → P
 from_false true P f e = absurd (true≢false e)
 from_false false P f e = f

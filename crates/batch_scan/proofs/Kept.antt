@@ -75,7 +75,7 @@ filter_within p (suc n) m low =
     last true is there = All-cons (λ i. (i < m) × (p i ≡ true)) n [] (there, is) (All-nil (λ i. (i < m) × (p i ≡ true)))
     last false is there = All-nil (λ i. (i < m) × (p i ≡ true))
 
--- the places of a mask behind those of a batch before it
+-- the places of a mask after those of a batch before it
 pub places_more : (p : ℕ → Bool) (mask : List Bool) (from n : ℕ) → ((i : ℕ) → i < n → slice_index_or mask i false ≡ p (from + i))
     → filter p (range_with_len 0 from) ++ map (λ i. from + i) (places mask n) ≡ filter p (range_with_len 0 (from + n))
 places_more p mask from zero is =

@@ -33,7 +33,7 @@ module _ (schema : Schema) (condition : Option Pred) where
   pub kept_append : (xs ys : Table) → kept_rows (xs ++ ys) ≡ kept_rows xs ++ kept_rows ys
   kept_append xs ys = ap (filter (keeps schema condition)) (values_append xs ys) ∙ filter-append (keeps schema condition) (values_of xs) (values_of ys)
 
-  -- one more that is read of a list, behind those before it
+  -- one more that is read of a list, after those before it
   pub kept_more : {X : Type 0} (f : X → Option (Key × List Value)) (xs : List X) (n : ℕ) (initial old new : List (List Value)) → old ≡ initial ++ kept_rows (filter_map f (take n xs))
       → new ≡ old ++ kept_rows (option_to_list (option_and_then f (slice_get xs n))) → new ≡ initial ++ kept_rows (filter_map f (take (n + 1) xs))
   kept_more f xs n initial old new before here =
@@ -41,7 +41,7 @@ module _ (schema : Schema) (condition : Option Pred) where
       here ∙ ap (λ l. l ++ kept_rows last) before ∙ append_assoc initial (kept_rows (filter_map f (take n xs))) (kept_rows last)
       ∙ ap (λ l. initial ++ l) (sym (kept_append (filter_map f (take n xs)) last) ∙ ap kept_rows (sym (read_more f xs n)))
 
-  -- some more rows behind those before them
+  -- some more rows after those before them
   pub kept_behind : (front more : Table) (initial old new : List (List Value)) → old ≡ initial ++ kept_rows front → new ≡ old ++ kept_rows more → new ≡ initial ++ kept_rows (front ++ more)
   kept_behind front more initial old new before here =
       here ∙ ap (λ l. l ++ kept_rows more) before ∙ append_assoc initial (kept_rows front) (kept_rows more) ∙ ap (λ l. initial ++ l) (sym (kept_append front more))

@@ -22,6 +22,3 @@ mod verdicts;
 pub use chosen::Batch;
 pub use tally::tally_group;
 pub use verdicts::{EveryRow, Verdicts};
-
-#[cfg(test)]
-mod tests;

@@ -113,7 +113,7 @@ fn add_sums(
     sum_by_key(&batch.keys, &batch.numbers, &batch.mask, batch.count, sums);
 }
 
-/// The least codes of cells that are not NULL, `last` where there is none, behind the counts of these cells.
+/// The least codes of cells that are not NULL, `last` where there is none, after the counts of these cells.
 pub fn least_of(
     alloc: Global,
     column: &Column<'_>,
@@ -168,7 +168,7 @@ fn add_least(
     least_by_key(&batch.keys, &batch.codes, &batch.mask, batch.count, least);
 }
 
-/// The greatest codes of cells that are not NULL, 0 where there is none, behind the counts of these cells.
+/// The greatest codes of cells that are not NULL, 0 where there is none, after the counts of these cells.
 pub fn greatest_of(
     alloc: Global,
     column: &Column<'_>,

@@ -179,7 +179,7 @@ fn add_sum(
     piece.end
 }
 
-/// The least codes of cells that are not NULL, `last` where there is none, behind the counts of these cells.
+/// The least codes of cells that are not NULL, `last` where there is none, after the counts of these cells.
 pub fn least_by_pieces(
     alloc: Global,
     column: &Column<'_>,
@@ -234,7 +234,7 @@ fn add_least(
     piece.end
 }
 
-/// The greatest codes of cells that are not NULL, 0 where there is none, behind the counts of these cells.
+/// The greatest codes of cells that are not NULL, 0 where there is none, after the counts of these cells.
 pub fn greatest_by_pieces(
     alloc: Global,
     column: &Column<'_>,

@@ -4,7 +4,7 @@ use Rattle.cs_predicate.specs.declared.pattern.Verdict.{Verdict}
 use Rattle.cs_predicate.specs.declared.pattern.Verdict.TheVariants.{Like, Unlike, Open}
 use Rattle.cs_model.specs.Likes.{has_end, is_like}
 
--- what a comparison up to the next `%` says: for `Open` that an end of the text that is left is like the pattern behind
+-- what a comparison up to the next `%` says: for `Open` that an end of the text that is left is like the pattern after
 abbrev pub says : Verdict → Bool
 says Like = true
 says Unlike = false

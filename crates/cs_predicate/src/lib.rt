@@ -12,8 +12,6 @@ mod expression;
 mod pattern;
 mod predicate;
 mod side;
-#[cfg(test)]
-mod tests;
 
 pub use cells::Cells;
 pub use expression::compute;

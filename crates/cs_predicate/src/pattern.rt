@@ -12,7 +12,7 @@ enum Verdict<'a> {
     Like,
     /// It is not.
     Unlike,
-    /// It is if an end of this text is like this pattern, which stand behind the bytes compared.
+    /// It is if an end of this text is like this pattern, which stand after the bytes compared.
     Open { pattern: &'a [u8], text: &'a [u8] },
 }
 
@@ -53,8 +53,8 @@ fn front<'a>(pattern: &'a [u8], text: &'a [u8]) -> Verdict<'a>
     }
 }
 
-/// Compares the ends of a text with a pattern up to the pattern's next `%`. The first end whose front fits decides: what an
-/// end further on leaves behind its own front is an end of what this one leaves.
+/// Compares the ends of a text with a pattern up to the pattern's next `%`. The first end whose beginning fits decides: what an
+/// end further on leaves after its own beginning is an end of what this one leaves.
 fn front_of_ends<'a>(pattern: &'a [u8], text: &'a [u8]) -> Verdict<'a>
     ensures says { says result ≡ has_end (spec.is_like pattern.now) text.now }
     ensures smaller { to_compare result ≤ length pattern.now }

@@ -76,7 +76,7 @@ module _ (schema : Schema) (condition : Option Pred) (pinned : Pinned) (place : 
   here : AllByRecursion IsHere positions
   here = recursion_from_All IsHere positions (positions_within pinned schema condition group marks fits)
 
-  -- the positions that are kept, chosen behind others
+  -- the positions that are kept, chosen after others
   pub chose_positions : (chosen new : List Chosen) → new ≡ chosen ++ map (chosen_at place group) (kept_positions pinned schema condition group marks)
       → map (chosen_edit (length schema.columns) pinned) new ≡ map (chosen_edit (length schema.columns) pinned) chosen ++ picked schema condition (filter_map (read_row (length schema.columns) pinned) (rowed_at pinned.view place))
   chose_positions chosen new is =

@@ -1,8 +1,8 @@
 -- What is found of a key in the view and among the own writes.
-use Rattle.std.proofs.Common.{◌≡◌, ℕ, Bool, true, false, List, length, refl, sym, ap, ◌∙◌, subst}
+use Rattle.std.proofs.Common.{◌≡◌, ℕ, ◌<◌, Bool, true, false, List, length, refl, sym, ap, ◌∙◌, subst}
 use Rattle.std.specs.Prelude.{Option, None, Some, IfNone, IfSome, IsSome, is_some, slice_get, unwrap_or}
 use Rattle.std.specs.Option.{option_map, option_and_then}
-use Rattle.std.proofs.lemmas.Option.{none-some, same_Some}
+use Rattle.std.proofs.lemmas.Option.{none-some, same_Some, slice_get_within}
 use Rattle.cs_types.specs.declared.Key.{Key}
 use Rattle.cs_types.specs.declared.Value.{Value}
 use Rattle.cs_model.specs.Obstacles.{has_row}
@@ -13,14 +13,15 @@ use Rattle.edit_laws.proofs.Tables.{at, laid_is}
 use Rattle.edit_laws.proofs.Writes.{ascends, found_at, none_at}
 use Rattle.delta_store.specs.declared.version.KeyedVersion.{KeyedVersion}
 use Rattle.cs_types.specs.declared.row.Version.{Version as Stored}
+use Rattle.row_group.specs.Groups.{Group, row_at}
 use Rattle.group_view.specs.declared.view.Pinned.{Pinned}
 use Rattle.group_view.specs.declared.view.Place.{Place}
 use Rattle.group_view.specs.declared.parts.GroupPart.{GroupPart}
 use Rattle.group_view.specs.declared.parts.GroupPart.TheVariants.{Packed, Store}
 use Rattle.group_view.specs.declared.parts.GroupRef.TheVariants as lent
-use Rattle.group_view.specs.Parts.{Rowed, padded, rowed_in, IsBorrowed}
+use Rattle.group_view.specs.Parts.{Rowed, packed_versions, padded, rowed_in, IsBorrowed}
 use Rattle.group_view.specs.Views.{version_at, HidesEach, Shows}
-use Rattle.group_view.proofs.Versions.{padded_itself, stored_row}
+use Rattle.group_view.proofs.Versions.{packed_row, packed_within, padded_itself, stored_row}
 use Rattle.group_view.proofs.Looked.{found_shown, none_shown}
 use Rattle.row_work.specs.Reads.{read_by, shown_by, HasSnapshot}
 use Rattle.row_work.specs.declared.choose.Source.TheVariants.{Shown, Own}
@@ -63,6 +64,13 @@ row_by_lookup width pinned key has (Some place) found none = shows_row width pin
 
 -- ---- rows
 
+some_within : {X : Type 0} (xs : List X) (position : ℕ) → IsSome (slice_get xs position) → position < length xs
+some_within xs position there = step (slice_get xs position) refl there
+  where
+    step : (o : Option _) → slice_get xs position ≡ o → IsSome o → position < length xs
+    step None is none = cc
+    step (Some x) is some = slice_get_within xs position x is
+
 -- the row of a store that is lent
 pub lent_row : (width position : ℕ) (o : Option (ℕ × GroupPart)) (store : _) (stored : Stored) → IsSome (option_and_then (λ (group : ℕ × GroupPart). slice_get (rowed_in group.1) position) o) → IfSome o (λ (part : ℕ × GroupPart). IsBorrowed part.1 (lent.Store store))
     → option_map (λ (keyed : KeyedVersion). keyed.version) (slice_get store.now position) ≡ Some stored → length stored.row ≡ width
@@ -72,6 +80,19 @@ lent_row width position (Some (id, Packed packed marks)) store stored there borr
 lent_row width position (Some (id, Store frozen)) store stored there borrowed read wide =
     stored_row width stored frozen.value position (ap (λ versions. option_map (λ (keyed : KeyedVersion). keyed.version) (slice_get versions position)) (sym borrowed) ∙ read)
     ∙ ap Some (sym (padded_itself width stored.row wide))
+
+-- the row of a packed group, which is made
+pub made_row : (width position : ℕ) (o : Option (ℕ × GroupPart)) (packed : _) (marks : _) → IsSome (option_and_then (λ (group : ℕ × GroupPart). slice_get (rowed_in group.1) position) o) → IfSome o (λ (part : ℕ × GroupPart). IsBorrowed part.1 (lent.Packed packed marks))
+    → (position < length packed.now.rows) × (option_map (λ (rowed : Rowed). padded width rowed.row) (option_and_then (λ (group : ℕ × GroupPart). slice_get (rowed_in group.1) position) o) ≡ Some (padded width (row_at packed.now position).cells))
+made_row width position None packed marks there borrowed = cc
+made_row width position (Some (id, Store frozen)) packed marks there borrowed = absurd borrowed
+made_row width position (Some (id, Packed shared ends)) packed marks there borrowed =
+    let group = shared.value in
+    let within = some_within (packed_versions group.key group.rows ends.value) position there in
+    let rows = (packed_within group.key group.rows ends.value position within).0 in (
+      subst (λ (g : Group). position < length g.rows) (sym borrowed.0) rows,
+      packed_row group ends.value position within width ∙ ap (λ (g : Group). Some (padded width (row_at g position).cells)) (sym borrowed.0),
+    )
 
 -- ---- where the row stands that is read at a key
 

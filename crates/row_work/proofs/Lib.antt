@@ -11,6 +11,7 @@ pub mod Kept
 pub mod KeptRange
 pub mod Known
 pub mod NamedRows
+pub mod Narrow
 pub mod Ordered
 pub mod Overlaid
 pub mod Passed

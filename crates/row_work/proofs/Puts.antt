@@ -169,7 +169,7 @@ module _ (edits : List Edit) (puts : List Put) (key : Key) (row : List Value) (a
     still_twice [] lower all = tt
     still_twice (p ∷ list) lower all = (all.0 ∙ twice_stays p.key key edits (Some row) (apart_by p.key key lower.0), still_twice list lower.1 all.1)
 
-    -- it is put behind the others
+    -- it is put after the others
     pub put_behind : ArePuts more (puts ++ put ∷ [])
     put_behind = record {
       order = subst Up (sym keys_pushed) (push_up (put_keys puts) key are.order all_below);

@@ -3,7 +3,7 @@ use Rattle.std.proofs.Common.{◌≡◌, ◌≢◌, ℕ, ◌+◌, ◌<◌, ◌�
 use Rattle.std.specs.Prelude.{◌⊎◌, Option, None, Some, is_some, slice_get, slice_index, IsSome}
 use Rattle.std.specs.declared.cmp.Ordering.{Ordering}
 use Rattle.std.specs.declared.cmp.Ordering.TheVariants.{Less, Equal, Greater}
-use Rattle.std.specs.List.Sorted.{IsPermutation, IsSortedBy}
+use Rattle.std.specs.List.Sorted.{IsPermutation}
 use Rattle.std.specs.Option.{option_and_then, option_map}
 use Rattle.std.specs.Ordering.{is_le, ordering_reverse}
 use Rattle.std.proofs.lemmas.Bool.{and_from, and_parts, cases_lt}
@@ -27,7 +27,7 @@ use Rattle.row_work.specs.Bounds.{IsWithin}
 use Rattle.row_work.specs.Ranges.{ArePlacesWithin, AreReadBetween, HasKeysOf, IsReadBetween}
 use Rattle.row_work.specs.Stores.{is_read_within, positions_of, PassesAt}
 use Rattle.row_work.proofs.Found.{at_place}
-use Rattle.row_work.proofs.Places.{below, in_order_is, places_apart, same_members}
+use Rattle.row_work.proofs.Places.{places_apart, same_members}
 use Rattle.row_work.proofs.Positions.{place_there, places_pass}
 use Rattle.row_work.proofs.Stored.{passing}
 
@@ -221,9 +221,9 @@ module _ (pinned : Pinned) (place : ℕ) (group : Group) (keys : HasKeysOf pinne
         let stands = places.every i inside (subst (IsWithin bounds) own parts.1) in
         are.every p (record { at = i; low = stands.0; high = stands.1; here = here; read = ap (option_map (is_read pinned)) at ∙ ap Some parts.0 })
 
-    -- in their order they are the positions of the versions that pass
-    pub in_range_is : (moved : List ℕ) → IsPermutation positions moved → IsSortedBy below moved → moved ≡ positions_of (is_read_within pinned bounds) versions
-    in_range_is moved by_sort in_order =
+    -- they are the positions of the versions that pass
+    pub in_range_are : IsPermutation positions (positions_of (is_read_within pinned bounds) versions)
+    in_range_are =
         let test = is_read_within pinned bounds in
         let all = positions_of test versions in
         let among = All-weaker Passes (Contains positions) listed all (places_pass (λ (x : Rowed). Some x) test versions) in
@@ -231,4 +231,4 @@ module _ (pinned : Pinned) (place : ℕ) (group : Group) (keys : HasKeysOf pinne
         let (x, at, on) = passing test versions p (passes p is) in
         let zero_more : 0 + p ≡ p = omega arith in
         subst (Contains all) zero_more (place_there test versions 0 p x at on)) positions are.each in
-        in_order_is positions moved (map test versions) (same_members positions all are.once (places_apart (map test versions) 0) among back) by_sort in_order
+        same_members positions all are.once (places_apart (map test versions) 0) among back

@@ -6,7 +6,7 @@ use Rattle.std.specs.Map.{values_of}
 use Rattle.std.proofs.lemmas.Bool.{and_parts, eq-eqb, ne_eqb}
 use Rattle.std.proofs.lemmas.List.{append-nil, get_or-drop, get_or-map, get_or-take, get_or_default, length-drop, length-map, length-take-le}
 use Rattle.std.proofs.lemmas.List.Folds.{list_any_none}
-use Rattle.std.proofs.lemmas.Option.{slice_get-get_or}
+use Rattle.std.proofs.lemmas.Option.{same_Some, slice_get-get_or}
 use Rattle.cs_types.specs.declared.Key.{Key}
 use Rattle.cs_types.specs.declared.Schema.{Schema}
 use Rattle.cs_types.specs.declared.Value.{Value}
@@ -43,6 +43,11 @@ use Rattle.row_work.proofs.Ranges.{key_as, long_as}
 use Rattle.row_work.proofs.Sieved.{packed_keys, packed_rows, row_is, shown_no_row, shown_passed}
 use Rattle.row_work.proofs.Standing.{stands_as}
 use Rattle.row_work.proofs.Stored.{kept_same}
+
+-- bounds that are exact
+pub exact_are : (t : Bool) (found bounds : Bounds) → Some found ≡ cond t (Some bounds) None → (t ≡ true) × (found ≡ bounds)
+exact_are true found bounds is = (refl, same_Some found bounds is)
+exact_are false found bounds is = cc
 
 -- lists of bools that agree at each place are one
 same_bools : (xs ys : List Bool) → length xs ≡ length ys → ((p : ℕ) → p < length xs → get_or xs p false ≡ get_or ys p false) → xs ≡ ys

@@ -1,18 +1,16 @@
 -- The versions of a store that are read, by the keys of the store.
 use Rattle.std.proofs.Common.{◌≡◌, ◌≢◌, ℕ, ℤ, zero, suc, ◌+◌, ◌<◌, ◌≤◌, ◌<ℤ◌, Bool, true, false, not, ◌&&◌, ◌||◌, cond, List, [], ◌∷◌, ◌++◌, map, take, length, refl, sym, ap, ◌∙◌, subst, arith}
 use Rattle.std.specs.Prelude.{Option, None, Some, slice_get, unwrap_or, is_some, IfNone, IfSome, IsSome}
-use Rattle.std.specs.List.{cons_option, filter_map, flat_map, list_any}
+use Rattle.std.specs.List.{All, cons_option, filter_map, flat_map, list_any}
 use Rattle.std.specs.List.Sorted.{IsPermutation}
-use Rattle.std.specs.declared.alloc.Global.{Global}
-use Rattle.std.specs.declared.vec.Vec.{Vec}
 use Rattle.std.specs.Option.{option_and_then, option_map, option_to_list}
 use Rattle.std.proofs.lemmas.Bool.{and_from, and_parts}
 use Rattle.std.specs.BTreeMap.{is_at}
-use Rattle.std.specs.Map.{lookup}
+use Rattle.std.specs.Map.{lookup, values_of}
 use Rattle.std.specs.Ordering.{eq_by_cmp}
 use Rattle.std.proofs.lemmas.Int.{ints}
 use Rattle.std.proofs.lemmas.List.{map-append}
-use Rattle.std.proofs.lemmas.List.Elements.{All-weaker}
+use Rattle.std.proofs.lemmas.List.Elements.{All-cons, All-head, All-nil, All-tail, All-weaker}
 use Rattle.std.proofs.lemmas.List.Sorted.{IsPermutation-append_left, IsPermutation-refl, IsPermutation-trans}
 use Rattle.std.proofs.lemmas.Map.Views.{Contains-from_lookup}
 use Rattle.std.proofs.lemmas.Option.{get_or_from_slice_get, same_Some, slice_get-map, slice_get_within}
@@ -49,9 +47,9 @@ use Rattle.group_view.specs.Laws.{shown_row}
 use Rattle.group_view.proofs.Looked.{found_shown}
 use Rattle.batch_scan.specs.Reads.{is_read}
 use Rattle.row_work.specs.declared.bounds.Bounds.{Bounds}
-use Rattle.row_work.specs.Bounds.{KeepsWithin}
+use Rattle.row_work.specs.Bounds.{KeepsRange, KeepsWithin}
 use Rattle.row_work.specs.Reads.{read_row, rowed_at, shown_by, HasSnapshot, MayRead}
-use Rattle.row_work.specs.Stores.{is_read_of, is_read_within, positions_of, read_at_position, true_from, AreRowsRead, IsSeenOnce, AreEnough, PassesAt}
+use Rattle.row_work.specs.Stores.{is_read_of, is_read_within, positions_of, read_at_position, true_from, AreRowsRead, IsSeenOnce, PassesAt}
 use Rattle.row_work.proofs.Found.{at_place}
 use Rattle.row_work.proofs.Overlaid.{same_sym}
 use Rattle.row_work.proofs.Positions.{none_true, one_more, places_pass, read_at_places, same_flags, where_true}
@@ -299,6 +297,11 @@ own_not_read pinned key versions p mine is =
 
 -- ---- rows between bounds
 
+-- the versions at these positions are read, and the condition keeps of their rows what it keeps of all that are read
+pub record AreEnough (schema : Schema) (condition : Option Pred) (pinned : Pinned) (versions : List Rowed) (positions : List ℕ) : Type 0 where
+  pub read : All (PassesAt (is_read pinned) versions) positions
+  pub kept : chosen schema condition (filter_map (read_at_position (length schema.columns) pinned versions) positions) ≡ chosen schema condition (filter_map (read_row (length schema.columns) pinned) versions)
+
 module _ (schema : Schema) (condition : Option Pred) (pinned : Pinned) (bounds : Bounds) (keeps_within : KeepsWithin schema condition bounds) where
   abbrev width : ℕ
   width = length schema.columns
@@ -336,6 +339,21 @@ module _ (schema : Schema) (condition : Option Pred) (pinned : Pinned) (bounds :
     kept = ap (chosen schema condition) (read_at_places reads (is_read_within pinned bounds) versions) ∙ kept_same versions rows;
   }
 
+-- rows of keys that are all kept are kept
+pub each_kept : (schema : Schema) (condition : Option Pred) (pinned : Pinned) (bounds : Bounds) → KeepsRange schema condition bounds → (versions : List Rowed) → AreRowsRead schema pinned versions → (positions : List ℕ)
+    → All (PassesAt (is_read_within pinned bounds) versions) positions → All (λ row. keeps schema condition row ≡ true) (values_of (filter_map (read_at_position (length schema.columns) pinned versions) positions))
+each_kept schema condition pinned bounds keeps_range versions rows [] all = All-nil (λ row. keeps schema condition row ≡ true)
+each_kept schema condition pinned bounds keeps_range versions rows (p ∷ positions) all =
+    let Kept : List Value → Type 0 = λ row. keeps schema condition row ≡ true in
+    let read_at = read_at_position (length schema.columns) pinned versions in
+    let (x, at, both) = passing (is_read_within pinned bounds) versions p (All-head (PassesAt (is_read_within pinned bounds) versions) p positions all) in
+    let (read, within) = and_parts (is_read pinned x) (is_between bounds.least bounds.greatest x.version.key) both in
+    let here : read_at p ≡ Some (shown_row (length schema.columns) x) = ap (option_and_then (read_row (length schema.columns) pinned)) at ∙ ap (λ t. cond t (Some (shown_row (length schema.columns) x)) None) read in
+    let row = padded (length schema.columns) x.row in
+    let rest = each_kept schema condition pinned bounds keeps_range versions rows positions (All-tail (PassesAt (is_read_within pinned bounds) versions) p positions all) in
+    subst (λ o. All Kept (values_of (cons_option o (filter_map read_at positions)))) (sym here)
+    (All-cons Kept row (values_of (filter_map read_at positions)) (keeps_range x.version.key row (rows p x at read) ∙ within) rest)
+
 -- ---- the versions of a group
 
 -- of a group of a view the snapshot sees each key once
@@ -363,12 +381,10 @@ rows_read schema pinned group may position x at read =
     let entry : Key × List Value = (key, padded width x.row) in
     subst (λ (e : Key × List Value). IsRowAt schema e.0 e.1) inside.2 (may.fit inside.0 entry inside.1).1
 
--- positions of those between bounds are enough
-pub enough_listed : (schema : Schema) (condition : Option Pred) (pinned : Pinned) (bounds : Bounds) → KeepsWithin schema condition bounds → (group : ℕ) → MayRead schema pinned → (found : Option (Vec ℕ Global))
-    → IfSome found (λ positions. positions.items ≡ positions_of (is_read_within pinned bounds) (rowed_at pinned.view group)) → IfSome found (λ positions. AreEnough schema condition pinned (rowed_at pinned.view group) positions.items)
-enough_listed schema condition pinned bounds keeps_within group may None listed = tt
-enough_listed schema condition pinned bounds keeps_within group may (Some positions) listed =
-    subst (AreEnough schema condition pinned (rowed_at pinned.view group)) (sym listed) (loses_none schema condition pinned bounds keeps_within (rowed_at pinned.view group) (rows_read schema pinned group may))
+-- those of keys of which all that are kept are enough of it
+pub enough_within : (schema : Schema) (condition : Option Pred) (pinned : Pinned) (bounds : Bounds) → KeepsWithin schema condition bounds → (group : ℕ) → MayRead schema pinned
+    → AreEnough schema condition pinned (rowed_at pinned.view group) (positions_of (is_read_within pinned bounds) (rowed_at pinned.view group))
+enough_within schema condition pinned bounds keeps_within group may = loses_none schema condition pinned bounds keeps_within (rowed_at pinned.view group) (rows_read schema pinned group may)
 
 -- the versions of a store of the view
 pub store_at : (pinned : Pinned) (store : _) (o : Option (ℕ × GroupPart)) → IfSome o (λ (part : ℕ × GroupPart). IsBorrowed part.1 (lent.Store store)) → IsSome o → unwrap_or (option_map (λ (part : ℕ × GroupPart). rowed_in part.1) o) [] ≡ stored_versions store.now
@@ -390,6 +406,12 @@ there_some [] i within = absurd (omega (arith, within))
 there_some (x ∷ xs) zero within = refl
 there_some (x ∷ xs) (suc i) within = there_some xs i (omega (arith, within))
 
+-- where one passes a test, one stands
+pub stands_there : (pinned : Pinned) (test : Rowed → Bool) (place : Place) → PassesAt test (rowed_at pinned.view place.group) place.position → IsSome (version_at pinned.view place)
+stands_there pinned test place is =
+    let (x, at, passes) = passing test (rowed_at pinned.view place.group) place.position is in
+    subst IsSome (sym (at_place pinned.view place.group place.position ∙ at)) refl
+
 -- the row of a version that is read, at its position
 pub read_there : (width : ℕ) (pinned : Pinned) (place : Place) (version : Version) (row : List Value) → PassesAt (is_read pinned) (rowed_at pinned.view place.group) place.position → option_map (λ (rowed : Rowed). rowed.version) (version_at pinned.view place) ≡ Some version
     → option_map (λ (rowed : Rowed). padded width rowed.row) (version_at pinned.view place) ≡ Some row → read_at_position width pinned (rowed_at pinned.view place.group) place.position ≡ Some (version.key, row)
@@ -403,3 +425,10 @@ read_there width pinned place version row is at_version at_row =
     ∙ ap (λ t. cond t (Some (shown_row width x)) None) held.2
     ∙ ap (λ (v : Version). Some (v.key, padded width x.row)) same
     ∙ ap (λ (l : List Value). Some (version.key, l)) cells
+
+pub row_there : (width : ℕ) (pinned : Pinned) (place : Place) (row : List Value) → PassesAt (is_read pinned) (rowed_at pinned.view place.group) place.position → option_map (λ (rowed : Rowed). padded width rowed.row) (version_at pinned.view place) ≡ Some row
+    → (key : Key) × (read_at_position width pinned (rowed_at pinned.view place.group) place.position ≡ Some (key, row))
+row_there width pinned place row is at_row =
+    let held = passing (is_read pinned) (rowed_at pinned.view place.group) place.position is in
+    let stands : version_at pinned.view place ≡ Some held.0 = at_place pinned.view place.group place.position ∙ held.1 in
+    (held.0.version.key, read_there width pinned place held.0.version row is (ap (option_map (λ (rowed : Rowed). rowed.version)) stands) at_row)

@@ -28,7 +28,7 @@ use Rattle.row_work.specs.declared.refusal.WriteRefusal.TheVariants as refusal
 use Rattle.cs_model.specs.Held.{IsHeld, IsRowAt}
 use Rattle.row_work.specs.Gives.{RefusesCell, RefusesRow, RefusesRows, GivesRows}
 
--- what stands behind a front, or its refusal
+-- what stands after a prefix, or its refusal
 abbrev pub behind : {X E : Type 0} → List X → Result (List X) E → Result (List X) E
 behind front (Ok rest) = Ok (front ++ rest)
 behind front (Err e) = Err e
@@ -43,7 +43,7 @@ module _ (cell : ℕ → Column → Result Value ℕ) (columns : List Column) wh
   abbrev pub all_cells : Result (List Value) (ℕ × ℕ)
   all_cells = cells_from cell 0 columns
 
-  -- the cells so far, and those of the columns behind them
+  -- the cells so far, and those of the columns after them
   abbrev pub with_rest : List Value → ℕ → Result (List Value) (ℕ × ℕ)
   with_rest cells i = behind cells (cells_from cell i (drop i columns))
 

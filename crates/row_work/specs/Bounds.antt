@@ -14,12 +14,13 @@ use Rattle.cs_model.specs.Queries.{keeps}
 use Rattle.cs_model.specs.Truths.{compare, truth, truth_if}
 use Rattle.delta_store.specs.Index.{is_between}
 use Rattle.row_work.specs.declared.bounds.Bounds.{Bounds}
+use Rattle.row_work.specs.declared.exact.KeyRange.{KeyRange}
 
 -- the key is one of these
 abbrev pub IsWithin : Bounds → Key → Type 0
 IsWithin bounds key = is_between bounds.least bounds.greatest key ≡ true
 
--- where a key stands so to the constant, it is one of these
+-- a key that stands so to the constant is one of these
 abbrev pub BoundsBeside : Relation → Loose → Bounds → Type 0
 BoundsBeside sign constant bounds =
     (schema : Schema) (key : Key) (row : List Value) → IsSchema schema → IsRowAt schema key row → compare sign (loose_at schema row schema.key) constant ≡ True → IsWithin bounds key
@@ -43,3 +44,8 @@ IsRange schema pred bounds = (key : Key) (row : List Value) → IsRowAt schema k
 -- of the rows of the table the condition keeps exactly those with one of these keys
 abbrev pub KeepsRange : Schema → Option Pred → Bounds → Type 0
 KeepsRange schema condition bounds = (key : Key) (row : List Value) → IsRowAt schema key row → keeps schema condition row ≡ is_between bounds.least bounds.greatest key
+
+-- the condition keeps no row of the table whose key is not in the range; and where the range is exact, it keeps each row whose key is
+pub record IsKeyRange (schema : Schema) (condition : Option Pred) (range : KeyRange) : Type 0 where
+  pub within : KeepsWithin schema condition range.bounds
+  pub exact : range.is_exact ≡ true → KeepsRange schema condition range.bounds

@@ -16,8 +16,6 @@ use Rattle.group_view.specs.Views.{rowed_of, shown_table, IsView}
 use Rattle.batch_scan.specs.declared.shown.Shown.{Shown}
 use Rattle.batch_scan.specs.Reads.{is_read, AreShown}
 pub use Rattle.batch_scan.specs.Reads.{own_row, read_key, read_row, rowed_at}
-use Rattle.row_work.specs.declared.reading.ReadRow.{ReadRow}
-use Rattle.row_work.specs.declared.reading.ReadRow.TheVariants.{Lent, Made}
 
 -- the table of the snapshot as the view shows it, in so many cells
 abbrev pub shown_by : ℕ → Pinned → Table
@@ -39,11 +37,6 @@ read_of width pinned groups = values_of (filter_map (read_row width pinned) (fla
 abbrev pub IsKnown : Pinned → ℕ → Option Shown → Type 0
 IsKnown pinned group None = Unit {0}
 IsKnown pinned group (Some shown) = AreShown (map (is_read pinned) (rowed_at pinned.view group)) shown
-
--- the row that was read
-abbrev pub row_in : ReadRow → List Value
-row_in (Lent row) = row.now
-row_in (Made row) = row
 
 -- no key of the view shows twice, and the snapshot is one that the view has
 pub record HasSnapshot (pinned : Pinned) : Type 0 where

@@ -1,13 +1,10 @@
 -- The versions of a delta store that a statement reads, found by their keys.
-use Rattle.std.specs.Prelude.{◌≡◌, ◌≤◌, ◌&&◌, ℕ, suc, List, [], ◌∷◌, map, Bool, true, slice_get, length, All, Option, Some, if◌then◌else◌}
-use Rattle.std.specs.List.{filter_map}
+use Rattle.std.specs.Prelude.{◌≡◌, ◌≤◌, ◌&&◌, ℕ, suc, List, [], ◌∷◌, map, Bool, true, slice_get, length, Option, Some, if◌then◌else◌}
 use Rattle.std.specs.Option.{option_map, option_and_then}
 use Rattle.cs_types.specs.declared.Key.{Key}
 use Rattle.cs_types.specs.declared.Schema.{Schema}
 use Rattle.cs_types.specs.declared.Value.{Value}
 use Rattle.cs_types.specs.Keys.{same_key}
-use Rattle.cs_model.specs.declared.pred.Pred.{Pred}
-use Rattle.cs_model.specs.Answers.{chosen}
 use Rattle.cs_model.specs.Held.{IsRowAt}
 use Rattle.delta_store.specs.Index.{is_between}
 use Rattle.group_book.specs.Book.{how_many, shows}
@@ -51,8 +48,3 @@ read_at_position width pinned versions position = option_and_then (read_row widt
 abbrev pub AreRowsRead : Schema → Pinned → List Rowed → Type 0
 AreRowsRead schema pinned versions =
     (position : ℕ) (rowed : Rowed) → slice_get versions position ≡ Some rowed → is_read pinned rowed ≡ true → IsRowAt schema rowed.version.key (padded (length schema.columns) rowed.row)
-
--- the versions at these positions are read, and the condition keeps of their rows what it keeps of all that are read
-pub record AreEnough (schema : Schema) (condition : Option Pred) (pinned : Pinned) (versions : List Rowed) (positions : List ℕ) : Type 0 where
-  pub read : All (PassesAt (is_read pinned) versions) positions
-  pub kept : chosen schema condition (filter_map (read_at_position (length schema.columns) pinned versions) positions) ≡ chosen schema condition (filter_map (read_row (length schema.columns) pinned) versions)

@@ -1,5 +1,5 @@
 // Rows that are read one by one into a partial answer.
-ghost use Rattle.std.specs.Prelude.{◌≡◌, ◌++◌, ◌∷◌, [], ◌<◌, List, length, All, IsSome, OnOk};
+ghost use Rattle.std.specs.Prelude.{◌≡◌, ◌++◌, ◌<◌, List, length, All, IsSome, OnOk};
 ghost use Rattle.std.specs.Map.{values_of};
 ghost use Rattle.std.specs.Option.{option_and_then, option_to_list};
 ghost use Rattle.cs_types.specs.declared.Value.{Value};
@@ -7,25 +7,16 @@ ghost use Rattle.batch_aggregate.specs.Standing.{StandsFor};
 ghost use Rattle.code_tallies.specs.Shown.{is_shown};
 ghost use Rattle.group_view.specs.Parts.{IsFitting};
 ghost use Rattle.group_view.specs.Views.{version_at};
-ghost use Rattle.row_work.specs.Reads.{read_row, row_in, rowed_at, IsKnown};
+ghost use Rattle.row_work.specs.Reads.{read_row, rowed_at, IsKnown};
 ghost use Rattle.row_work.specs.Sieved.{read_in, LosesNone};
 
-use crate::reading::{ReadRow, read_at};
+use crate::reading::read_at;
 use batch_aggregate::Partial;
 use batch_filter::Sieve;
 use batch_scan::Shown;
 use cs_base::Memory;
 use group_view::{Pinned, Place};
 use std::alloc::Global;
-
-/// Adds a row that was read.
-pub fn add_read(partial: &mut Partial<'_>, read: ReadRow<'_>) -> Result<(), Memory>
-    ensures schema { partial.new.schema.now ≡ partial.old.schema.now }
-    ensures query { partial.new.query.now ≡ partial.old.query.now }
-    ensures added { (rows : List (List Value)) → StandsFor partial.old rows → OnOk result (StandsFor partial.new (rows ++ row_in read.entry ∷ [])) }
-{
-    partial.add(read.row())
-}
 
 /// Whether a sieve keeps the row at a position. Where there is none, each is kept.
 fn is_kept(sieve: &Option<Sieve>, position: usize) -> bool
@@ -58,8 +49,9 @@ fn add_version(
     if !is_kept(sieve, place.position) {
         return Ok(());
     }
-    match read_at(alloc, pinned, place, width, known)? {
-        Some((_key, read)) => add_read(partial, read),
+    let mut made = None;
+    match read_at(alloc, pinned, place, width, known, &mut made)? {
+        Some((_key, row)) => partial.add(row),
         None => Ok(()),
     }
 }

@@ -11,15 +11,17 @@ ghost use Rattle.write_set.specs.Writes.{Ascend};
 ghost use Rattle.group_view.specs.Parts.{packed_versions, IsFitting};
 ghost use Rattle.batch_scan.specs.Reads.{is_read};
 ghost use Rattle.group_view.specs.Views.{rowed_of};
+ghost use Rattle.row_work.specs.Bounds.{KeepsWithin};
 ghost use Rattle.row_work.specs.Named.{rows_at};
-ghost use Rattle.row_work.specs.Reads.{own_row, read_by, read_row, row_in, rowed_at, shown_by, HasSnapshot, MayRead};
+ghost use Rattle.row_work.specs.Reads.{own_row, read_by, read_row, rowed_at, shown_by, HasSnapshot, MayRead};
 ghost use Rattle.row_work.specs.Sources.{chosen_at, chosen_edit, rows_as_edits, row_of, IsShown};
 ghost use Rattle.row_work.specs.Stores.{read_at_position, PassesAt};
 
-use crate::by_key::{positions_read, read_at_position};
+use crate::bounds::{Bounds, named_bounds};
+use crate::by_key::{in_order, positions_read, read_at_position};
 use crate::lookup::read_at_key;
 use crate::named::named_keys;
-use crate::reading::{ReadRow, has_row_shown, read_at, row_at};
+use crate::reading::{has_row_shown, read_at, row_at};
 use batch_aggregate::keeps;
 use batch_scan::{is_skipped, kept_positions};
 use cs_base::Memory;
@@ -51,11 +53,11 @@ fn choose_read(
     schema: &Schema,
     condition: &Option<Pred>,
     one: Chosen,
-    read: ReadRow<'_>,
+    row: &Row,
 ) -> Result<(), Memory>
-    ensures { OnOk result (chosen.new.items ≡ chosen.old.items ++ (if keeps schema.now condition.now (row_in read.entry) then one ∷ [] else [])) }
+    ensures { OnOk result (chosen.new.items ≡ chosen.old.items ++ (if keeps schema.now condition.now row.now then one ∷ [] else [])) }
 {
-    if keeps(schema, condition, read.row()) {
+    if keeps(schema, condition, row) {
         chosen.push(one)?;
     }
     Ok(())
@@ -82,10 +84,11 @@ fn choose_at_positions(
             group,
             position: *position,
         };
-        let (key, read) = read_at_position(alloc, pinned, place, width)?;
+        let mut made = None;
+        let (key, row) = read_at_position(alloc, pinned, place, width, &mut made)?;
         let source = Source::Shown(place);
         let one = Chosen { key, source };
-        choose_read(chosen, schema, condition, one, read)?;
+        choose_read(chosen, schema, condition, one, row)?;
     }
     Ok(())
 }
@@ -109,9 +112,10 @@ fn choose_versions(
     let len = pinned.view.groups.at(group).1.len();
     for position in 0..len {
         let place = Place { group, position };
-        if let Some((key, read)) = read_at(alloc, pinned, place, width, &None)? {
+        let mut made = None;
+        if let Some((key, row)) = read_at(alloc, pinned, place, width, &None, &mut made)? {
             let source = Source::Shown(place);
-            choose_read(chosen, schema, condition, Chosen { key, source }, read)?;
+            choose_read(chosen, schema, condition, Chosen { key, source }, row)?;
         }
     }
     Ok(())
@@ -187,8 +191,8 @@ fn choose_in_whole(
     }
 }
 
-/// Chooses the rows of a group that are read and that the condition keeps. Rows of which their keys tell that the condition does not
-/// keep them may be passed over.
+/// Chooses the rows of a group that are read and that the condition keeps, which all are of these keys. Rows of other keys may be
+/// passed over.
 fn choose_in_group(
     alloc: Global,
     chosen: &mut Vec<Chosen>,
@@ -196,17 +200,20 @@ fn choose_in_group(
     condition: &Option<Pred>,
     pinned: &Pinned,
     group: usize,
+    bounds: Bounds,
 ) -> Result<(), Memory>
     requires there { group < length pinned.now.view.groups }
     requires may { MayRead schema.now pinned.now }
+    requires within { KeepsWithin schema.now condition.now bounds }
     requires shown { All (IsShown pinned.now) chosen.old.items }
     ensures rows { OnOk result (map (chosen_edit (length schema.now.columns) pinned.now) chosen.new.items ≡ map (chosen_edit (length schema.now.columns) pinned.now) chosen.old.items ++ rows_as_edits (spec.chosen schema.now condition.now (filter_map (read_row (length schema.now.columns) pinned.now) (rowed_at pinned.now.view group)))) }
     ensures shown { OnOk result (All (IsShown pinned.now) chosen.new.items) }
 {
-    match positions_read(alloc, schema, condition, pinned, group)? {
-        Some(positions) => choose_at_positions(
-            alloc, chosen, schema, condition, pinned, group, &positions,
-        ),
+    match positions_read(alloc, pinned, group, bounds)? {
+        Some(found) => {
+            let positions = in_order(found);
+            choose_at_positions(alloc, chosen, schema, condition, pinned, group, &positions)
+        }
         None => choose_in_whole(alloc, chosen, schema, condition, pinned, group),
     }
 }
@@ -222,9 +229,10 @@ fn choose_shown(
     ensures rows { IfOk result (λ chosen. map (chosen_edit (length schema.now.columns) pinned.now) chosen.items ≡ rows_as_edits (spec.chosen schema.now condition.now (filter_map (read_row (length schema.now.columns) pinned.now) (rowed_of pinned.now.view)))) }
     ensures shown { IfOk result (λ chosen. All (IsShown pinned.now) chosen.items) }
 {
+    let bounds = named_bounds(schema, condition);
     let mut chosen = Vec::new(alloc);
     for group in 0..pinned.view.len() {
-        choose_in_group(alloc, &mut chosen, schema, condition, pinned, group)?;
+        choose_in_group(alloc, &mut chosen, schema, condition, pinned, group, bounds)?;
     }
     Ok(chosen)
 }
@@ -246,13 +254,7 @@ fn choose_own(
         if let Some(row) = &write.row {
             let key = write.key;
             let source = Source::Own(i);
-            choose_read(
-                chosen,
-                schema,
-                condition,
-                Chosen { key, source },
-                ReadRow::Lent(row),
-            )?;
+            choose_read(chosen, schema, condition, Chosen { key, source }, row)?;
         }
     }
     Ok(())
@@ -302,9 +304,10 @@ fn choose_at_keys(
     let width = schema.columns.len();
     let mut chosen = Vec::new(alloc);
     for key in keys {
-        if let Some((source, read)) = read_at_key(alloc, pinned, *key, width)? {
+        let mut made = None;
+        if let Some((source, row)) = read_at_key(alloc, pinned, *key, width, &mut made)? {
             let one = Chosen { key: *key, source };
-            choose_read(&mut chosen, schema, condition, one, read)?;
+            choose_read(&mut chosen, schema, condition, one, row)?;
         }
     }
     Ok(chosen)
@@ -338,19 +341,20 @@ fn own_row_at(own: &Own, i: usize) -> &Row
     }
 }
 
-/// The row that stands at a source, in so many cells where it is one of the view.
+/// The row that stands at a source, in so many cells where it is one of the view, lent as `row_at` has it.
 pub fn row_of<'a>(
     alloc: Global,
     pinned: &'a Pinned,
     source: Source,
     width: usize,
-) -> Result<ReadRow<'a>, Memory>
+    made: &'a mut Option<Row>,
+) -> Result<&'a Row, Memory>
     requires { IsSome (row_of width pinned.now source) }
-    ensures { IfOk result (λ read. row_of width pinned.now source ≡ Some (row_in read)) }
+    ensures { IfOk result (λ row. row_of width pinned.now source ≡ Some row.now) }
 {
     match source {
-        Source::Shown(place) => row_at(alloc, &pinned.view, place, width),
-        Source::Own(i) => Ok(ReadRow::Lent(own_row_at(&pinned.own, i))),
+        Source::Shown(place) => row_at(alloc, &pinned.view, place, width, made),
+        Source::Own(i) => Ok(own_row_at(&pinned.own, i)),
     }
 }
 

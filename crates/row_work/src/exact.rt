@@ -1,6 +1,6 @@
 //! Conditions that keep the rows of a range of keys and no others.
 
-ghost use Rattle.std.specs.Prelude.{◌≡◌, ◌&&◌, ℤ, List, FitsSigned, IfSome};
+ghost use Rattle.std.specs.Prelude.{◌≡◌, ◌&&◌, ℤ, List, FitsSigned, IfSome, None, Some, if◌then◌else◌, true};
 ghost use Rattle.std.specs.Int.{w64};
 ghost use Rattle.std.specs.Ordering.{int_cmp};
 ghost use Rattle.cs_types.specs.declared.Key.{Key};
@@ -12,9 +12,9 @@ ghost use Rattle.cs_model.specs.Held.{IsRowAt};
 ghost use Rattle.cs_model.specs.Truths as spec;
 ghost use Rattle.cs_model.specs.declared.pred.Relation.{Relation as Sign};
 ghost use Rattle.delta_store.specs.Index.{is_between};
-ghost use Rattle.row_work.specs.Bounds.{IsRange, IsRangeBeside, KeepsRange};
+ghost use Rattle.row_work.specs.Bounds.{IsKeyRange, IsRange, IsRangeBeside, KeepsRange};
 
-use crate::bounds::{Bounds, meet, turned};
+use crate::bounds::{Bounds, meet, named_bounds, turned};
 use cs_model::{Operand, Pred, Relation};
 use cs_types::{ColumnType, Key, Loose, Schema};
 
@@ -163,12 +163,52 @@ fn range_of(schema: &Schema, pred: &Pred) -> Option<Bounds>
 
 /// The keys of the rows that a condition keeps, where it keeps each row of the table with one of these keys and no other: where it
 /// names a range of keys, and nothing else.
-pub fn kept_range(schema: &Schema, condition: &Option<Pred>) -> Option<Bounds>
+fn kept_range(schema: &Schema, condition: &Option<Pred>) -> Option<Bounds>
     requires { IsSchema schema.now }
     ensures { IfSome result (KeepsRange schema.now condition.now) }
 {
     match condition {
         Some(pred) => range_of(schema, pred),
         None => None,
+    }
+}
+
+/// The keys of the rows that a condition may keep, and whether it keeps each row of the table with one of these keys.
+#[derive(Clone, Copy, Debug, PartialEq, Eq)]
+pub struct KeyRange {
+    pub bounds: Bounds,
+    pub is_exact: bool,
+}
+
+impl KeyRange {
+    /// The bounds of the keys, where the condition keeps each row of the table with one of these keys.
+    pub fn exact(self) -> Option<Bounds>
+        ensures { result ≡ (if self.is_exact then Some self.bounds else None) }
+    {
+        if self.is_exact {
+            Some(self.bounds)
+        } else {
+            None
+        }
+    }
+}
+
+/// The range of keys that a condition names: all keys where it names none.
+pub fn key_range(schema: &Schema, condition: &Option<Pred>) -> KeyRange
+    requires { IsSchema schema.now }
+    ensures { IsKeyRange schema.now condition.now result }
+{
+    match kept_range(schema, condition) {
+        Some(bounds) => KeyRange {
+            bounds,
+            is_exact: true,
+        },
+        None => {
+            let bounds = named_bounds(schema, condition);
+            KeyRange {
+                bounds,
+                is_exact: false,
+            }
+        }
     }
 }

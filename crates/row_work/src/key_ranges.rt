@@ -1,6 +1,6 @@
 //! The rows of a packed group that a statement reads, found by their keys.
 
-ghost use Rattle.std.specs.Prelude.{◌≡◌, ◌≤◌, length, IfOk, IfSome};
+ghost use Rattle.std.specs.Prelude.{◌≡◌, ◌≤◌, length, IfOk, IfSome, IsPermutation};
 ghost use Rattle.cs_types.specs.Keys.{key_cmp};
 ghost use Rattle.row_group.specs.Groups.{precedes, IsFirstPlace};
 ghost use Rattle.row_work.specs.Ranges.{ArePlacesWithin, AreReadBetween, HasKeysOf};
@@ -78,8 +78,11 @@ fn read_positions(
 /// A row that is found by its key takes about as much time as a scan by codes takes for so many rows.
 const SCANNED: usize = 256;
 
-/// The positions of the versions that are read in a packed group of the view, of these keys alone, in their order. None where so many
-/// of its rows are of these keys that a scan of all takes less time.
+/// So few rows are found by their keys in any group: a scan by codes takes more time than that for its masks and tables alone.
+const FEW: usize = 8;
+
+/// The positions of the versions that are read in a packed group of the view, of these keys alone, in no order. None where so many of
+/// its rows are of these keys that a scan of all takes less time.
 pub fn positions_in_range(
     alloc: Global,
     pinned: &Pinned,
@@ -88,16 +91,15 @@ pub fn positions_in_range(
     bounds: Bounds,
 ) -> Result<Option<Vec<usize>>, Memory>
     requires { HasKeysOf pinned.now group packed.now }
-    ensures { IfOk result (λ found. IfSome found (λ positions. positions.items ≡ positions_of (is_read_within pinned.now bounds) (rowed_at pinned.now.view group))) }
+    ensures { IfOk result (λ found. IfSome found (λ positions. IsPermutation positions.items (positions_of (is_read_within pinned.now bounds) (rowed_at pinned.now.view group)))) }
 {
     if bounds == ALL {
         return Ok(None);
     }
     let places = places_within(packed, bounds);
-    if places.to - places.from > packed.places().len() / SCANNED {
+    if places.to - places.from > (packed.places().len() / SCANNED).max(FEW) {
         return Ok(None);
     }
-    let mut positions = read_positions(alloc, pinned, group, packed, places)?;
-    positions.sort_unstable();
+    let positions = read_positions(alloc, pinned, group, packed, places)?;
     Ok(Some(positions))
 }

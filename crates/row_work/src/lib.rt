@@ -4,8 +4,8 @@
 //! Its one contract: what a statement reads is a function of what is pinned for it, the rows that its snapshot sees in a view of
 //! the row groups with the own writes laid over them, and each answer is what the definitions of `cs_model` give over that table,
 //! or want of memory. Where a condition names keys, the rows at these keys alone are read; where it bounds them, few rows of a group
-//! are found by their keys, in delta stores and packed groups alike; and where it says no more than that, the codes of a packed group
-//! are tallied without a verdict. No row of a delta store that has the table's columns is copied to be read. It stands on
+//! are found by their keys, in delta stores and packed groups alike; and where it says no more than that, rows of a store and codes of a
+//! packed group are tallied without a verdict. No row of a delta store that has the table's columns is copied to be read. It depends on
 //! `group_view`, `delta_store` and `write_set` for what is read, on `batch_scan` and `batch_filter` for what of a packed group is
 //! read and kept, on `cs_predicate` for expressions, and on `batch_aggregate` and `code_tallies` for answers.
 #![tactic(auto)]
@@ -19,6 +19,7 @@ mod delete;
 mod exact;
 mod insert;
 mod key_ranges;
+mod listed;
 mod lookup;
 mod named;
 mod packed;

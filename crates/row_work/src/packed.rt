@@ -42,7 +42,7 @@ fn tally_kept(
     packed: &Packed,
     shown: Option<&Positions>,
     sieve: &Option<Sieve>,
-    batch: &mut Batch,
+    batch: &mut Option<Batch>,
 ) -> Result<bool, Memory>
     requires { sieve.now ≡ verdicts_of partial.old.schema.now partial.old.query.now.filter packed.now }
     ensures schema { partial.new.schema.now ≡ partial.old.schema.now }
@@ -50,9 +50,10 @@ fn tally_kept(
     ensures tallied { (rows : List (List Value)) → StandsFor partial.old rows → IfOk result (λ done. done ≡ true → StandsFor partial.new (rows ++ shown_rows packed.now (option_copied shown.entry))) }
     ensures declined { IfOk result (λ done. done ≡ false → partial.new ≡ partial.old) }
 {
+    let room = batch.get_or_insert_with(Batch::new);
     match sieve {
-        Some(sieve) => tally_group(alloc, partial, packed, shown, sieve, batch),
-        None => tally_group(alloc, partial, packed, shown, &EveryRow, batch),
+        Some(sieve) => tally_group(alloc, partial, packed, shown, sieve, room),
+        None => tally_group(alloc, partial, packed, shown, &EveryRow, room),
     }
 }
 
@@ -65,7 +66,7 @@ fn tally_shown(
     width: usize,
     shown: &Shown,
     sieve: &Option<Sieve>,
-    batch: &mut Batch,
+    batch: &mut Option<Batch>,
 ) -> Result<bool, Memory>
     requires { sieve.now ≡ verdicts_of partial.old.schema.now partial.old.query.now.filter packed.now }
     ensures schema { partial.new.schema.now ≡ partial.old.schema.now }
@@ -96,7 +97,7 @@ fn add_positions(
     group: usize,
     packed: &Packed,
     shown: Shown,
-    batch: &mut Batch,
+    batch: &mut Option<Batch>,
 ) -> Result<(), Memory>
     requires there { group < length pinned.now.view.groups }
     requires fitting { All (λ group. IsFitting group.1) pinned.now.view.groups }
@@ -132,7 +133,7 @@ pub fn add_packed(
     group: usize,
     packed: &Packed,
     marks: &Marks,
-    batch: &mut Batch,
+    batch: &mut Option<Batch>,
 ) -> Result<(), Memory>
     requires there { group < length pinned.now.view.groups }
     requires fitting { All (λ group. IsFitting group.1) pinned.now.view.groups }

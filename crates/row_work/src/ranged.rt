@@ -2,13 +2,13 @@
 
 ghost use Rattle.std.specs.Prelude.{◌≡◌, ◌++◌, List, false, length, true, IfOk};
 ghost use Rattle.cs_types.specs.declared.Value.{Value};
-ghost use Rattle.cs_types.specs.Schemas.{IsSchema};
 ghost use Rattle.batch_aggregate.specs.Standing.{StandsFor};
 ghost use Rattle.group_view.specs.Parts.{packed_versions};
+ghost use Rattle.row_work.specs.Bounds.{IsKeyRange};
 ghost use Rattle.row_work.specs.Sieved.{read_in};
 ghost use Rattle.row_work.specs.Stores.{AreRowsRead};
 
-use crate::exact::kept_range;
+use crate::exact::KeyRange;
 use crate::key_ranges::places_within;
 use batch_aggregate::Partial;
 use batch_scan::Shown;
@@ -36,9 +36,10 @@ pub fn tally_range(
     pinned: &Pinned,
     packed: &Packed,
     marks: &Marks,
-    batch: &mut Batch,
+    range: KeyRange,
+    batch: &mut Option<Batch>,
 ) -> Result<bool, Memory>
-    requires table { IsSchema schema.now }
+    requires range { IsKeyRange schema.now query.now.filter range }
     requires fits { length marks.now ≡ length packed.now.rows }
     requires rows { AreRowsRead schema.now pinned.now (packed_versions packed.now.key packed.now.rows marks.now) }
     requires of_schema { partial.old.schema.now ≡ schema.now }
@@ -51,7 +52,7 @@ pub fn tally_range(
     if !query.grouped || packed.width() != schema.columns.len() {
         return Ok(false);
     }
-    let Some(bounds) = kept_range(schema, &query.filter) else {
+    let Some(bounds) = range.exact() else {
         return Ok(false);
     };
     let places = places_within(packed, bounds);
@@ -64,5 +65,6 @@ pub fn tally_range(
     }
     let shown = Shown::of(alloc, pinned, packed, marks)?;
     let set = shown.among(alloc, packed.len(), positions)?;
-    tally_group(alloc, partial, packed, Some(&set), &EveryRow, batch)
+    let room = batch.get_or_insert_with(Batch::new);
+    tally_group(alloc, partial, packed, Some(&set), &EveryRow, room)
 }

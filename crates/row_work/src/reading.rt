@@ -1,56 +1,76 @@
 // What a statement reads of what is pinned for it.
-ghost use Rattle.std.specs.Prelude.{◌≡◌, ℕ, IfOk, IsSome, Some};
+ghost use Rattle.std.specs.Prelude.{◌≡◌, ◌<◌, ℕ, List, length, IfOk, IsSome, Some};
+ghost use Rattle.std.specs.Borrow.{Bor};
 ghost use Rattle.std.specs.Option.{option_map, option_and_then};
 ghost use Rattle.cs_types.specs.declared.Key.{Key};
+ghost use Rattle.cs_types.specs.declared.Value.{Value};
+ghost use Rattle.cs_types.specs.Rows.{cell_at};
 ghost use Rattle.cs_model.specs.Obstacles.{has_row};
 ghost use Rattle.group_view.specs.Parts.{padded};
 ghost use Rattle.group_view.specs.Views.{version_at};
-ghost use Rattle.row_work.specs.declared.reading.ReadRow.{ReadRow};
-ghost use Rattle.row_work.specs.Reads.{read_by, read_key, read_row, row_in, shown_by, HasSnapshot, IsKnown};
+ghost use Rattle.row_group.specs.Groups.{row_at as packed_at};
+ghost use Rattle.row_work.specs.Reads.{read_by, read_key, read_row, shown_by, HasSnapshot, IsKnown};
 
 use batch_scan::{Shown, key_seen};
 use cs_base::Memory;
-use cs_types::{Key, Row};
+use cs_types::{Key, Row, Value};
 use group_view::{GroupRef, GroupView, Pinned, Place};
+use row_group::Packed;
 use std::alloc::Global;
 
-/// A row that is read: lent where it stands, or made for the reading.
-#[derive(Drop)]
-pub enum ReadRow<'a> {
-    Lent(&'a Row),
-    Made(Row),
+/// The cell of a column of a packed group at a position, NULL where the group has no such column.
+fn packed_cell(
+    alloc: Global,
+    packed: &Packed,
+    position: usize,
+    column: usize,
+) -> Result<Value, Memory>
+    requires { position < length packed.now.rows }
+    ensures { IfOk result (λ cell. cell ≡ cell_at (packed_at packed.now position).cells column) }
+{
+    if column >= packed.width() {
+        return Ok(Value::Null);
+    }
+    packed.segment(column).cell(position).to_value(alloc)
 }
 
-impl<'a> ReadRow<'a> {
-    /// The row.
-    pub fn row(&self) -> &Row
-        ensures { result.now ≡ row_in self.now }
-    {
-        match self {
-            ReadRow::Lent(row) => row,
-            ReadRow::Made(row) => row,
-        }
+/// The row at a position of a packed group in so many cells. No other cell is read.
+fn packed_row(alloc: Global, packed: &Packed, position: usize, width: usize) -> Result<Row, Memory>
+    requires { position < length packed.now.rows }
+    ensures { IfOk result (λ row. row ≡ padded width (packed_at packed.now position).cells) }
+{
+    let mut row = Row::new(alloc);
+    for column in 0..width {
+        row.push(packed_cell(alloc, packed, position, column)?)?;
     }
+    Ok(row)
 }
 
 /// The row of the version at a place in so many cells. A row of a delta store that has as many is lent where it stands; another
-/// one, and one of a packed group, is made.
+/// one, and one of a packed group, is made, and lent from `made`.
 pub fn row_at<'a>(
     alloc: Global,
     view: &'a GroupView,
     place: Place,
     width: usize,
-) -> Result<ReadRow<'a>, Memory>
+    made: &'a mut Option<Row>,
+) -> Result<&'a Row, Memory>
     requires { IsSome (version_at view.now place) }
-    ensures { IfOk result (λ read. option_map (λ rowed. padded width rowed.row) (version_at view.now place) ≡ Some (row_in read)) }
+    ensures { IfOk result (λ row. option_map (λ rowed. padded width rowed.row) (version_at view.now place) ≡ Some row.now) }
 {
-    if let GroupRef::Store(store) = view.group(place.group) {
-        let row = &store.get(place.position).row;
-        if row.len() == width {
-            return Ok(ReadRow::Lent(row));
+    match view.group(place.group) {
+        GroupRef::Packed(packed, _) => {
+            let row = packed_row(alloc, packed, place.position, width)?;
+            Ok(made.insert(row))
+        }
+        GroupRef::Store(store) => {
+            let row = &store.get(place.position).row;
+            if row.len() == width {
+                return Ok(row);
+            }
+            Ok(made.insert(view.row(alloc, place, width)?))
         }
     }
-    Ok(ReadRow::Made(view.row(alloc, place, width)?))
 }
 
 /// The key of the version at a place of a packed group, where the statement reads it, by the positions that are read.
@@ -78,21 +98,25 @@ fn key_read(pinned: &Pinned, place: Place, known: &Option<Shown>) -> Option<Key>
     }
 }
 
-/// The version at a place as it is read, by what is known of its group: its row in so many cells, with its key. None where it is
-/// not read.
+/// The version at a place as it is read, by what is known of its group: its row in so many cells, lent as `row_at` has it, with its
+/// key. None where it is not read.
 pub fn read_at<'a>(
     alloc: Global,
     pinned: &'a Pinned,
     place: Place,
     width: usize,
     known: &Option<Shown>,
-) -> Result<Option<(Key, ReadRow<'a>)>, Memory>
+    made: &'a mut Option<Row>,
+) -> Result<Option<(Key, &'a Row)>, Memory>
     requires there { IsSome (version_at pinned.now.view place) }
     requires known { IsKnown pinned.now place.group known.now }
-    ensures { IfOk result (λ read. option_map (λ (entry : Key × ReadRow). (entry.0, row_in entry.1)) read ≡ option_and_then (read_row width pinned.now) (version_at pinned.now.view place)) }
+    ensures { IfOk result (λ read. option_map (λ (entry : Key × Bor (List Value)). (entry.0, entry.1.now)) read ≡ option_and_then (read_row width pinned.now) (version_at pinned.now.view place)) }
 {
     match key_read(pinned, place, known) {
-        Some(key) => Ok(Some((key, row_at(alloc, &pinned.view, place, width)?))),
+        Some(key) => {
+            let row = row_at(alloc, &pinned.view, place, width, made)?;
+            Ok(Some((key, row)))
+        }
         None => Ok(None),
     }
 }

@@ -1,21 +1,23 @@
 //! The rows of a SELECT, added to a partial answer.
 
-ghost use Rattle.std.specs.Prelude.{◌≡◌, ◌-◌, ◌++◌, ◌<◌, ◌≤◌, List, length, take, drop, All, OnOk};
+ghost use Rattle.std.specs.Prelude.{◌≡◌, ◌-◌, ◌++◌, ◌<◌, ◌≤◌, List, [], filter, length, take, drop, All, OnOk};
+ghost use Rattle.std.specs.Bool.{OnTrue};
 ghost use Rattle.std.specs.List.{filter_map};
 ghost use Rattle.std.specs.Map.{values_of};
 ghost use Rattle.cs_types.specs.declared.Value.{Value};
-ghost use Rattle.cs_model.specs.Queries.{Gives, answer};
+ghost use Rattle.cs_model.specs.Queries.{Gives, answer, keeps};
 ghost use Rattle.batch_aggregate.specs.Standing.{StandsFor};
 ghost use Rattle.write_set.specs.Writes.{Ascend};
-ghost use Rattle.batch_scan.specs.Reads.{is_read};
-ghost use Rattle.group_view.specs.Parts.{packed_versions};
+ghost use Rattle.group_view.specs.Parts.{packed_versions, IsFitting};
+ghost use Rattle.row_work.specs.Bounds.{IsKeyRange};
 ghost use Rattle.row_work.specs.Named.{rows_at};
 ghost use Rattle.row_work.specs.Reads.{own_row, read_by, read_of, rowed_at, HasSnapshot, MayRead};
 ghost use Rattle.row_work.specs.Sieved.{read_in};
-ghost use Rattle.row_work.specs.Stores.{read_at_position, PassesAt};
 
-use crate::adding::{add_read, add_versions};
-use crate::by_key::{positions_read, read_at_position};
+use crate::adding::add_versions;
+use crate::by_key::positions_read;
+use crate::exact::{KeyRange, key_range};
+use crate::listed::add_found;
 use crate::lookup::read_at_key;
 use crate::packed::add_packed;
 use crate::ranged::tally_range;
@@ -26,38 +28,24 @@ use cs_base::{Items, Memory};
 use cs_model::{AnswerRefusal, AnswerRow, Query};
 use cs_types::{Key, Schema};
 use delete_bitmap::Marks;
-use group_view::{GroupRef, Pinned, Place};
+use group_view::{GroupRef, Pinned};
 use row_group::Packed;
 use std::alloc::Global;
 use write_set::Own;
 
-/// Adds the rows of versions of a group that are read, by their positions, in so many cells.
-fn add_at_positions(
-    alloc: Global,
-    partial: &mut Partial<'_>,
-    pinned: &Pinned,
-    group: usize,
-    width: usize,
-    positions: &[usize],
-) -> Result<(), Memory>
-    requires { All (PassesAt (is_read pinned.now) (rowed_at pinned.now.view group)) positions.now }
-    ensures schema { partial.new.schema.now ≡ partial.old.schema.now }
-    ensures query { partial.new.query.now ≡ partial.old.query.now }
-    ensures added { (rows : List (List Value)) → StandsFor partial.old rows → OnOk result (StandsFor partial.new (rows ++ values_of (filter_map (read_at_position width pinned.now (rowed_at pinned.now.view group)) positions.now))) }
+/// Whether the least and greatest cells of the columns of a packed group tell that the filter keeps none of its rows.
+fn is_passed_over(schema: &Schema, query: &Query, pinned: &Pinned, group: usize) -> bool
+    requires there { group < length pinned.now.view.groups }
+    requires fitting { All (λ group. IsFitting group.1) pinned.now.view.groups }
+    ensures { OnTrue result (filter (keeps schema.now query.now.filter) (read_in (length schema.now.columns) pinned.now (rowed_at pinned.now.view group)) ≡ []) }
 {
-    for position in positions {
-        let place = Place {
-            group,
-            position: *position,
-        };
-        let (_key, read) = read_at_position(alloc, pinned, place, width)?;
-        add_read(partial, read)?;
+    match pinned.view.group(group) {
+        GroupRef::Packed(packed, _) => is_skipped(schema, query.filter.as_ref(), packed),
+        GroupRef::Store(_) => false,
     }
-    Ok(())
 }
 
-/// Adds the rows of a packed group that are read: by their keys where the filter names a range of these, and else by verdicts. Where
-/// the least and greatest cells of its columns tell that the filter keeps none of them, none is read.
+/// Adds the rows of a packed group that are read: by their keys where the filter keeps a range of these, and else by verdicts.
 fn add_by_codes(
     alloc: Global,
     partial: &mut Partial<'_>,
@@ -67,22 +55,23 @@ fn add_by_codes(
     group: usize,
     packed: &Packed,
     marks: &Marks,
-    batch: &mut Batch,
+    range: KeyRange,
+    batch: &mut Option<Batch>,
 ) -> Result<(), Memory>
     requires there { group < length pinned.now.view.groups }
     requires may { MayRead schema.now pinned.now }
     requires versions { rowed_at pinned.now.view group ≡ packed_versions packed.now.key packed.now.rows marks.now }
     requires marks { length marks.now ≡ length packed.now.rows }
+    requires range { IsKeyRange schema.now query.now.filter range }
     requires of_schema { partial.old.schema.now ≡ schema.now }
     requires of_query { partial.old.query.now ≡ query.now }
     ensures schema { partial.new.schema.now ≡ partial.old.schema.now }
     ensures query { partial.new.query.now ≡ partial.old.query.now }
     ensures added { (rows : List (List Value)) → StandsFor partial.old rows → OnOk result (StandsFor partial.new (rows ++ read_in (length schema.now.columns) pinned.now (rowed_at pinned.now.view group))) }
 {
-    if is_skipped(schema, query.filter.as_ref(), packed) {
-        return Ok(());
-    }
-    let is_tallied = tally_range(alloc, partial, schema, query, pinned, packed, marks, batch)?;
+    let is_tallied = tally_range(
+        alloc, partial, schema, query, pinned, packed, marks, range, batch,
+    )?;
     if is_tallied {
         return Ok(());
     }
@@ -99,10 +88,12 @@ fn add_whole(
     query: &Query,
     pinned: &Pinned,
     group: usize,
-    batch: &mut Batch,
+    range: KeyRange,
+    batch: &mut Option<Batch>,
 ) -> Result<(), Memory>
     requires there { group < length pinned.now.view.groups }
     requires may { MayRead schema.now pinned.now }
+    requires range { IsKeyRange schema.now query.now.filter range }
     requires of_schema { partial.old.schema.now ≡ schema.now }
     requires of_query { partial.old.query.now ≡ query.now }
     ensures schema { partial.new.schema.now ≡ partial.old.schema.now }
@@ -113,14 +104,15 @@ fn add_whole(
     match pinned.view.group(group) {
         GroupRef::Packed(packed, marks) => {
             add_by_codes(
-                alloc, partial, schema, query, pinned, group, packed, marks, batch,
+                alloc, partial, schema, query, pinned, group, packed, marks, range, batch,
             )
         }
         GroupRef::Store(_) => add_versions(alloc, partial, pinned, group, width, &None, &None),
     }
 }
 
-/// Adds the rows of a group that are read. Rows of which their keys tell that the filter does not keep them may be left out.
+/// Adds the rows of a group that are read. Where their keys or the least and greatest cells tell that the filter does not keep them,
+/// they may be left out.
 fn add_group(
     alloc: Global,
     partial: &mut Partial<'_>,
@@ -128,21 +120,25 @@ fn add_group(
     query: &Query,
     pinned: &Pinned,
     group: usize,
-    batch: &mut Batch,
+    range: KeyRange,
+    batch: &mut Option<Batch>,
 ) -> Result<(), Memory>
     requires there { group < length pinned.now.view.groups }
     requires may { MayRead schema.now pinned.now }
+    requires range { IsKeyRange schema.now query.now.filter range }
     requires of_schema { partial.old.schema.now ≡ schema.now }
     requires of_query { partial.old.query.now ≡ query.now }
     ensures schema { partial.new.schema.now ≡ partial.old.schema.now }
     ensures query { partial.new.query.now ≡ partial.old.query.now }
     ensures added { (rows : List (List Value)) → StandsFor partial.old rows → OnOk result (StandsFor partial.new (rows ++ read_in (length schema.now.columns) pinned.now (rowed_at pinned.now.view group))) }
 {
-    let width = schema.columns.len();
-    match positions_read(alloc, schema, &query.filter, pinned, group)? {
-        Some(positions) => add_at_positions(alloc, partial, pinned, group, width, &positions),
-        None => add_whole(alloc, partial, schema, query, pinned, group, batch),
+    if let Some(found) = positions_read(alloc, pinned, group, range.bounds)? {
+        return add_found(alloc, partial, schema, query, pinned, group, range, found);
     }
+    if is_passed_over(schema, query, pinned, group) {
+        return Ok(());
+    }
+    add_whole(alloc, partial, schema, query, pinned, group, range, batch)
 }
 
 /// Adds the rows that are read of the groups of the view from one place up to another, group after group.
@@ -163,9 +159,12 @@ pub fn add_groups(
     ensures query { partial.new.query.now ≡ partial.old.query.now }
     ensures added { (rows : List (List Value)) → StandsFor partial.old rows → OnOk result (StandsFor partial.new (rows ++ read_of (length schema.now.columns) pinned.now (take (to - from) (drop from pinned.now.view.groups)))) }
 {
-    let mut batch = Batch::new();
+    let range = key_range(schema, &query.filter);
+    let mut batch = None;
     for group in from..to {
-        add_group(alloc, partial, schema, query, pinned, group, &mut batch)?;
+        add_group(
+            alloc, partial, schema, query, pinned, group, range, &mut batch,
+        )?;
     }
     Ok(())
 }
@@ -200,8 +199,9 @@ fn add_at_keys(
     ensures added { (rows : List (List Value)) → StandsFor partial.old rows → OnOk result (StandsFor partial.new (rows ++ values_of (rows_at (read_by width pinned.now) keys.now))) }
 {
     for key in keys {
-        if let Some((_source, read)) = read_at_key(alloc, pinned, *key, width)? {
-            add_read(partial, read)?;
+        let mut made = None;
+        if let Some((_source, row)) = read_at_key(alloc, pinned, *key, width, &mut made)? {
+            partial.add(row)?;
         }
     }
     Ok(())

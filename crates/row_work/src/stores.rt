@@ -1,6 +1,6 @@
 //! The rows of a delta store that a statement reads, found by the keys of the store.
 
-ghost use Rattle.std.specs.Prelude.{◌≡◌, ℕ, IfNone, IfOk, IfSome, IsPermutation, Some};
+ghost use Rattle.std.specs.Prelude.{ℕ, IfNone, IfOk, IfSome, IsPermutation, Some};
 ghost use Rattle.delta_store.specs.Versions.{IsLastPlace};
 ghost use Rattle.group_view.specs.Parts.{stored_versions};
 ghost use Rattle.row_work.specs.Stores.{is_read_of, is_read_within, positions_of, IsSeenOnce, PassesAt};
@@ -33,7 +33,7 @@ fn position_of(pinned: &Pinned, store: &Frozen, key: Key, last: usize) -> Option
 
 /// The positions of the versions that are read in a store, of these keys alone, in no order. Each key is visited once, from its last
 /// version back to the one that is read.
-fn scattered_positions(
+fn positions_within(
     alloc: Global,
     pinned: &Pinned,
     store: &Frozen,
@@ -49,21 +49,6 @@ fn scattered_positions(
             positions.push(position)?;
         }
     }
-    Ok(positions)
-}
-
-/// The same in their order.
-fn positions_within(
-    alloc: Global,
-    pinned: &Pinned,
-    store: &Frozen,
-    bounds: Bounds,
-) -> Result<Vec<usize>, Memory>
-    requires { IsSeenOnce pinned.now (stored_versions store.now) }
-    ensures { IfOk result (λ positions. positions.items ≡ positions_of (is_read_within pinned.now bounds) (stored_versions store.now)) }
-{
-    let mut positions = scattered_positions(alloc, pinned, store, bounds)?;
-    positions.sort_unstable();
     Ok(positions)
 }
 
@@ -88,8 +73,7 @@ fn is_by_key(store: &Frozen, bounds: Bounds) -> bool {
     store.ended() > store.len() / 2 || (bounds != ALL && !holds_many(store, bounds))
 }
 
-/// The positions of the versions that are read in a store, of these keys alone, in their order. None where each version is to be
-/// tested.
+/// The positions of the versions that are read in a store, of these keys alone, in no order. None where each version is to be tested.
 pub fn positions_in_store(
     alloc: Global,
     pinned: &Pinned,
@@ -97,7 +81,7 @@ pub fn positions_in_store(
     bounds: Bounds,
 ) -> Result<Option<Vec<usize>>, Memory>
     requires { IsSeenOnce pinned.now (stored_versions store.now) }
-    ensures { IfOk result (λ found. IfSome found (λ positions. positions.items ≡ positions_of (is_read_within pinned.now bounds) (stored_versions store.now))) }
+    ensures { IfOk result (λ found. IfSome found (λ positions. IsPermutation positions.items (positions_of (is_read_within pinned.now bounds) (stored_versions store.now)))) }
 {
     if !is_by_key(store, bounds) {
         return Ok(None);

@@ -87,8 +87,9 @@ fn updated_at(
     requires there { IsSome (row_of (length schema.now.columns) pinned.now source) }
     ensures { (old : List Value) → row_of (length schema.now.columns) pinned.now source ≡ Some old → GivesRow row (spec.updated_row schema.now sets.now old) result }
 {
-    let read = row_of(alloc, pinned, source, schema.columns.len())?;
-    updated_row(alloc, schema, sets, read.row(), row)
+    let mut made = None;
+    let old = row_of(alloc, pinned, source, schema.columns.len(), &mut made)?;
+    updated_row(alloc, schema, sets, old, row)
 }
 
 /// What an UPDATE makes of each chosen row. `Value` with the first refusal by row, counted among those that were chosen, and then by

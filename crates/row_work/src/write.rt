@@ -166,7 +166,7 @@ fn number_at(start: i64, stop: i64, i: u128) -> i64
     }
 }
 
-/// The number of the row behind these, counted from 1.
+/// The number of the row after these, counted from 1.
 fn next_row(rows: &[Row]) -> u64
     ensures { result ≡ length rows.now + 1 }
 {

@@ -4,3 +4,5 @@ pub mod Parcelled
 pub mod Seen
 pub mod Taken
 pub mod Working
+pub mod Crossing
+pub mod Ranges

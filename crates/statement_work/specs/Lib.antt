@@ -1,1 +1,3 @@
 pub mod Clerks
+pub mod Counted
+pub mod Parts

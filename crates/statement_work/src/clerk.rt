@@ -7,12 +7,13 @@ ghost use Rattle.statement_core.specs.Outcomes.{GivesOn};
 ghost use Rattle.statement_core.specs.Terms.{sizes_of, AreTerms};
 ghost use Rattle.statement_work.specs.Clerks.{IsBegun};
 
+use crate::turn::NoTurn;
+use crate::workers::answer;
 use crate::writes::{changed, refused, valued, written};
 use cs_base::Memory;
 use cs_model::{AnswerRefusal, Bound, InsertPlan, Pred, Query, Reply, UpdatePlan};
 use group_view::{Claim, Pinned, Product};
-use row_work::{deleted, inserted, segment_counts, updated};
-use scan_workers::{NoTurn, answer};
+use row_work::{deleted, inserted, updated};
 use statement_core::{Desk, Outcome, Started};
 use std::alloc::Global;
 use std::sync::Wait;
@@ -108,8 +109,8 @@ fn select<R: Threads>(
     let pinned = pinned_of(started);
     match answer(rt, alloc, &NoTurn, workers, schema, query, pinned) {
         Ok(found) => Outcome::Answer(Reply::Rows {
-            rows: found,
-            segments: Some(segment_counts(schema, &query.filter, pinned)),
+            rows: found.rows,
+            segments: Some((found.read, found.skipped)),
         }),
         Err(AnswerRefusal::Overflow { row, column }) => valued(8_115, row, column),
         Err(AnswerRefusal::Memory) => Outcome::Short,

@@ -1,13 +1,13 @@
 use Rattle.std.proofs.Common.{◌∙◌, ◌≡◌, ◌++◌, ◌∷◌, [], List, sym, subst}
 use Rattle.std.specs.Prelude.{OnOk}
+use Rattle.std.specs.Borrow.{Bor}
 use Rattle.std.specs.Option.{option_and_then}
 use Rattle.std.proofs.lemmas.List.{append-nil}
 use Rattle.cs_types.specs.declared.Key.{Key}
 use Rattle.cs_types.specs.declared.Value.{Value}
 use Rattle.batch_aggregate.specs.Standing.{StandsFor}
 use Rattle.group_view.specs.Views.{version_at}
-use Rattle.row_work.specs.declared.reading.ReadRow.{ReadRow}
-use Rattle.row_work.specs.Reads.{read_row, row_in}
+use Rattle.row_work.specs.Reads.{read_row}
 use Rattle.row_work.proofs.Found.{at_place}
 use Rattle.row_work.proofs.Scanned.{more_none, more_some}
 use Rattle.row_work.proofs.Sieved.{passed_by}
@@ -24,15 +24,15 @@ pub returns-in-Some-clause-added : goal.returns-in-Some-clause-added
 returns-in-Some-clause-added c = λ rows stands.
     let pinned = c.args.pinned.now in
     let read = option_and_then (read_row c.args.width pinned) (version_at pinned.view c.args.place) in
-    let entry : Key × ReadRow → Key × List Value = λ found. (found.0, row_in found.1) in
-    let After : List (List Value) → Type 0 = λ all. OnOk c.add_read.result (StandsFor c.add_read.new.partial all) in
+    let entry : Key × Bor (List Value) → Key × List Value = λ found. (found.0, found.1.now) in
+    let After : List (List Value) → Type 0 = λ all. OnOk c.add.result (StandsFor c.add.new.self all) in
     more_some (λ all. all ≡ rows) After [] entry _ _ read c.in_ok-_key.ensures c.in-Some.is
-    (λ all same. subst (λ l. After (l ++ row_in c.in-Some.read ∷ [])) (sym same) (c.add_read.ensures.added rows stands)) rows (append-nil rows)
+    (λ all same. subst (λ l. After (l ++ c.in-Some.row.now ∷ [])) (sym same) (c.add.ensures.added rows stands)) rows (append-nil rows)
 
-pub returns-in-None-clause-added : goal.returns-in-None-clause-added
-returns-in-None-clause-added c = λ rows stands.
+pub returns-clause-added : goal.returns-clause-added
+returns-clause-added c = λ rows stands.
     let pinned = c.args.pinned.now in
     let read = option_and_then (read_row c.args.width pinned) (version_at pinned.view c.args.place) in
-    let entry : Key × ReadRow → Key × List Value = λ found. (found.0, row_in found.1) in
+    let entry : Key × Bor (List Value) → Key × List Value = λ found. (found.0, found.1.now) in
     let After : List (List Value) → Type 0 = λ all. StandsFor c.args.partial.now all in
     more_none After After [] entry _ read c.in_ok-_key.ensures c.in-None.is (λ all same. same) rows (subst After (sym (append-nil rows)) stands)

@@ -1,7 +1,6 @@
 use Rattle.group_view.specs.Parts.{lived_version}
-use Rattle.row_work.specs.Reads.{row_in}
 use Rattle.row_work.proofs.Stored.{read_there}
 use Rattle.row_work.proofs.by_key.read_at_position.Goals as goal
 
 pub returns : goal.returns
-returns c = read_there c.args.width c.args.pinned.now c.args.place (lived_version c.version.result) (row_in c.in_ok-row_at.field-0) c.requires c.version.ensures c.in_ok-row_at.ensures
+returns c = read_there c.args.width c.args.pinned.now c.args.place (lived_version c.version.result) c.in_ok-row.row.now c.requires c.version.ensures c.in_ok-row.ensures

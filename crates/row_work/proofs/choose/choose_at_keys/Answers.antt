@@ -1,5 +1,6 @@
 use Rattle.std.proofs.Common.{◌∙◌, [], List, take, map, get_or, pos, ap, sym, subst}
 use Rattle.std.specs.Prelude.{slice_get}
+use Rattle.std.specs.Borrow.{Bor}
 use Rattle.std.specs.List.{All, filter_map}
 use Rattle.std.specs.Option.{option_and_then, option_map}
 use Rattle.std.proofs.lemmas.Option.{slice_get-get_or}
@@ -8,9 +9,8 @@ use Rattle.cs_types.specs.declared.Value.{Value}
 use Rattle.cs_model.specs.Queries.{keeps}
 use Rattle.row_work.specs.declared.choose.Chosen.{Chosen}
 use Rattle.row_work.specs.declared.choose.Source.{Source}
-use Rattle.row_work.specs.declared.reading.ReadRow.{ReadRow}
 use Rattle.row_work.specs.Named.{entry_at}
-use Rattle.row_work.specs.Reads.{read_by, row_in}
+use Rattle.row_work.specs.Reads.{read_by}
 use Rattle.row_work.specs.Sources.{chosen_edit, IsShown}
 use Rattle.row_work.proofs.Scanned.{chose_none, chose_some, picked, read_more, shown_more}
 use Rattle.row_work.proofs.choose.choose_at_keys.Goals as goal
@@ -32,13 +32,13 @@ loop-key-preserved c =
     let key = get_or keys n d in
     let front = filter_map f (take n keys) in
     let last = option_and_then f (slice_get keys n) in
-    let row_of_read : Source × ReadRow → List Value = λ found. row_in found.1 in
+    let row_of_read : Source × Bor (List Value) → List Value = λ found. found.1.now in
     let under : List Value → Key × List Value = λ row. (key, row) in
     let at = ap (option_and_then f) (slice_get-get_or keys n d c.loop-key-test.true) in
     let more = ap (picked schema condition) (sym (read_more f keys n)) in
     elim c.match-branch-2.branch [
       | in-Some+in_ok-choose_read w ↦
-          let row = row_in w.in-Some.read in
+          let row = w.in-Some.row.now in
           let one : Chosen = record { key = key; source = w.in-Some.source } in
           let was = ap (option_map under) (sym c.in_ok-source.ensures.row ∙ ap (option_map row_of_read) w.in-Some.is) in
           let stands = rw w.in-Some.is at c.in_ok-source.ensures.stands in

@@ -8,7 +8,7 @@ use Rattle.cs_model.specs.Queries.{keeps}
 use Rattle.group_view.specs.declared.view.Place.{Place}
 use Rattle.row_work.specs.declared.choose.Chosen.{Chosen}
 use Rattle.row_work.specs.declared.choose.Source.TheVariants.{Shown}
-use Rattle.row_work.specs.Reads.{read_row, row_in, rowed_at}
+use Rattle.row_work.specs.Reads.{read_row, rowed_at}
 use Rattle.row_work.specs.Sources.{chosen_edit, IsShown}
 use Rattle.row_work.specs.Stores.{read_at_position}
 use Rattle.row_work.proofs.Found.{at_place}
@@ -27,7 +27,7 @@ loop-position-preserved c =
     let p = get_or positions n 0 in
     let place : Place = record { group = c.args.group; position = p } in
     let key = c.in_ok-key.key in
-    let row = row_in c.in_ok-key.read in
+    let row = c.in_ok-key.row.now in
     let one : Chosen = record { key = key; source = Shown place } in
     let initial = map (chosen_edit width pinned) c.args.chosen.now.items in
     let at = ap (option_and_then f) (slice_get-get_or positions n 0 c.loop-position-test.true) in

@@ -1,5 +1,6 @@
 use Rattle.std.proofs.Common.{◌∙◌, ◌++◌, List, take, map, ap, sym, subst}
 use Rattle.std.specs.Prelude.{slice_get}
+use Rattle.std.specs.Borrow.{Bor}
 use Rattle.std.specs.List.{All, filter_map}
 use Rattle.std.specs.Option.{option_and_then, option_map}
 use Rattle.cs_types.specs.declared.Key.{Key}
@@ -8,8 +9,7 @@ use Rattle.cs_model.specs.Queries.{keeps}
 use Rattle.group_view.specs.declared.view.Place.{Place}
 use Rattle.row_work.specs.declared.choose.Chosen.{Chosen}
 use Rattle.row_work.specs.declared.choose.Source.TheVariants.{Shown}
-use Rattle.row_work.specs.declared.reading.ReadRow.{ReadRow}
-use Rattle.row_work.specs.Reads.{read_row, row_in, rowed_at}
+use Rattle.row_work.specs.Reads.{read_row, rowed_at}
 use Rattle.row_work.specs.Sources.{chosen_edit, IsShown}
 use Rattle.row_work.proofs.Found.{at_place}
 use Rattle.row_work.proofs.Scanned.{chose_none, chose_some, picked, read_more, read_stands, shown_more}
@@ -29,13 +29,13 @@ loop-position-preserved c =
     let front = filter_map f (take n versions) in
     let last = option_and_then f (slice_get versions n) in
     let initial = map (chosen_edit width pinned) c.args.chosen.now.items in
-    let entry : Key × ReadRow → Key × List Value = λ read. (read.0, row_in read.1) in
+    let entry : Key × Bor (List Value) → Key × List Value = λ read. (read.0, read.1.now) in
     let at = ap (option_and_then f) (at_place pinned.view c.args.group n) in
     let more = ap (λ l. initial ++ picked schema condition l) (sym (read_more f versions n)) in
     elim c.match-branch-2.branch [
       | in-Some+in_ok-choose_read w ↦
           let key = w.in-Some.key in
-          let row = row_in w.in-Some.read in
+          let row = w.in-Some.row.now in
           let one : Chosen = record { key = key; source = Shown place } in
           let was = sym c.in_ok-key.ensures ∙ ap (option_map entry) w.in-Some.is in
           let stands = read_stands width pinned place (key, row) was in

@@ -1,4 +1,4 @@
-use Rattle.std.proofs.Common.{◌≡◌, ◌∙◌, length, refl, sym, ap, subst, Option, Ok, Err}
+use Rattle.std.proofs.Common.{◌≡◌, ◌∙◌, ℕ, length, refl, sym, ap, subst, Option, Ok, Err}
 use Rattle.std.specs.Map.{values_of}
 use Rattle.cs_types.specs.declared.Schema.{Schema}
 use Rattle.cs_model.specs.declared.entry.Bound.TheVariants.{Select}
@@ -28,8 +28,9 @@ returns-in-Ok-clause-gives g c = λ begun is.
     let query = c.args.query.now in
     let pinned = c.pinned_of-pinned.result.now in
     let same = c.deref-schema.ensures ∙ ap (λ (t : Terms). t.schema.value) c.deref.ensures in
-    let given = subst (λ (s : Schema). answer s query (values_of (read_by (length s.columns) pinned)) ≡ Ok c.in-Ok.found) same c.in-Ok.ensures.gives in
-    rows_decided begun c.args.started.now query is pinned c.pinned_of-pinned.ensures (sizes_of c.args.started.now.terms.value) c.in-Ok.found c.segment_counts.result given c.in-Ok.ensures.printable
+    let found = c.in-Ok.found in
+    let given = subst (λ (s : Schema). answer s query (values_of (read_by (length s.columns) pinned)) ≡ Ok found.rows) same c.in-Ok.ensures.gives.0 in
+    rows_decided begun c.args.started.now query is pinned c.pinned_of-pinned.ensures (sizes_of c.args.started.now.terms.value) found.rows (found.read, found.skipped) given c.in-Ok.ensures.printable
 
 -- the counts are those over what is pinned
 pub returns-in-Ok-clause-counted : goal.returns-in-Ok-clause-counted
@@ -37,12 +38,13 @@ returns-in-Ok-clause-counted g c =
     let started = c.args.started.now in
     let query = c.args.query.now in
     let pinned = c.pinned_of-pinned.result.now in
-    let counts = c.segment_counts.result in
+    let found = c.in-Ok.found in
+    let counts : ℕ × ℕ = (found.read, found.skipped) in
     let b = c.requires.begun in
     let is = b.1.hands.bound ∙ b.1.bound in
     let same = c.deref-schema.ensures ∙ ap (λ (t : Terms). t.schema.value) c.deref.ensures in
     let schema = started.terms.value.schema.value in
-    let here : counts ≡ counts_in schema pinned.view query.filter = subst (λ (s : Schema). counts ≡ counts_in s pinned.view query.filter) same c.segment_counts.ensures in
+    let here : counts ≡ counts_in schema pinned.view query.filter = subst (λ (s : Schema). counts ≡ counts_in s pinned.view query.filter) same c.in-Ok.ensures.gives.1 in
     subst (λ (o : Option Pinned). ArePinnedCounts schema (condition_of started.bound.value) o counts) (sym c.pinned_of-pinned.ensures)
     (subst (λ b. counts ≡ counts_in schema pinned.view (condition_of b)) (sym is) here)
 
@@ -54,7 +56,7 @@ returns-in-Err-Overflow-clause-gives g c = λ begun is.
     let schema = c.deref-schema.result.now in
     let here = subst (λ e. Gives (Err e) (answer schema query (values_of (read_by (length schema.columns) pinned)))) c.in-Err-Overflow.field-0-is c.in-Err-Overflow.ensures.gives in
     let given = subst (λ (s : Schema). answer s query (values_of (read_by (length s.columns) pinned)) ≡ Err (c.in-Err-Overflow.row, c.in-Err-Overflow.column)) same here in
-    let reply : c.valued.result ≡ outcome.Answer (Refused (Valued 8115 c.in-Err-Overflow.row c.in-Err-Overflow.column)) = rw c.in-Err-Overflow.field-0-is at c.valued.ensures in
+    let reply : c.valued.result ≡ outcome.Answer (Refused (Valued 8115 c.in-Err-Overflow.row c.in-Err-Overflow.column)) = c.valued.ensures in
     subst (GivesOn (sizes_of c.args.started.now.terms.value) begun) (sym reply)
     (overflow_decided begun c.args.started.now query is pinned c.pinned_of-pinned.ensures (sizes_of c.args.started.now.terms.value) c.in-Err-Overflow.row c.in-Err-Overflow.column given)
 

@@ -1,8 +1,0 @@
-use Rattle.std.proofs.Common.{◌+◌, ◌*◌}
-use Rattle.scan_workers.proofs.workers.+workers.Given as goal
-
-abbrev pub decreases-parts : goal.decreases-parts
-decreases-parts g l = 2 * l.workers
-
-abbrev pub decreases-back : goal.decreases-back
-decreases-back g l = 2 * l.others + 1
