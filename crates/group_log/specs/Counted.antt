@@ -38,7 +38,7 @@ pub record AreCounts (schema : Schema) (changes : List Change) (book : Book) (co
   pub of_book : AllZip (AreRowsOf (length schema.columns) changes) (filter (λ group. is_compressed group.content) book.groups) groups
   pub counted : counts ≡ scan_counts schema condition (map (λ (group : ℕ × List PackedRow). column_of group.1) groups)
 
--- the session's last Start, Finish or End in the log is the Start of this statement (works of its own may stand behind it), and what
+-- the session's last Start, Finish or End in the log is the Start of this statement (works of its own may stand after it), and what
 -- stands before that leads to this state and book
 pub record IsBegunAt (origin : Ground) (log : List Entry) (session : ℕ) (statement : Bound) (m : State) (book : Book) : Type 0 where
   pub before : List Entry

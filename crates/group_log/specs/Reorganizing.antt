@@ -1,6 +1,6 @@
 -- How a REORGANIZE moves the row groups, and what it leaves: what it looks at, and when (after ALTER INDEX .. REORGANIZE of SQL
 -- Server's columnstore index). Its entries stand among those of others, so what it looks at is said by moments. A moment is the
--- state and the book that a front of the log leads to.
+-- state and the book that a prefix of the log leads to.
 use Rattle.std.specs.Prelude.{◌≡◌, ◌⊎◌, ℕ, ◌+◌, ◌*◌, ◌<◌, List, [], ◌∷◌, ◌++◌, map, filter, Bool, true, false, ◌==◌, ◌&&◌, ◌||◌, not, if◌then◌else◌, IsPermutation}
 use Rattle.std.specs.List.{flat_map, list_any}
 use Rattle.std.specs.List.Sorted.{IsNonDecreasingBy}
@@ -98,7 +98,7 @@ closed_in works = flat_map closed_by works
 
 -- ---- moments
 
--- behind a log there is a moment of which P holds, and after it the session has these works
+-- after a log there is a moment of which P holds, and after it the session has these works
 pub record Saw (origin : Ground) (P : State → Book → Type 0) (session : ℕ) (from behind : List Entry) (works : List Work) : Type 0 where
   pub since : List Entry
   pub rest : List Entry
@@ -119,7 +119,7 @@ pub record IsIdle (sizes : Sizes) (session : ℕ) (m : State) (book : Book) : Ty
 
 -- ---- its course
 -- all: whether it is to close the open store; start: the book at its Start; from: the log from whose end on its looks count; behind:
--- what stands behind that
+-- what stands after that
 
 -- it has looked for the open store, where it is to close that first: it has closed it, or none was open at a moment before its works
 abbrev pub HasLooked : Ground → ℕ → Bool → List Entry → List Entry → Type 0
@@ -135,19 +135,19 @@ pub record MayTurn (origin : Ground) (session : ℕ) (all : Bool) (start : Book)
 
 -- it may make this work: a close first of all, and only where it is to close the open store; what begins a turn, where it may; and
 -- an install or a release at any time: that it ends a claim of its own is said by the book (`Works`)
-abbrev pub MayDo : Ground → ℕ → Bool → Book → List Entry → List Entry → Work → Type 0
-MayDo origin session all start from behind (work.ClaimCompress source fresh) = MayTurn origin session all start from behind
-MayDo origin session all start from behind (work.ClaimRebuild source fresh) = MayTurn origin session all start from behind
-MayDo origin session all start from behind (work.ClaimMerge first second fresh) = MayTurn origin session all start from behind
-MayDo origin session all start from behind (work.ClaimFlush entries) = MayTurn origin session all start from behind
-MayDo origin session all start from behind (work.Settle ends) = MayTurn origin session all start from behind
-MayDo origin session all start from behind (work.Clear groups) = MayTurn origin session all start from behind
-MayDo origin session all start from behind (work.Close group) = (all ≡ true) × (works_of session behind ≡ [])
-MayDo origin session all start from behind work.Memory = MayTurn origin session all start from behind
-MayDo origin session all start from behind _ = Unit {0}
+abbrev pub MayMake : Ground → ℕ → Bool → Book → List Entry → List Entry → Work → Type 0
+MayMake origin session all start from behind (work.ClaimCompress source fresh) = MayTurn origin session all start from behind
+MayMake origin session all start from behind (work.ClaimRebuild source fresh) = MayTurn origin session all start from behind
+MayMake origin session all start from behind (work.ClaimMerge first second fresh) = MayTurn origin session all start from behind
+MayMake origin session all start from behind (work.ClaimFlush entries) = MayTurn origin session all start from behind
+MayMake origin session all start from behind (work.Settle ends) = MayTurn origin session all start from behind
+MayMake origin session all start from behind (work.Clear groups) = MayTurn origin session all start from behind
+MayMake origin session all start from behind (work.Close group) = (all ≡ true) × (works_of session behind ≡ [])
+MayMake origin session all start from behind work.Memory = MayTurn origin session all start from behind
+MayMake origin session all start from behind _ = Unit {0}
 
 -- it leaves these groups: it has looked for the open store, and memory was not wanting; it has made all its turns, or after its last
--- work there was a moment at which its choice was Idle; and at that moment or later, and behind its last work, came its last look, at
+-- work there was a moment at which its choice was Idle; and at that moment or later, and after its last work, came its last look, at
 -- which other actors held these of the stores that were closed at its Start, or that it closed
 pub record LeavesFrom (origin : Ground) (session : ℕ) (all : Bool) (start : Book) (from behind : List Entry) (left : List (ℕ × Actor)) : Type 0 where
   pub looked : HasLooked origin session all from behind
@@ -176,7 +176,7 @@ from_start {session = session} begun = begun.before ++ Start session begun.bound
 -- the session has a REORGANIZE half done, which may make this work
 pub record IsMove (origin : Ground) (log : List Entry) (session : ℕ) (w : Work) : Type 0 where
   pub half : IsHalfDone origin log session
-  pub may : MayDo origin session half.all half.book (from_start half.begun) (half.begun).behind w
+  pub may : MayMake origin session half.all half.book (from_start half.begun) (half.begun).behind w
 
 -- the session has a REORGANIZE half done, which leaves these groups
 pub record LeavesGroups (origin : Ground) (log : List Entry) (session : ℕ) (left : List (ℕ × Actor)) : Type 0 where

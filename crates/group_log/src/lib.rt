@@ -3,7 +3,7 @@
 //!
 //! Its one contract: along a followed log, which is legal, the book stays one of the committed changes at the floor. So at every
 //! moment its counts add up to the rows of the table, and each entry moves the groups by the listed transitions alone. Each
-//! function here does nothing: its contract is a law that is proved. It stands on `group_book` for the events of groups, and on
+//! function here does nothing: its contract is a law that is proved. It depends on `group_book` for the events of groups, and on
 //! `log_laws` for those of sessions.
 #![tactic(auto)]
 

@@ -1,6 +1,7 @@
 -- What the entries of a session say of its half-done statement.
 use Rattle.std.proofs.Common.{◌≡◌, ℕ, List, [], ◌∷◌, ◌++◌, fold, refl, sym, ap, ◌∙◌, cond, Bool, true, false, arith, is_some, Option, None, Some, ◌||◌}
 use Rattle.std.specs.Prelude.{◌==◌}
+use Rattle.std.proofs.lemmas.List.{append-nil}
 use Rattle.std.proofs.lemmas.List.Sums.{fold-append}
 use Rattle.std.proofs.lemmas.List.Elements.{filter-append}
 use Rattle.std.proofs.lemmas.Bool.Decides.{nat_tests}
@@ -19,6 +20,26 @@ begun_push es e = fold-append begun_by false es (e ∷ [])
 
 pub ended_push : (es : List Entry) (e : Entry) → has_ended (es ++ e ∷ []) ≡ (has_ended es || is_end e)
 ended_push es e = fold-append (λ b (x : Entry). b || is_end x) false es (e ∷ [])
+
+-- whether the session has ended, one entry more
+pub ended_after : (log : List Entry) (e : Entry) (s : ℕ) → has_ended (entries_of s (log ++ e ∷ [])) ≡ cond (actor_of e == s) (has_ended (entries_of s log) || is_end e) (has_ended (entries_of s log))
+ended_after log e s = ap has_ended (entries_push s log e) ∙ at (actor_of e == s)
+  where
+    at : (t : Bool) → has_ended (entries_of s log ++ cond t (e ∷ []) []) ≡ cond t (has_ended (entries_of s log) || is_end e) (has_ended (entries_of s log))
+    at true = ended_push (entries_of s log) e
+    at false = ap has_ended (append-nil (entries_of s log))
+
+or_false : (b : Bool) → (b || false) ≡ b
+or_false true = refl
+or_false false = refl
+
+-- an entry that is no End ends no session
+pub ended_stays : (log : List Entry) (e : Entry) (s : ℕ) → is_end e ≡ false → has_ended (entries_of s (log ++ e ∷ [])) ≡ has_ended (entries_of s log)
+ended_stays log e s goes = ended_after log e s ∙ at (actor_of e == s)
+  where
+    at : (t : Bool) → cond t (has_ended (entries_of s log) || is_end e) (has_ended (entries_of s log)) ≡ has_ended (entries_of s log)
+    at true = ap (λ b. has_ended (entries_of s log) || b) goes ∙ or_false (has_ended (entries_of s log))
+    at false = refl
 
 half_known : (begin : Begin) (m after : State) (es : List Entry) (s : ℕ) → Leads begin m es after → is_some (after.half s) ≡ fold begun_by (is_some (m.half s)) (entries_of s es)
 half_known begin m after [] s l = ap (λ (x : State). is_some (x.half s)) l

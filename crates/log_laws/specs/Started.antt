@@ -3,6 +3,7 @@ use Rattle.std.specs.Prelude.{◌≡◌, ◌≤◌, ℕ, List, [], map, Bool, tr
 use Rattle.cs_types.specs.declared.Schema.{Schema}
 use Rattle.cs_model.specs.declared.entry.Bound.{Bound}
 use Rattle.cs_model.specs.declared.entry.Entry.{Entry}
+use Rattle.cs_model.specs.declared.entry.Entry.TheVariants.{Start, Finish, End, Mover}
 use Rattle.cs_model.specs.Changes.{Edit, Table, Change, until, laid}
 use Rattle.cs_model.specs.Floors.{snapshot_of}
 use Rattle.cs_model.specs.State.{Txn, State, Begin, schema_now}
@@ -64,3 +65,10 @@ pub record Starts (begin : Begin) (m : State) (session : ℕ) (begun : Begun) (a
 -- in the state that the log leads to, the session has begun this statement
 abbrev pub IsStarted : Begin → List Entry → ℕ → Begun → Type 0
 IsStarted begin log session begun = (m : State) → Legal begin log m → Shows begin m session begun
+
+-- the entry is the Start of this statement in a session
+abbrev pub IsStartEntry : ℕ → Bound → Bool → Entry → Type 0
+IsStartEntry session b short (Start s bound why) = (s ≡ session) × (bound.value ≡ b) × (why ≡ short)
+IsStartEntry session b short (Finish s reply) = ⊥
+IsStartEntry session b short (End s) = ⊥
+IsStartEntry session b short (Mover actor work) = ⊥

@@ -48,7 +48,7 @@ works_hold session (e ∷ es) w c = subst (λ l. Contains l w) (sym (works_cons 
   | inr later ↦ Contains-append_right (works_of session (e ∷ [])) (works_of session es) w (works_hold session es w later)
 ])
 
--- an entry of the session with one of its works, and what stands before and behind it
+-- an entry of the session with one of its works, and what stands before and after it
 pub record StandsAt (session : ℕ) (es : List Entry) (w : Work) : Type 0 where
   pub before : List Entry
   pub behind : List Entry
@@ -81,7 +81,7 @@ works_at session (e ∷ es) w c = step (in_which (subst (λ l. Contains l w) (wo
 
 -- ---- cuts
 
--- of two cuts of one list, behind the second of which there is no work of the session, the second is not before this work
+-- of two cuts of one list, after the second of which there is no work of the session, the second is not before this work
 pub record CutsBehind (x : Entry) (q s r : List Entry) (p : List Entry) : Type 0 where
   pub between : List Entry
   pub first : s ≡ p ++ x ∷ between
@@ -114,13 +114,13 @@ cuts_behind session w (z ∷ p) q (y ∷ s) r e none =
     let rest = cuts_behind session w p q s r (tail_is z y (p ++ own ∷ q) (s ++ r) e) none in
     record { between = rest.between; first = ap (λ l. y ∷ l) rest.first ∙ ap (λ x. x ∷ (p ++ own ∷ rest.between)) (sym (head_is z y (p ++ own ∷ q) (s ++ r) e)); second = rest.second }
 
--- ---- what stands behind the session's last Start
+-- ---- what stands after the session's last Start
 
 -- no turn of the session stands in the list
 turn_in : (session : ℕ) (es : List Entry) (e : Entry) → Contains es e → (is_turn e && (actor_of e == session)) ≡ true → turns_of session es ≡ [] → ⊥
 turn_in session es e c is none = in_none e (subst (λ l. Contains l e) none (in_filter (λ x. is_turn x && (actor_of x == session)) es e c is))
 
--- two cuts at a turn of the session, behind which it has none, are one
+-- two cuts at a turn of the session, after which it has none, are one
 pub one_cut : (session : ℕ) (x y : Entry) (p q s r : List Entry) → (is_turn x && (actor_of x == session)) ≡ true → (is_turn y && (actor_of y == session)) ≡ true → turns_of session q ≡ [] → turns_of session r ≡ []
     → p ++ x ∷ q ≡ s ++ y ∷ r → q ≡ r
 one_cut session x y [] q [] r x_is y_is q_none r_none e = tail_is x y q r e

@@ -139,7 +139,7 @@ release_no_close Idle claim w is = absurd (none-some w is)
 no_close : (w : Work) (id : ℕ) → closed_by w ≡ [] → closed_by w ≡ id ∷ [] → ⊥
 no_close w id none one = let wrong : [] ≡ id ∷ [] = sym none ∙ one in cc
 
--- no store is open behind a close
+-- no store is open after a close
 pub close_is : (sizes : Sizes) (at : ℕ) (by : Actor) (book : Book) (w : Work) (made : Book) (id : ℕ) → closed_by w ≡ id ∷ [] → Works sizes at by book w made → (i : ℕ) → state_of made.groups i ≡ IsOpen → ⊥
 close_is sizes at by book w made id one (chosen none is) i opened = no_close w id (chosen_no_close (choice at sizes.group_rows by book) at book w is) one
 close_is sizes at by book w made id one (out_of_memory none is) i opened = no_close work.Memory id refl one

@@ -68,7 +68,7 @@ has_run origin from since behind rest session r m book x =
       free = finishes.free;
     }
 
--- the book behind the Start is that before it
+-- the book after the Start is that before it
 start_alike : (origin : Ground) → IsGround origin → (before : List Entry) (session : ℕ) (bound : Arc Bound Global) (short : Bool) (m s : model.State) (book start : Book) → Followed origin before m book
     → Followed origin (before ++ entry.Start session bound short ∷ []) s start → IsAlike book start
 start_alike origin g before session bound short m s book start x y =
@@ -112,7 +112,7 @@ module _ (origin : Ground) (g : IsGround origin) (session id most : ℕ) (from :
     all_works : works_of session (p ++ close ∷ q) ≡ work.Close id ∷ works_of session q
     all_works = ap (works_of session) (sym split_front) ∙ works_append session front q ∙ ap (λ l. l ++ works_of session q) front_works
 
-    -- the moment behind the close
+    -- the moment after the close
     record IsShut : Type 0 where
       m : model.State
       book : Book

@@ -18,7 +18,7 @@ use Rattle.group_log.specs.Reorganizing.{works_of, LeavesGroups}
 abbrev pub IsFound : Book → List Work → ℕ → Type 0
 IsFound start works id = (state_of start.groups id ≡ IsClosed) ⊎ ((state_of start.groups id ≡ IsOpen) × Contains works (work.Close id))
 
--- the group is told as left, with another actor, which holds it
+-- the group is told as left, with another actor
 pub record IsTold (left : List (ℕ × Actor)) (session id : ℕ) : Type 0 where
   pub by : Actor
   pub other : same_actor by (actor.Session session) ≡ false

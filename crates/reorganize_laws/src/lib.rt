@@ -1,8 +1,9 @@
 //! What a REORGANIZE makes of the closed stores that it finds, by what is said of its entries along a log.
 //!
-//! Its main contract: a store that was closed at its Start, or that it closed itself, is a closed store at its last look only
-//! where another actor holds it, and then the reply names it, or where another actor gave it back in the meantime. Each function
-//! here does nothing: its contract is a law that is proved. It stands on `group_log`.
+//! Its main contract: a store that was closed at its Start, or open then and closed by it, is a closed store at its last look only
+//! where another actor holds it, and then the reply names it, or where another actor gave it back in the meantime; this is so while
+//! the next group id is at most 2^62. Each function here does nothing: its contract is a law that is proved. It depends on
+//! `group_log`.
 #![tactic(auto)]
 
 ghost use Rattle.std.specs.Prelude.{◌≡◌, ℕ, List, ◌∷◌, ◌++◌, map};
@@ -21,7 +22,8 @@ ghost use Rattle.reorganize_laws.specs.Left.{CompressesWhatItFound};
 
 /// A reply that tells what was left tells what a REORGANIZE leaves that its session has half done; and of the closed stores that
 /// this one found, wherever between its Start and its Finish it looked, each is compressed at its last look, or another actor
-/// holds it and the reply says so, or another actor gave it back since its Start.
+/// holds it and the reply says so, or another actor gave it back since its Start, while the next group id is at most 2^62. A store
+/// that was opened since its Start has no such promise.
 pub fn reorganize_compresses_what_it_found()
     ensures told { (origin : Ground) (before rest : List Entry) (session : ℕ) (left : List (ℕ × Actor)) → IsReorganized origin (before ++ Finish session (reply.Left left) ∷ rest)
         → LeavesGroups origin before session left }

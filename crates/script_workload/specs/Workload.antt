@@ -1,4 +1,4 @@
--- The generated workload: a script whose lines are drawn, one behind the other, from the sequence of a number.
+-- The generated workload: a script whose lines are drawn, one after the other, from the sequence of a number.
 use Rattle.std.specs.Prelude.{ℕ, zero, suc, ◌+◌, ◌%◌, ◌==◌, nat_le, List, [], ◌++◌, codes, decimal, if◌then◌else◌}
 use Rattle.std.specs.List.{flat_map, range_with_len}
 use Rattle.script_workload.specs.declared.statement.Statement.{Statement}
@@ -7,7 +7,7 @@ use Rattle.script_workload.specs.Sequence.{after, drawn}
 
 -- ---- statements
 
--- the statement of a choice, with the draws behind the first one as its numbers
+-- the statement of a choice, with the draws after the first one as its numbers
 abbrev pub chosen : ℕ → ℕ → Statement
 chosen choice x =
     if choice == 0 then Begin
@@ -19,7 +19,7 @@ chosen choice x =
     else (if nat_le choice 14 then Select (drawn 2 x % 1000)
     else Mover))))))
 
--- the statement that is drawn behind x: the first draw is its choice
+-- the statement that is drawn after x: the first draw is its choice
 abbrev pub statement_after : ℕ → Statement
 statement_after x = chosen (drawn 1 x % 16) x
 
@@ -41,7 +41,7 @@ abbrev pub actor : ℕ → Statement → List ℕ
 actor session Mover = codes "m1"
 actor session _ = codes "s" ++ decimal session
 
--- what stands behind that
+-- what stands after that
 abbrev pub text_of : Statement → List ℕ
 text_of Begin = codes " BEGIN TRANSACTION"
 text_of Commit = codes " COMMIT"
@@ -62,7 +62,7 @@ setup_line = codes "setup CREATE TABLE t (k int NOT NULL PRIMARY KEY, v int NULL
 
 -- ---- the workload of a number
 
--- what line i is drawn behind: the number itself, and then what the draws of each line before it lead to
+-- what line i is drawn after: the number itself, and then what the draws of each line before it lead to
 abbrev pub number_at : ℕ → ℕ → ℕ
 number_at number zero = number
 number_at number (suc i) = after (draws_of (statement_after (number_at number i))) (number_at number i)

@@ -1,6 +1,6 @@
 //! The generated workload: a script of statements that are drawn from the sequence of a number, for tests and figures.
 //!
-//! Its one contract: `workload` gives exactly the script that the definitions draw from a number. It stands on `cs_types`
+//! Its one contract: `workload` gives exactly the script that the definitions draw from a number. It depends on `cs_types`
 //! for lines, and on `cs_base`.
 #![tactic(auto)]
 
@@ -38,6 +38,3 @@ pub fn workload(alloc: Global, number: u32, sessions: u32, statements: u32) -> R
     }
     Ok(script.into_bytes())
 }
-
-#[cfg(test)]
-mod tests;

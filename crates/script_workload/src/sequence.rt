@@ -7,7 +7,7 @@ ghost use Rattle.script_workload.specs.Workload.{statement_after, draws_of};
 use crate::statement::Statement;
 use std::marker::Model;
 
-/// The sequence, at the number that the next draw is made behind. That number is kept whole: only what a draw gives is
+/// The sequence, at the number that the next draw is made after. That number is kept whole: only what a draw gives is
 /// divided.
 #[derive(Debug, Drop)]
 pub struct Sequence {

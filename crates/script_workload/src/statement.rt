@@ -74,7 +74,7 @@ fn append_keyed(text: &[u8], key: u32, script: &mut Line) -> Result<(), Memory>
     script.append_number(key as u64)
 }
 
-/// Adds what stands behind the session.
+/// Adds what stands after the session.
 fn append_text(statement: Statement, script: &mut Line) -> Result<(), Memory>
     ensures { OnOk result (script.new ≡ script.old ++ text_of statement) }
 {

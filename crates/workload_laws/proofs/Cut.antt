@@ -33,7 +33,7 @@ last_piece (piece ∷ next ∷ all) = at piece ∙ ap (λ z. piece ∷ z) (last_
     at [] = refl
     at (b ∷ piece) = refl
 
--- the lines of numbers behind a first line
+-- the lines of numbers after a first line
 module _ (line : ℕ → List ℕ) (printed : (n : ℕ) → IsPrinted (line n)) where
   cut_all : (ns : List ℕ) → pieces (flat_map (λ n. line n ++ 10 ∷ []) ns) ≡ map line ns ++ [] ∷ []
   cut_all [] = refl

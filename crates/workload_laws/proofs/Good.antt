@@ -1,4 +1,4 @@
--- Lines that ask for whole steps are good behind a setup line, and leave nothing half done.
+-- Lines that ask for whole steps are good after a setup line, and leave nothing half done.
 use Rattle.std.proofs.Common.{◌≡◌, ℕ, ◌≤◌, List, [], ◌∷◌, ◌++◌, map, length, refl, sym, ap, subst, ◌∙◌, append_assoc, append-nil, Bool, true, false, not, arith}
 use Rattle.std.proofs.lemmas.Bool.{le-ltb}
 use Rattle.std.specs.Prelude.{None, Some}

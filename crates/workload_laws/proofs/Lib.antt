@@ -5,3 +5,6 @@ pub mod Lines
 pub mod Good
 pub mod SetupLine
 pub mod Workloads
+pub mod FirstWord
+pub mod AlterTrees
+pub mod Reorganizes

@@ -27,7 +27,7 @@ pub record AsksFor (line : List ℕ) (step : Step) : Type 0 where
   pub actor : is_actor (taken_by step) ≡ true
   pub whole : is_whole step ≡ true
 
--- a text behind a session: a space, and what a script takes as a statement's text
+-- a text after a session: a space, and what a script takes as a statement's text
 record IsSpaced (text sql : List ℕ) : Type 0 where
   cut : text ≡ 32 ∷ sql
   is : IsText sql
@@ -35,7 +35,7 @@ record IsSpaced (text sql : List ℕ) : Type 0 where
   ends : EndsBare text
   short : length text ≤ 60
 
--- texts that end with a number, or with what stands behind it
+-- texts that end with a number, or with what stands after it
 keyed : (front sql : List ℕ) (key : ℕ) → HasDigits key 3 → front ++ decimal key ≡ 32 ∷ sql → IsText sql → IsPrinted front → length front ≤ 57 → IsSpaced (front ++ decimal key) sql
 keyed front sql key d cut is printed short = record {
   cut = cut;

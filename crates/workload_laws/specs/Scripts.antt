@@ -22,7 +22,7 @@ workload_columns =
 abbrev pub workload_table : Schema
 workload_table = record { name = codes "t"; columns = workload_columns; key = 0 }
 
--- the text of a statement: what stands in its line behind the session and a space
+-- the text of a statement: what stands in its line after the session and a space
 abbrev pub sql_of : Statement → List ℕ
 sql_of statement = drop 1 (text_of statement)
 
@@ -31,7 +31,7 @@ abbrev pub step_of : ℕ → Statement → Step
 step_of session Mover = Turn 1
 step_of session statement = Whole session (sql_of statement)
 
--- what line i behind the setup line asks for, from 0 on
+-- what line i after the setup line asks for, from 0 on
 abbrev pub step_at : ℕ → ℕ → ℕ → Step
 step_at number sessions i = step_of (1 + i % sessions) (statement_after (number_at number i))
 

@@ -1,16 +1,18 @@
-//! The law that a generated workload is a script.
+//! The laws of generated workloads, as functions that do nothing.
 //!
-//! Its one contract is that law, `workload_is_script`, a function that does nothing. So who reads a workload that it drew is
-//! refused for want of memory alone, and never for a bad line. It stands on `script_workload`, which defines workloads, and on
-//! `script_reader`, which defines scripts.
+//! `workload_is_script`: a workload is a script, so who reads one that it drew is refused for want of memory alone, and never
+//! for a bad line. `workload_has_no_reorganize`: none of its texts means a REORGANIZE. They stand on `script_workload`, which
+//! defines workloads, on `script_reader`, which defines scripts, and on `tsql_binder`, which defines what a text means.
 #![tactic(auto)]
 
-ghost use Rattle.std.specs.Prelude.{◌≡◌, ◌≤◌, ◌<◌, ℕ, length, true};
+ghost use Rattle.std.specs.Prelude.{◌≡◌, ◌≤◌, ◌<◌, ℕ, length, Bool, true, All};
 ghost use Rattle.std.specs.List.{list_all};
+ghost use Rattle.cs_model.specs.declared.entry.Bound.TheVariants.{Reorganize};
 ghost use Rattle.script_reader.specs.declared.script.Mode.TheVariants as Mode;
-ghost use Rattle.script_reader.specs.Scripts.{IsScript};
+ghost use Rattle.script_reader.specs.Scripts.{text_of, IsScript};
 ghost use Rattle.script_workload.specs.Workload.{workload};
-ghost use Rattle.workload_laws.specs.Scripts.{workload_script, is_whole};
+ghost use Rattle.tsql_binder.specs.Meaning.{Means};
+ghost use Rattle.workload_laws.specs.Scripts.{workload_table, workload_script, is_whole};
 
 /// The workload of a number, for 1 to 64 sessions, is a script: that of its table and of the step of each of its lines, whose
 /// sessions are those that a line names. Each step is a whole statement or a whole turn, so nothing is half done between two
@@ -21,5 +23,7 @@ pub fn workload_is_script()
     ensures size { (number sessions statements : ℕ) → 1 ≤ sessions → sessions ≤ 64 → statements ≤ 200000 → length (workload number sessions statements) < 16777216 }
 {}
 
-#[cfg(test)]
-mod tests;
+/// No text of a step of a workload means a REORGANIZE of its table.
+pub fn workload_has_no_reorganize()
+    ensures { (number sessions statements : ℕ) → All (λ step. (all : Bool) → Means workload_table (text_of step) (Reorganize all) → ⊥) (workload_script number sessions statements).lines }
+{}

@@ -1,0 +1,9 @@
+pub mod Lists
+pub mod Contents
+pub mod Shuffled
+pub mod Chosen
+pub mod Commits
+pub mod Movers
+pub mod Steps
+pub mod Shown
+pub mod Scanned

@@ -1,0 +1,15 @@
+pub mod Texts
+pub mod Scripts
+pub mod States
+pub mod Replies
+pub mod Ample
+pub mod Beside
+pub mod Shown
+pub mod Lefts
+pub mod Halves
+pub mod Events
+pub mod Moves
+pub mod Steps
+pub mod Law
+pub mod Lines
+pub mod Loads
