@@ -1,5 +1,6 @@
 -- What the program does: for which words and input it ends with which status, and what it has written then.
-use Rattle.std.specs.Prelude.{◌≡◌, ◌⊎◌, ℕ, ◌<◌, ◌≤◌, List, [], ◌∷◌, ◌++◌, length, codes, decimal, Option, ◌==◌, if◌then◌else◌}
+use Rattle.std.specs.Prelude.{◌≡◌, ◌≢◌, ◌⊎◌, ℕ, ◌<◌, ◌≤◌, List, [], ◌∷◌, ◌++◌, length, codes, decimal, Option, ◌==◌, if◌then◌else◌}
+use Rattle.cs_base.specs.Counts.{Rose}
 use Rattle.cs_outside.specs.Outside.{IsAtEnd}
 use Rattle.command_words.specs.declared.order.Order.{Order}
 use Rattle.command_words.specs.declared.order.Order.TheVariants.{Replay, Run, Generate, Load}
@@ -8,19 +9,16 @@ use Rattle.command_words.specs.declared.order.Workload.{Workload}
 use Rattle.command_words.specs.Orders.{Words, IsOrder}
 use Rattle.script_workload.specs.Workload.{workload}
 use Rattle.cs_model.specs.declared.entry.Entry.{Entry}
-use Rattle.cs_model.specs.Changes.{table}
-use Rattle.cs_model.specs.State.{State, begin_of}
-use Rattle.cs_model.specs.Steps.{Legal}
+use Rattle.cs_model.specs.State.{begin_of}
 use Rattle.cs_model.specs.Text.{text}
 use Rattle.script_reader.specs.declared.script.Mode.{Mode}
 use Rattle.script_reader.specs.declared.script.Mode.TheVariants as mode
-use Rattle.log_summary.specs.Summary.{summary}
 use Rattle.script_reader.specs.declared.script.Script.{Script}
 use Rattle.script_reader.specs.Scripts.{IsScript, IsBadLine}
 use Rattle.group_book.specs.Commits.{Sizes}
 use Rattle.group_log.specs.Followed.{Ground, ground_of}
-use Rattle.script_runner.specs.Logs.{IsLogOf}
-use Rattle.session_pool.specs.Runs.{IsRunOf}
+use Rattle.script_runner.specs.Logs.{IsLogOf, Summed}
+use Rattle.session_pool.specs.Runs.{IsRunOf, IsFrontRunOf}
 use Rattle.columnstore.specs.declared.way.Way.{Way}
 use Rattle.columnstore.specs.declared.way.Way.TheVariants.{ByLine, OnThreads}
 use Rattle.columnstore.specs.declared.status.Status.{Status}
@@ -66,29 +64,19 @@ abbrev pub mode_of : Way → Mode
 mode_of ByLine = mode.Replay
 mode_of (OnThreads movers) = mode.Run
 
--- the log of a whole run of the script in this way
-abbrev pub IsLogBy : Way → Ground → Script → List Entry → Type 0
-IsLogBy ByLine origin script log = IsLogOf origin script log
-IsLogBy (OnThreads movers) origin script log = IsRunOf origin script movers log
+-- the log of a run of the script in this way, with the status that goes with it: of a whole run, or, on threads, of one that stopped
+-- for want of memory
+abbrev pub IsLogBy : Way → Ground → Script → Status → List Entry → Type 0
+IsLogBy ByLine origin script s log = (s ≡ status.Done) × IsLogOf origin script log
+IsLogBy (OnThreads movers) origin script s log = ((s ≡ status.Done) × IsRunOf origin script movers log) ⊎ ((s ≡ status.Memory) × IsFrontRunOf origin script movers log)
 
--- the script was run in this way, with row groups so large, and this is the text of the log of its run
-pub record Performed (way : Way) (sizes : Sizes) (bytes whole : List ℕ) : Type 0 where
+-- the script was run in this way, with row groups so large, and this is the text of the log of its run, with the status that goes with it
+pub record Performed (way : Way) (sizes : Sizes) (bytes : List ℕ) (s : Status) (whole : List ℕ) : Type 0 where
   pub script : Script
   pub log : List Entry
   pub reads : IsScript (mode_of way) bytes script
-  pub run : IsLogBy way (ground_of script.schema sizes) script log
+  pub run : IsLogBy way (ground_of script.schema sizes) script s log
   pub is : whole ≡ text (begin_of script.schema) log
-
--- the script was replayed, with row groups so large, and this is the summary of the log of its run: the rows are those of the table at
--- the clock of the state that the log leads to
-pub record Summed (sizes : Sizes) (bytes whole : List ℕ) : Type 0 where
-  pub script : Script
-  pub log : List Entry
-  pub state : State
-  pub reads : IsScript mode.Replay bytes script
-  pub run : IsLogOf (ground_of script.schema sizes) script log
-  pub leads : Legal (begin_of script.schema) log state
-  pub is : whole ≡ summary log (length (table state.changes state.clock))
 
 -- ` error <number>`, for a refused setup statement
 abbrev pub setup_error_text : ℕ → List ℕ
@@ -109,12 +97,12 @@ pub record HasBadLine (mode : Mode) (bytes whole : List ℕ) : Type 0 where
 -- the whole text that is to be written for an input that was read, with the status that goes with it: a script is run in this way, with
 -- row groups so large
 abbrev pub IsAnswered : Way → Sizes → List ℕ → Status → List ℕ → Type 0
-IsAnswered way sizes bytes status.Done whole = Performed way sizes bytes whole
+IsAnswered way sizes bytes status.Done whole = Performed way sizes bytes status.Done whole
 IsAnswered way sizes bytes status.Script whole = HasBadLine (mode_of way) bytes whole
 IsAnswered way sizes bytes status.Usage whole = ⊥
 IsAnswered way sizes bytes status.ReadFault whole = ⊥
 IsAnswered way sizes bytes status.WriteFault whole = ⊥
-IsAnswered way sizes bytes status.Memory whole = ⊥
+IsAnswered way sizes bytes status.Memory whole = Performed way sizes bytes status.Memory whole
 
 -- what a run of an input's script in this way writes, whole, with the status that goes with it: came are the bytes that were read, and
 -- left those that are left then, where that is told
@@ -131,29 +119,35 @@ Asks (Load drawn options) came left s whole = (s ≡ status.Done) × Summed (siz
 
 -- ---- statuses
 
--- added is a front of whole
+-- added is a prefix of whole
 abbrev pub IsFront : List ℕ → List ℕ → Type 0
 IsFront added whole = (rest : List ℕ) × (whole ≡ added ++ rest)
 
--- what a status says of the bytes that were read for an order and of those that were added to the output; that a fault has its cause
--- is said by the counts of the source and the sink. Where memory gives out nothing was added, no part of a text
-abbrev pub EndsFor : Order → List ℕ → Option (List ℕ) → List ℕ → Status → Type 0
-EndsFor order came left added status.Done = Asks order came left status.Done added
-EndsFor order came left added status.Usage = ⊥
-EndsFor order came left added status.Script = Asks order came left status.Script added
-EndsFor order came left added status.ReadFault = ReadsInput order × (added ≡ [])
-EndsFor order came left added status.WriteFault = (s : Status) × (whole : List ℕ) × Asks order came left s whole × IsFront added whole
-EndsFor order came left added status.Memory = added ≡ []
+-- a text was added, or a prefix of it where a write failed: before and now count the writes that failed
+abbrev pub IsAddedOf : ℕ → ℕ → List ℕ → List ℕ → Type 0
+IsAddedOf before now added whole = (added ≡ whole) ⊎ (Rose before now × IsFront added whole)
 
--- the words were refused, and all of that or a front of it was added
+-- what a status says of the bytes that were read for an order and of those that were added to the output, while the count of writes
+-- that failed went from before to now. A write fault leaves a prefix of the text of a whole run, of a drawn script or of a refusal. Where memory gives out
+-- nothing was added; or a run on threads stopped for that, and the text of the log of what was done until then was added, or a prefix of
+-- it where a write of it failed too
+abbrev pub EndsFor : Order → List ℕ → Option (List ℕ) → List ℕ → ℕ → ℕ → Status → Type 0
+EndsFor order came left added before now status.Done = Asks order came left status.Done added
+EndsFor order came left added before now status.Usage = ⊥
+EndsFor order came left added before now status.Script = Asks order came left status.Script added
+EndsFor order came left added before now status.ReadFault = ReadsInput order × (added ≡ [])
+EndsFor order came left added before now status.WriteFault = (s : Status) × (whole : List ℕ) × (s ≢ status.Memory) × Asks order came left s whole × IsFront added whole
+EndsFor order came left added before now status.Memory = (added ≡ []) ⊎ ((whole : List ℕ) × Asks order came left status.Memory whole × IsAddedOf before now added whole)
+
+-- the words were refused, and all of that or a prefix of it was added
 abbrev pub RefusesWords : List ℕ → Status → Type 0
 RefusesWords added s = ((s ≡ status.Usage) × (added ≡ codes "usage refused\n")) ⊎ ((s ≡ status.WriteFault) × IsFront added (codes "usage refused\n"))
 
 -- how the program ends for these words: they are no order, and it read nothing; or they are an order, and it ends as that says, and
 -- read nothing for one whose script is drawn
-pub data EndsForWords (words : Words) (came : List ℕ) (left : Option (List ℕ)) (added : List ℕ) (s : Status) : Type 0 where
-  refused : ((order : Order) → IsOrder words order → ⊥) → came ≡ [] → RefusesWords added s → EndsForWords words came left added s
-  served : (order : Order) → IsOrder words order → (DrawsScript order → came ≡ []) → EndsFor order came left added s → EndsForWords words came left added s
+pub data EndsForWords (words : Words) (came : List ℕ) (left : Option (List ℕ)) (added : List ℕ) (before now : ℕ) (s : Status) : Type 0 where
+  refused : ((order : Order) → IsOrder words order → ⊥) → came ≡ [] → RefusesWords added s → EndsForWords words came left added before now s
+  served : (order : Order) → IsOrder words order → (DrawsScript order → came ≡ []) → EndsFor order came left added before now s → EndsForWords words came left added before now s
 
 -- the run was done, or memory or a stream gave out
 abbrev pub IsDoneOrStopped : Status → Type 0

@@ -10,8 +10,8 @@ ghost use Rattle.script_reader.specs.Scripts.{allows, IsScript, IsRunnable, Refu
 ghost use Rattle.statement_core.specs.Terms.{AreTermsOf};
 ghost use Rattle.group_log.specs.Followed.{ground_of};
 ghost use Rattle.script_runner.specs.Logs.{IsLogOf, IsMadeOf};
-ghost use Rattle.session_pool.specs.Runs.{IsRunOf};
-ghost use Rattle.columnstore.specs.Outcome.{sizes_in, order_of, mode_of, IsLogBy, IsAnswered, setup_error_text, bad_line_text};
+ghost use Rattle.columnstore.specs.declared.way.Way.TheVariants.{OnThreads};
+ghost use Rattle.columnstore.specs.Outcome.{sizes_in, order_of, mode_of, IsLogBy, IsAnswered, IsDoneOrStopped, setup_error_text, bad_line_text};
 
 use crate::status::Status;
 use crate::way::Way;
@@ -130,44 +130,57 @@ fn replay<R: Threads + Wait>(
     run(rt, alloc, &mut runner, script, &clerk)
 }
 
-/// The text of the log of a run whose sessions have threads of their own, beside so many movers, with row groups so large.
+/// The text of the log of a core, with this status.
+fn text_of(alloc: Global, core: &Core, status: Status) -> Result<(Status, Line), Memory>
+    ensures status { IfOk result (λ a. a.0 ≡ status) }
+    ensures text { IfOk result (λ a. a.1 ≡ text (begin_of core.now.schema) core.now.log) }
+{
+    let text = print_log(alloc, core.schema(), core.log())?;
+    Ok((status, text))
+}
+
+/// The text of the log of a run whose sessions have threads of their own, beside so many movers, with row groups so large, and the
+/// status that goes with it: `Memory` where the run stopped for that, and the log has the first of each session's turns.
 fn serve<R: Threads + Wait + Sync>(
     rt: &R,
     alloc: Global,
     options: RunOptions,
     movers: u32,
     script: &Script,
-) -> Result<Line, Memory>
+) -> Result<(Status, Line), Memory>
     requires runnable { IsRunnable script.now }
     requires whole { All (λ step. allows mode.Run step ≡ true) script.now.lines }
     requires sizes { AreTermsOf options.group_rows options.direct_rows }
     requires workers { (1 ≤ options.workers) × (options.workers ≤ 16) }
     requires movers { movers ≤ 8 }
-    ensures text { IfOk result (λ line. (log : List Entry) × IsRunOf (ground_of script.now.schema (sizes_in options)) script.now movers log × (line ≡ text (begin_of script.now.schema) log)) }
+    ensures text { IfOk result (λ a. (log : List Entry) × IsLogBy (OnThreads movers) (ground_of script.now.schema (sizes_in options)) script.now a.0 log × (a.1 ≡ text (begin_of script.now.schema) log)) }
 {
     let core = core_for(alloc, options, script)?;
     let clerk = Clerk::new(options.workers);
     match run_sessions(rt, alloc, core, script, &clerk, movers) {
-        Ok(core) => print_log(alloc, core.schema(), core.log()),
-        Err((_, memory)) => Err(memory),
+        Ok(core) => text_of(alloc, &core, Status::Done),
+        Err((core, _)) => text_of(alloc, &core, Status::Memory),
     }
 }
 
-/// The text of the log of a run in this way, with row groups so large.
+/// The text of the log of a run in this way, with row groups so large, and the status that goes with it.
 fn perform<R: Threads + Wait + Sync>(
     rt: &R,
     alloc: Global,
     options: RunOptions,
     way: Way,
     script: &Script,
-) -> Result<Line, Memory>
+) -> Result<(Status, Line), Memory>
     requires runnable { IsRunnable script.now }
     requires allowed { All (λ step. allows (mode_of way) step ≡ true) script.now.lines }
     requires range { IsInRange (order_of options way) }
-    ensures text { IfOk result (λ line. (log : List Entry) × IsLogBy way (ground_of script.now.schema (sizes_in options)) script.now log × (line ≡ text (begin_of script.now.schema) log)) }
+    ensures text { IfOk result (λ a. (log : List Entry) × IsLogBy way (ground_of script.now.schema (sizes_in options)) script.now a.0 log × (a.1 ≡ text (begin_of script.now.schema) log)) }
 {
     match way {
-        Way::ByLine => replay(rt, alloc, options, script),
+        Way::ByLine => {
+            let text = replay(rt, alloc, options, script)?;
+            Ok((Status::Done, text))
+        }
         Way::OnThreads { movers } => serve(rt, alloc, options, movers, script),
     }
 }
@@ -185,7 +198,8 @@ pub(crate) fn script_of(alloc: Global, bytes: Vec<u8>, mode: Mode) -> Result<Scr
 }
 
 /// The whole text that is to be written for an input whose script is run in this way, with row groups so large, and the status that
-/// goes with it. `Memory` where there is no room for the script, its run or the text.
+/// goes with it. `Err` where there is no room for the script, its run or the text; a run on threads that stopped for want of memory
+/// has a text all the same, whose log has the first of each session's turns, and the status is `Memory`.
 pub fn answer<R: Threads + Wait + Sync>(
     rt: &R,
     alloc: Global,
@@ -196,13 +210,10 @@ pub fn answer<R: Threads + Wait + Sync>(
     requires range { IsInRange (order_of options way) }
     ensures answered { IfOk result (λ a. IsAnswered way (sizes_in options) bytes.items a.0 a.1) }
     // A script is run.
-    ensures runs { (script : Script) → IsScript (mode_of way) bytes.items script → IfOk result (λ a. a.0 ≡ Status.Done) }
+    ensures runs { (script : Script) → IsScript (mode_of way) bytes.items script → IfOk result (λ a. IsDoneOrStopped a.0) }
 {
     match script_of(alloc, bytes, way.mode()) {
-        Ok(script) => {
-            let text = perform(rt, alloc, options, way, &script)?;
-            Ok((Status::Done, text))
-        }
+        Ok(script) => perform(rt, alloc, options, way, &script),
         Err(
             ScriptRefusal::Bad {
                 line,

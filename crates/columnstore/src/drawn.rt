@@ -3,7 +3,8 @@ ghost use Rattle.std.specs.Prelude.{◌≡◌, ◌≤◌, IfOk};
 ghost use Rattle.command_words.specs.Orders.{IsWorkload};
 ghost use Rattle.script_reader.specs.Scripts.{IsScript, IsRunnable};
 ghost use Rattle.statement_core.specs.Terms.{AreTermsOf};
-ghost use Rattle.columnstore.specs.Outcome.{sizes_in, drawn_script, Summed};
+ghost use Rattle.script_runner.specs.Logs.{Summed};
+ghost use Rattle.columnstore.specs.Outcome.{sizes_in, drawn_script};
 
 use crate::answer::{runner_for, script_of};
 use command_words::{RunOptions, Workload};

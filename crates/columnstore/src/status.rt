@@ -2,13 +2,14 @@
 ghost use Rattle.std.specs.Prelude.{◌≡◌};
 ghost use Rattle.std.specs.Process.{exit_status};
 ghost use Rattle.columnstore.specs.Outcome.{code_of};
+ghost use Rattle.columnstore.specs.Written.{after_fault};
 
 use std::process::ExitCode;
 
 /// How the program ended.
 #[derive(Clone, Copy, Debug, PartialEq, Eq)]
 pub enum Status {
-    /// The input was read to its end and the whole text was written.
+    /// The whole text was written, and the input was read to its end in a mode that reads it.
     Done,
     /// The words are not those of the program.
     Usage,
@@ -16,10 +17,27 @@ pub enum Status {
     Script,
     /// A read failed. Nothing was written.
     ReadFault,
-    /// A write failed. A front of the text was written.
+    /// A write failed. A prefix of the text was written: of a whole run, of its summary, of a drawn script or of a refusal.
     WriteFault,
-    /// Memory was not there.
+    /// Memory was not there. Nothing was written, or, where a run on threads stopped, the log of its events until then, or a prefix of
+    /// that where a write of it failed too.
     Memory,
+}
+
+impl Status {
+    /// The status where a write of the text that goes with this one failed. Memory that had given out before came first.
+    pub fn after_fault(self) -> Status
+        ensures { result ≡ after_fault self }
+    {
+        match self {
+            Status::Memory => Status::Memory,
+            Status::Done
+            | Status::Usage
+            | Status::Script
+            | Status::ReadFault
+            | Status::WriteFault => Status::WriteFault,
+        }
+    }
 }
 
 /// The exit code whose status, 0 to 5, is the place of the variant.

@@ -32,13 +32,13 @@ use std::thread::Threads;
 /// The longest script in bytes, 16 MiB.
 const LIMIT: usize = 16_777_216;
 
-/// Writes a whole text, and answers the status that goes with it, or the write fault.
+/// Writes a whole text, and answers the status that goes with it, or the one after a write that failed.
 fn finish<O: Sink>(output: &mut O, text: &[u8], status: Status) -> Status
     ensures { IsWritten (O.held output.old) (O.held output.new) (O.faults output.old) (O.faults output.new) text.now status result }
 {
     match write_whole(output, text) {
         Ok(()) => status,
-        Err(_) => Status::WriteFault,
+        Err(_) => status.after_fault(),
     }
 }
 
@@ -72,7 +72,7 @@ fn run_script<R: Threads + Wait + Sync, I: Source, O: Sink>(
     requires range { IsInRange (order_of options way) }
     ensures ends { (came : List ℕ) × (added : List ℕ) × Takes (I.left input.old) (I.left input.new) came
         × Adds (O.held output.old) (O.held output.new) added
-        × EndsFor (order_of options way) came (I.left input.new) added result }
+        × EndsFor (order_of options way) came (I.left input.new) added (O.faults output.old) (O.faults output.new) result }
     ensures complete { (bytes : List ℕ) (script : Script) → I.left input.old ≡ Some bytes → length bytes ≤ limit → IsScript (mode_of way) bytes script → IsDoneOrStopped result }
     ensures read_fault { result ≡ Status.ReadFault → Rose (I.faults input.old) (I.faults input.new) }
     ensures write_fault { result ≡ Status.WriteFault → Rose (O.faults output.old) (O.faults output.new) }
@@ -93,10 +93,11 @@ fn run_script<R: Threads + Wait + Sync, I: Source, O: Sink>(
 
 /// Runs the program for these words over an input and an output, and answers how it ended. The words are a mode and its options.
 /// `replay`: the input is a script, its statements are run line by line, and the text of the log of its events is written. `run`: the
-/// same, but each session runs on a thread of its own, beside movers on theirs. `generate`: the script of a workload is written. `load`:
+/// same, but each session runs on a thread of its own, beside movers on theirs, and where that stops for want of memory the log until
+/// then is written, or nothing, with status `Memory`. `generate`: the script of a workload is written. `load`:
 /// that script is run as by `replay`, and the summary of the log of its events is written. For both of these the input is let alone.
-/// Nothing is written before the whole text is there. Where several causes stand together, the order is words, reading, script, memory,
-/// writing.
+/// Nothing is written before the whole text is there. Where several causes stand together, the order is words, reading, script, steps,
+/// writing; want of memory may come in any of them, and a refusal whose write fails is a `WriteFault`.
 pub fn columnstore<R: Threads + Wait + Sync, I: Source, O: Sink>(
     rt: &R,
     alloc: Global,
@@ -107,7 +108,7 @@ pub fn columnstore<R: Threads + Wait + Sync, I: Source, O: Sink>(
     // Some bytes were read and some were added, and the status says which.
     ensures ends { (came : List ℕ) × (added : List ℕ) × Takes (I.left input.old) (I.left input.new) came
         × Adds (O.held output.old) (O.held output.new) added
-        × EndsForWords (map string_bytes words.now) came (I.left input.new) added result }
+        × EndsForWords (map string_bytes words.now) came (I.left input.new) added (O.faults output.old) (O.faults output.new) result }
     // The words and a script are answered, unless memory or a stream gives out.
     ensures complete { (bytes : List ℕ) (options : RunOptions) (way : Way) (script : Script) → I.left input.old ≡ Some bytes
         → IsOrder (map string_bytes words.now) (order_of options way) → length bytes ≤ limit → IsScript (mode_of way) bytes script → IsDoneOrStopped result }
@@ -145,11 +146,12 @@ pub fn program<R: Threads + Wait + Sync, A: Iterator<Item = String> + Drop, I: S
 ) -> Status
     requires can { ForOk args (λ a. A.can_next a) }
     requires ends { ForOk args (λ a. IsFinite (A.remaining a)) }
-    // The words were had and the program ran for them, or there was no memory for them.
+    // The words were had and the program ran for them, without a call of the input where they order none; or there was no memory for them.
     ensures ran { ((words : Words) × (came : List ℕ) × (added : List ℕ) × AreWords A.next_gives args words
         × Takes (I.left input.old) (I.left input.new) came
         × Adds (O.held output.old) (O.held output.new) added
-        × EndsForWords words came (I.left input.new) added result)
+        × EndsForWords words came (I.left input.new) added (O.faults output.old) (O.faults output.new) result
+        × (((order : Order) → IsOrder words order → ReadsInput order → ⊥) → input.new ≡ input.old))
         ⊎ ((result ≡ Status.Memory) × (input.new ≡ input.old) × (output.new ≡ output.old)) }
     // An argument that is no text is no want of memory.
     ensures no_text { IfErr args (λ error. error_kind error ≢ ErrorKind.OutOfMemory → result ≢ Status.Memory) }

@@ -10,7 +10,7 @@ use Rattle.group_book.specs.Turns.{is_id_of, is_fresh, replaced_group}
 
 -- ---- order
 
--- x goes behind y
+-- x goes after y
 pub behind : {X : Type 0} (xs ys zs : List X) → IsPermutation (xs ++ (ys ++ zs)) (ys ++ (xs ++ zs))
 behind xs ys zs = subst (λ l. IsPermutation l (ys ++ (xs ++ zs))) (append_assoc xs ys zs) (subst (IsPermutation ((xs ++ ys) ++ zs)) (append_assoc ys xs zs) (IsPermutation-append_left zs (xs ++ ys) (ys ++ xs) (IsPermutation-append_comm xs ys)))
 
@@ -22,7 +22,7 @@ pub opened-append : (gs hs : List Group) → opened (gs ++ hs) ≡ opened gs ++ 
 opened-append [] hs = refl
 opened-append (g ∷ gs) hs = ap (λ l. opened_in g.content ++ l) (opened-append gs hs) ∙ sym (append_assoc (opened_in g.content) (opened gs) (opened hs))
 
--- what is moved goes behind the first, which is kept
+-- what is moved goes after the first, which is kept
 pub behind_kept : {X : Type 0} (kept xs moved news : List X) → IsPermutation (xs ++ moved) news → IsPermutation ((kept ++ xs) ++ moved) (kept ++ news)
 behind_kept kept xs moved news p = subst (λ l. IsPermutation l (kept ++ news)) (sym (append_assoc kept xs moved)) (IsPermutation-append_right kept (xs ++ moved) news p)
 

@@ -43,7 +43,7 @@ one_open groups (Some at) some_open =
     let s = split groups at some_open in
     subst (λ (gs : List Group). how_many opens_in (map group_of gs) ≤ 1) (sym s.whole) (count_open s.before s.group s.after s.shut_before s.shut_after)
 
--- ---- groups behind the others
+-- ---- groups after the others
 
 pub opened_more : (groups more : List Group) (at : Option ℕ) → IsOpenAt groups at → AllByRecursion IsShut more → IsOpenAt (groups ++ more) at
 opened_more groups more None shut shut_more = All-from_recursion IsShut (groups ++ more) (all-append IsShut groups more (recursion_from_All IsShut groups shut) shut_more)

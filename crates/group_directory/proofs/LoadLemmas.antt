@@ -108,7 +108,7 @@ unmarked_loaded c [] (load ∷ loads) all = absurd all
 unmarked_loaded c (group ∷ groups) [] all = absurd all
 unmarked_loaded c (group ∷ groups) (load ∷ loads) all = (all.0.1, unmarked_loaded c groups loads all.1)
 
--- the book of a list with the loads behind its groups
+-- the book of a list with the loads after its groups
 pub book_with_loads : (c : ℕ) (groups : List Packed) (loads : List Load) (whole : Book) → AllZip (IsLoadOf c) groups loads
     → grown whole (whole.groups ++ map group_of (loaded whole.next loads)) (whole.next + length loads) ≡ after_loads c (map packed_keys groups) whole
 book_with_loads c groups loads whole all =

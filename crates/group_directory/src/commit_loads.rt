@@ -40,7 +40,7 @@ pub(crate) fn loads_of(
     Ok(loads)
 }
 
-/// Places direct groups behind the others, under the next ids. It takes no memory.
+/// Places direct groups after the others, under the next ids. It takes no memory.
 pub(crate) fn load_groups(list: &mut GroupList, loads: Vec<(Arc<Packed>, Arc<Marks>)>)
     requires held { IsHeld list.old }
     requires unmarked { All IsUnmarked loads.items }

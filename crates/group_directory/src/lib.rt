@@ -1,7 +1,7 @@
 //! The directory of row groups: what commits, transactions and movers make of the groups of a table, one event at a time.
 //!
 //! Its one contract: a `Directory` stands for a list of committed changes that it does not keep, and each call moves the changes
-//! and the book of row groups by what the event makes of them. It stands on `group_view`, the stores, and the definitions and
+//! and the book of row groups by what the event makes of them. It depends on `group_view`, the stores, and the definitions and
 //! laws of `group_book`. The forms follow Larson et al., PVLDB 2015, section 4.
 #![tactic(auto)]
 

@@ -35,7 +35,7 @@ least_remaining floor (group ∷ groups) = lesser (remaining floor group) (least
 abbrev pub fits_beside : ℕ → ℕ → ℕ → Group → Bool
 fits_beside floor group_rows kept group = nat_le (kept + remaining floor group) group_rows
 
--- the pair of a group with the first one behind it that fits beside it
+-- the pair of a group with the first one after it that fits beside it
 abbrev pub pair_of : ℕ → ℕ → GroupList → Half → Option (ℕ × ℕ)
 pair_of floor group_rows list half = option_map (λ second. (half.id, second)) (lowest (fits_beside floor group_rows half.kept) (packed_from half.next list))
 

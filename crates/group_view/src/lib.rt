@@ -2,7 +2,7 @@
 //!
 //! Its one contract: a `GroupView` shows at a snapshot exactly the versions that the book of row groups makes visible, and
 //! `next_work` is the choice of the book that a `GroupList` stands for. A view shares packed groups, bitmaps and frozen stores,
-//! and never changes. It stands on the stores, on `row_group` and on the definitions of `group_book`. The forms follow Larson
+//! and never changes. It depends on the stores, on `row_group` and on the definitions of `group_book`. The forms follow Larson
 //! et al., PVLDB 2015, section 4.
 #![tactic(auto)]
 
@@ -33,8 +33,3 @@ pub use parts::{GroupPart, GroupRef};
 pub use removable::settles;
 pub use turn::next_work;
 pub use view::{GroupView, Pinned, Place};
-
-#[cfg(test)]
-mod choice_tests;
-#[cfg(test)]
-mod tests;

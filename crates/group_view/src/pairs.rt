@@ -94,7 +94,7 @@ fn scanned(list: &GroupList, place: usize, scan: Scan, floor: u64, group_rows: u
 }
 
 /// The first group of the first pair, by one walk from the last group back: a group is the first of a pair where the least that
-/// remains of one behind it fits beside it, and the last such group that the walk comes to is the lowest.
+/// remains of one after it fits beside it, and the last such group that the walk comes to is the lowest.
 fn first_half(list: &GroupList, floor: u64, group_rows: u64) -> Option<Half>
     requires { All (λ group. IsFittingContent group.content) list.now.groups.items }
     ensures pair { first_pair floor group_rows (free_packed (book_of list.now)) ≡ option_and_then (pair_of floor group_rows list.now) result }

@@ -8,7 +8,7 @@ pub record GateState : Type 0 where
   pub gate : TableId
   pub seats : ℕ
 
--- a pass: its gate, the entries of each of its numbers, the numbers that it may give away, and the front of the history that it has seen
+-- a pass: its gate, the entries of each of its numbers, the numbers that it may give away, and the prefix of the history that it has seen
 pub record PassState (E : Type 0) : Type 0 where
   pub gate : TableId
   pub own : List (ℕ × List E)

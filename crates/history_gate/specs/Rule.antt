@@ -34,7 +34,7 @@ module _ {E : Type 0} (number : E → ℕ) where
     pub own : Tells number v.own history
     -- a number that it may give away has no entry
     pub reserve : All (λ n. entries_of number n history ≡ []) v.reserve
-    -- what it has seen is a front of the history
+    -- what it has seen is a prefix of the history
     pub seen : IsPrefix v.seen history
     -- it is spent, or has a number
     pub numbered : IsSpent v ⊎ (0 < length v.own)

@@ -4,7 +4,7 @@ use crate::steps::PassSeat;
 use std::marker::Model;
 
 /// One caller's place at a gate. Contracts see the gate that it is of, its own numbers with the entries of each, the numbers
-/// that it may give away, and a front of the history that it has seen. Whoever drops a pass loses its numbers, and the gate
+/// that it may give away, and a prefix of the history that it has seen. Whoever drops a pass loses its numbers, and the gate
 /// can't be closed any more.
 #[derive(Drop)]
 pub struct Pass<V: Stands> {

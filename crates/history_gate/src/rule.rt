@@ -14,7 +14,7 @@ pub struct View<E> {
     pub own: LinkedList<(u32, LinkedList<E>)>,
     /// The numbers that it may give away.
     pub reserve: LinkedList<u32>,
-    /// The front of the history that it has seen.
+    /// The prefix of the history that it has seen.
     pub seen: LinkedList<E>,
 }
 

@@ -1,6 +1,6 @@
 //! The summary of a log: counts of its events, and of the rows that the table has after them.
 //!
-//! Its one contract: `print_summary` gives exactly the text of the definition. It stands on `cs_model` for the events of a log, and
+//! Its one contract: `print_summary` gives exactly the text of the definition. It depends on `cs_model` for the events of a log, and
 //! on `cs_types` for lines.
 #![tactic(auto)]
 
@@ -53,6 +53,3 @@ pub fn print_summary(alloc: Global, log: &[Entry], rows: u128) -> Result<Line, M
     append_short(counts.short, &mut line)?;
     Ok(line)
 }
-
-#[cfg(test)]
-mod tests;

@@ -1,4 +1,4 @@
--- The events of a mover's turn are the piece of its step, and what was started waits behind them.
+-- The events of a mover's turn are the piece of its step, and what was started waits after them.
 use Rattle.std.proofs.Common.{◌≡◌, ℕ, List, [], ◌++◌, refl, sym, ap, subst, ◌∙◌, append_assoc, inl, inr}
 use Rattle.std.specs.Prelude.{Option, None, Result, Ok, Err, OnOk, OnErr}
 use Rattle.std.proofs.lemmas.List.{append-nil}
@@ -46,7 +46,7 @@ ended_turn origin log new mover (Err why) installs releases = (releases.0, relea
 
 -- who holds none of all claims has no turn to end
 pub free_turn : (origin : Ground) (log : List Entry) (claims : List (Actor × lent.Claim)) (actor : Actor) → HasAllClaims origin log claims → held_by actor claims ≡ None → HasNoTurn origin log actor []
-free_turn origin log claims actor all none = record { moment = all.moment; free = all.none actor none; none = refl }
+free_turn origin log claims actor all none = record { moment = all.moment; free = all.holds actor none; none = refl }
 
 -- without a claim there was no turn to end
 pub no_turn : (origin : Ground) (log : List Entry) (mover : ℕ) → HasNoTurn origin log (Mover mover) [] → Ends origin log log mover

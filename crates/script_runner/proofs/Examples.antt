@@ -248,7 +248,7 @@ module _ (origin : Ground) (before : List Entry) (text : List ℕ) (bound : Arc 
         };
       })
 
--- it leaves no group in a Finish before whose last look it still had a claim to make good: what stands behind the look is no work
+-- it leaves no group in a Finish before whose last look it still had a claim to make good: what stands after the look is no work
 no_work_behind : (origin : Ground) (all : Bool) (start : Book) (from before : List Entry) (w : Work) (left : List (ℕ × Actor)) (leaves : LeavesFrom origin 1 all start from (before ++ Mover (actor.Session 1) w ∷ []) left)
     → leaves.rest ≡ Mover (actor.Session 1) w ∷ [] → ⊥
 no_work_behind origin all start from before w left leaves is = let none : works_of 1 (Mover (actor.Session 1) w ∷ []) ≡ [] = sym (ap (works_of 1) is) ∙ leaves.last in absurd (cc none)

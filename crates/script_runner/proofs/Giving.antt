@@ -1,4 +1,4 @@
--- What a statement gives by its work and its moves, and its Finish behind them.
+-- What a statement gives by its work and its moves, and its Finish after them.
 use Rattle.std.proofs.Common.{◌≡◌, ℕ, List, [], ◌∷◌, ◌++◌, refl, inl, sym, ap, subst, ◌∙◌, append_assoc, Bool, false}
 use Rattle.std.specs.Prelude.{◌==◌, ◌&&◌, All, Option, None, Some, IsSome}
 use Rattle.std.proofs.lemmas.List.{append-nil}
@@ -18,7 +18,7 @@ use Rattle.log_laws.proofs.StartedOn.{started_on}
 use Rattle.script_runner.specs.Moves.{GivesBy, Moved}
 use Rattle.script_runner.specs.Schedule.{IsFinishing, IsOwnWork, TellsOf}
 use Rattle.script_runner.proofs.Moving.{Goes, moved_none, short_none}
-use Rattle.script_turns.specs.Awaiting.{Awaits}
+use Rattle.statement_core.specs.Awaiting.{Awaits}
 use Rattle.statement_core.specs.declared.started.Outcome.{Outcome}
 use Rattle.statement_core.specs.declared.started.Outcome.TheVariants as outcome
 use Rattle.statement_core.specs.declared.started.Started.{Started}

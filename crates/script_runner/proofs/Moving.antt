@@ -17,9 +17,9 @@ use Rattle.group_directory.specs.declared.ledger.Ledger.{Ledger}
 use Rattle.group_log.specs.Followed.{Ground}
 use Rattle.group_log.specs.Reorganizing.{held_groups, AreLeft, IsIdle}
 use Rattle.group_view.specs.declared.claim.Claim.{Claim}
-use Rattle.reorganize.specs.Course.{Course}
-use Rattle.reorganize.specs.Courses.{HasStopped, IsCourse, IsTurning}
-use Rattle.reorganize.proofs.Courses.{course_begins_turn, course_ends_turn, half_on, idle_piece, idle_seen, install_turn, leaves, lent_turn, looked_close, looked_none, looks_now, looks_short, may_begin, may_close, saw_now}
+use Rattle.statement_core.specs.Course.{Course}
+use Rattle.statement_core.specs.Courses.{HasStopped, IsCourse, IsTurning}
+use Rattle.statement_core.proofs.Courses.{course_begins_turn, course_ends_turn, half_on, idle_piece, idle_seen, install_turn, leaves, lent_turn, looked_close, looked_none, looks_now, looks_short, may_begin, may_close, saw_now}
 use Rattle.script_runner.specs.Moves.{IsWholeTurn, LeavesBoth, MakesTurn, Moved, StopsShort}
 use Rattle.script_runner.specs.Schedule.{IsOwnWork}
 use Rattle.statement_core.specs.declared.movers.Turned.{Turned}
@@ -91,7 +91,7 @@ module _ (origin now : Ground) (log mid new : List Entry) (session : ℕ) (same 
   abbrev Turns : Turned → Type 0
   Turns given = Goes log mid (TurnsTo origin log (Session session) given)
 
-  -- behind the claim it may end its turn
+  -- after the claim it may end its turn
   pub may_install : (given : Turned) → MayBegin origin log (Session session) → Turns given → MayEnd now mid (Session session)
   may_install given may x =
       subst (λ o. MayEnd o mid (Session session)) (sym same) (half_on x.0 x.1 (ap (turns_of session) (let t = x.2 in t.entry) ∙ no_turn session (let t = x.2 in t.work)) may.half)
@@ -137,7 +137,7 @@ module _ (origin now : Ground) (from log : List Entry) (session : ℕ) (course :
       let ended = course_ends_turn origin session from (x.moves ++ w.first) w.last next w.ends begun in
       subst (λ es. IsTurning origin session from es next) (append_assoc x.moves w.first w.last ∙ ap (λ es. x.moves ++ es) (sym w.joined)) ended
 
-  -- further moves behind those so far
+  -- further moves after those so far
   further : (new : List Entry) (moves : List Entry) → new ≡ log ++ moves → new ≡ from ++ (x.moves ++ moves)
   further new moves is = is ∙ ap (λ es. es ++ moves) x.is ∙ append_assoc from x.moves moves
 

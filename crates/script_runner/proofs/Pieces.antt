@@ -20,7 +20,7 @@ use Rattle.script_turns.specs.Turns.{IsStart, IsFinishOf}
 use Rattle.script_turns.proofs.Entries.{begun_after, one_begun, one_going, start_does, finish_does}
 use Rattle.script_runner.specs.Schedule.{IsFinishing, IsPiece, IsOwnWork, ArePieces}
 use Rattle.statement_core.specs.Turns.{BeginsTurn, EndsTurn, IsFirst}
-use Rattle.statement_core.proofs.Going.{ended_stays}
+use Rattle.log_laws.proofs.Entries.{ended_stays}
 
 -- ---- works of movers and of sessions
 
@@ -153,7 +153,7 @@ finish_going log piece s session f =
     ∙ one_going (log ++ f.0) f.1 s session false (finish_does session f.1 f.4)
     ∙ works_going log f.0 s f.3
 
--- a first entry, and the rest behind it
+-- a first entry, and the rest after it
 behind : (log piece rest : List Entry) (a : Entry) → piece ≡ a ∷ rest → log ++ piece ≡ (log ++ a ∷ []) ++ rest
 behind log piece rest a is = ap (λ es. log ++ es) is ∙ sym (append_assoc log (a ∷ []) rest)
 

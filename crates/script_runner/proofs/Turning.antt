@@ -253,7 +253,7 @@ meant_front : (begin : Begin) (steps : List Step) (before xs ys : List Entry) �
 meant_front begin steps before [] ys meant = tt
 meant_front begin steps before (e ∷ xs) ys meant = (meant.0, meant_front begin steps (before ++ e ∷ []) xs ys meant.1)
 
--- where a log has all turns, a front of it has the first of them
+-- where a log has all turns, a prefix of it has the first of them
 pub turns_cut : (begin : Begin) (script : Script) (log rest : List Entry) → Turns begin script (log ++ rest) → FrontTurns begin (first_lines (length script.lines) script) log
 turns_cut begin script log rest turns =
     subst (λ lines. FrontTurns begin (record { schema = script.schema; lines = lines; sessions = script.sessions }) log) (sym (take_all (length script.lines) script.lines (omega arith))) (record {

@@ -13,13 +13,13 @@ use Rattle.cs_model.specs.State.{Begin, begin_of, with}
 use Rattle.cs_model.specs.declared.work.Actor.TheVariants as actor
 use Rattle.cs_model.specs.Actors.{actor_of, number_of, is_turn, entries_of, begun_by, is_begun}
 use Rattle.group_log.specs.Reorganizing.{works_of}
-use Rattle.reorganize.proofs.Works.{works_others}
+use Rattle.statement_core.proofs.Works.{works_others}
 use Rattle.group_book.specs.Commits.{Sizes}
 use Rattle.statement_core.specs.declared.started.Started.{Started}
-use Rattle.statement_core.specs.Cores.{IsStartOf}
-use Rattle.script_turns.specs.Awaiting.{Awaits}
+use Rattle.log_laws.specs.Started.{IsStartEntry}
+use Rattle.statement_core.specs.Awaiting.{Awaits}
 use Rattle.script_runner.specs.Running.{IsWaiting, Waits}
-use Rattle.script_turns.proofs.Awaiting.{awaits_on}
+use Rattle.statement_core.proofs.Awaiting.{awaits_on}
 use Rattle.script_turns.proofs.Entries.{Does, begun_after, finish_does, start_of_does}
 use Rattle.script_runner.specs.Schedule.{IsOwnWork}
 use Rattle.script_runner.proofs.Pieces.{AreMoverWorks, IsMoverWork, work_begun, work_mover}
@@ -61,7 +61,7 @@ waits_start sizes begin log e n waiting after started waits d is put = λ s begu
         let has : after s ≡ waiting s = (λ i. put i s) ∙ ap (λ b. cond b (Some started) (waiting s)) t in
         others_wait sizes begin log e n s (waiting s) (after s) other d.actor has (waits s) begun
 
--- behind a Finish of session n that one waits no more, and the others as before
+-- after a Finish of session n that one waits no more, and the others as before
 waits_finish : (sizes : Sizes) (begin : Begin) (log : List Entry) (e : Entry) (n : ℕ) (waiting after : ℕ → Option Started) → ((s : ℕ) → (n == s) ≡ false → IsWaitingIf sizes begin log s (waiting s)) → Does n false e
     → after ≡ with waiting n None → Waits sizes begin (log ++ e ∷ []) after
 waits_finish sizes begin log e n waiting after waits d put = λ s begun. at s (s == n) refl begun
@@ -77,7 +77,7 @@ waits_finish sizes begin log e n waiting after waits d put = λ s begun. at s (s
         let has : after s ≡ waiting s = (λ i. put i s) ∙ ap (λ b. cond b None (waiting s)) t in
         others_wait sizes begin log e n s (waiting s) (after s) other d.actor has (waits s other) begun
 
--- so it is behind works of session n
+-- so it is after works of session n
 own_actor : (n : ℕ) (e : Entry) → IsOwnWork n e → actor_of e ≡ n
 own_actor n (Start s b short) own = absurd own
 own_actor n (Finish s r) own = absurd own
@@ -94,7 +94,7 @@ moves_wait sizes begin log (e ∷ moves) n s o own other waits =
 -- ---- a Start, a Finish
 
 pub waits_begun : (sizes : Sizes) (schema : Schema) (log new : List Entry) (n : ℕ) (b : Bound) (waiting after : ℕ → Option Started) (started : Started) → Waits sizes (begin_of schema) log waiting
-    → (e : Entry) × (new ≡ log ++ e ∷ []) × IsStartOf n b started.short e → Awaits sizes (begin_of schema) new n started → after ≡ with waiting n (Some started) → Waits sizes (begin_of schema) new after
+    → (e : Entry) × (new ≡ log ++ e ∷ []) × IsStartEntry n b started.short e → Awaits sizes (begin_of schema) new n started → after ≡ with waiting n (Some started) → Waits sizes (begin_of schema) new after
 waits_begun sizes schema log new n b waiting after started waits x is put =
     subst (λ es. Waits sizes (begin_of schema) es after) (sym x.1)
     (waits_start sizes (begin_of schema) log x.0 n waiting after started waits (start_of_does n b started.short x.0 x.2)
@@ -149,7 +149,7 @@ no_work (Mover (actor.Mover m) work) s w = refl
 work_waits : (sizes : Sizes) (begin : Begin) (log : List Entry) (e : Entry) (waiting : ℕ → Option Started) → IsMoverWork e → Waits sizes begin log waiting → Waits sizes begin (log ++ e ∷ []) waiting
 work_waits sizes begin log e waiting w waits = λ s begun. waiting_on sizes begin log e s (waiting s) (no_turn e s w) (no_work e s w) (waits s (sym (work_begun log e s (work_mover e w)) ∙ begun))
 
--- what was started waits as before behind works of movers
+-- what was started waits as before after works of movers
 works_wait : (sizes : Sizes) (begin : Begin) (log piece : List Entry) (waiting : ℕ → Option Started) → AreMoverWorks piece → Waits sizes begin log waiting → Waits sizes begin (log ++ piece) waiting
 works_wait sizes begin log [] waiting w waits = subst (λ es. Waits sizes begin es waiting) (sym (append-nil log)) waits
 works_wait sizes begin log (e ∷ es) waiting w waits =

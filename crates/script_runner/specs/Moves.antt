@@ -4,8 +4,8 @@ use Rattle.cs_model.specs.declared.entry.Entry.{Entry}
 use Rattle.cs_model.specs.declared.work.Actor.{Actor}
 use Rattle.group_log.specs.Followed.{Ground}
 use Rattle.group_log.specs.Reorganizing.{IsIdle, LeavesGroups}
-use Rattle.reorganize.specs.Course.{Course}
-use Rattle.reorganize.specs.Courses.{IsTurnOf}
+use Rattle.statement_core.specs.Course.{Course}
+use Rattle.statement_core.specs.Courses.{IsTurnOf}
 use Rattle.script_runner.specs.Schedule.{IsOwnWork, LeavesAmong, LooksAmong}
 use Rattle.statement_core.specs.declared.started.Outcome.{Outcome}
 use Rattle.statement_core.specs.declared.started.Outcome.TheVariants as outcome
@@ -43,7 +43,7 @@ StopsShort origin before session moves = (moves ≡ []) ⊎ LooksAmong origin be
 abbrev pub LeavesBoth : Ground → List Entry → ℕ → List (ℕ × Actor) → List Entry → Type 0
 LeavesBoth origin before session groups moves = LeavesAmong origin before session moves groups × LeavesGroups origin (before ++ moves) session groups
 
--- the moves behind the outcome of a statement: there are some of a REORGANIZE alone
+-- the moves after the outcome of a statement: there are some of a REORGANIZE alone
 abbrev pub GivesBy : Ground → List Entry → ℕ → Outcome → List Entry → Type 0
 GivesBy origin before session outcome.Nothing moves = moves ≡ []
 GivesBy origin before session (outcome.Answer r) moves = moves ≡ []

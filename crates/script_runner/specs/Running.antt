@@ -17,7 +17,7 @@ use Rattle.log_laws.specs.Laws.{AreDistinct}
 use Rattle.script_reader.specs.declared.script.Step.{Step}
 use Rattle.script_reader.specs.declared.script.Step.TheVariants as step
 use Rattle.script_reader.specs.Scripts.{taken_by, text_of, half_done, ArePaired, IsServed}
-use Rattle.script_turns.specs.Awaiting.{Awaits}
+use Rattle.statement_core.specs.Awaiting.{Awaits}
 use Rattle.script_runner.specs.Schedule.{ArePieces}
 use Rattle.statement_core.specs.declared.started.Started.{Started}
 use Rattle.statement_core.specs.CoreValue.{CoreValue}
@@ -102,7 +102,7 @@ pub record Running (origin : Ground) (core : CoreValue) (done left : List Step) 
 abbrev pub IsFrontRun : Ground → List Step → List Entry → Type 0
 IsFrontRun origin steps log = (n : ℕ) × ArePieces origin [] (take n steps) log
 
--- the Ends of the first of these sessions came behind the first log
+-- the Ends of the first of these sessions came after the first log
 pub record Ending (first now : List Entry) (done left : List ℕ) : Type 0 where
   pub log : now ≡ first ++ map End done
   pub rests : (session : ℕ) → is_begun (entries_of session now) ≡ false

@@ -4,7 +4,7 @@ ghost use Rattle.cs_model.specs.declared.entry.Entry.{Entry};
 ghost use Rattle.cs_model.specs.declared.work.Actor.TheVariants.{Session};
 ghost use Rattle.group_directory.specs.Installing.{held_by};
 ghost use Rattle.group_log.specs.Followed.{ground_of};
-ghost use Rattle.reorganize.specs.Courses.{HasStopped, IsCourse, IsTurning};
+ghost use Rattle.statement_core.specs.Courses.{HasStopped, IsCourse, IsTurning};
 ghost use Rattle.script_runner.specs.Moves.{LeavesBoth, MakesTurn, Moved, StopsShort};
 ghost use Rattle.script_runner.specs.Schedule.{IsOwnWork};
 ghost use Rattle.statement_core.specs.Reorganizes.{IsStartLedger, MayBegin};
@@ -12,8 +12,7 @@ ghost use Rattle.statement_core.specs.Reorganizes.{IsStartLedger, MayBegin};
 use cs_base::{Items, Memory};
 use cs_model::Actor;
 use group_directory::Ledger;
-use reorganize::Reorganizing;
-use statement_core::{Core, Desk, Turned};
+use statement_core::{Core, Desk, Reorganizing, Turned};
 use std::alloc::Global;
 
 /// The first look: where the REORGANIZE closes the open store, that is closed, if there is one.
@@ -103,7 +102,7 @@ fn make_turns<D: Desk>(
     Ok(course)
 }
 
-/// The moves of a session's REORGANIZE, of which nothing was done since its Start, and the last look behind them: the closed stores
+/// The moves of a session's REORGANIZE, of which nothing was done since its Start, and the last look after them: the closed stores
 /// that other actors hold, by id. `Memory`: memory was wanting, and what was done stays.
 pub(crate) fn make_moves<D: Desk>(
     alloc: Global,

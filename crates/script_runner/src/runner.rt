@@ -25,7 +25,7 @@ ghost use Rattle.statement_core.specs.Turns.{BeginsTurn, EndsBy, EndsTurn};
 ghost use Rattle.script_runner.specs.Running.{AreReady, IsFree, LeavesClaims, MayRun, OthersKeep, Waits};
 ghost use Rattle.script_runner.specs.Moves.{GivesBy, Moved};
 ghost use Rattle.script_runner.specs.Schedule.{IsFinishing, IsPiece};
-ghost use Rattle.script_turns.specs.Awaiting.{Awaits};
+ghost use Rattle.statement_core.specs.Awaiting.{Awaits};
 ghost use Rattle.script_turns.specs.Turns.{IsStart};
 
 use crate::moves::make_moves;

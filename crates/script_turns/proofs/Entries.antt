@@ -8,9 +8,8 @@ use Rattle.cs_model.specs.declared.entry.Entry.{Entry}
 use Rattle.cs_model.specs.declared.entry.Entry.TheVariants.{Start, Finish, End, Mover}
 use Rattle.cs_model.specs.State.{Begin}
 use Rattle.cs_model.specs.Actors.{actor_of, is_turn, entries_of, begun_by, is_end, is_begun, has_ended}
-use Rattle.log_laws.proofs.Entries.{entries_push, begun_push}
-use Rattle.statement_core.specs.Cores.{IsStartOf}
-use Rattle.statement_core.proofs.Going.{ended_stays}
+use Rattle.log_laws.proofs.Entries.{entries_push, begun_push, ended_stays}
+use Rattle.log_laws.specs.Started.{IsStartEntry}
 use Rattle.script_turns.specs.Turns.{IsBound, IsStart, IsFinishOf, IsStartIn}
 
 -- ---- one entry more
@@ -58,20 +57,20 @@ start_in begin before session text (Finish s r) h = absurd h
 start_in begin before session text (End s) h = absurd h
 start_in begin before session text (Mover actor work) h = absurd h
 
-pub start_of_does : (session : ℕ) (b : Bound) (short : Bool) (e : Entry) → IsStartOf session b short e → Does session true e
+pub start_of_does : (session : ℕ) (b : Bound) (short : Bool) (e : Entry) → IsStartEntry session b short e → Does session true e
 start_of_does session b short (Start s bound why) h = record { actor = h.0; turn = refl; begun = λ before. refl; going = refl }
 start_of_does session b short (Finish s r) h = absurd h
 start_of_does session b short (End s) h = absurd h
 start_of_does session b short (Mover actor work) h = absurd h
 
-start_is : (begin : Begin) (log : List Entry) (session : ℕ) (text : List ℕ) (b : Bound) (short : Bool) (e : Entry) → IsStartOf session b short e → IsBound begin.schema text b → IsStart begin log session text e
+start_is : (begin : Begin) (log : List Entry) (session : ℕ) (text : List ℕ) (b : Bound) (short : Bool) (e : Entry) → IsStartEntry session b short e → IsBound begin.schema text b → IsStart begin log session text e
 start_is begin log session text b short (Start s bound why) h means = (h.0, λ m l. subst (IsBound begin.schema text) (sym h.1) means)
 start_is begin log session text b short (Finish s r) h means = absurd h
 start_is begin log session text b short (End s) h means = absurd h
 start_is begin log session text b short (Mover actor work) h means = absurd h
 
 -- the Start of a statement that is bound to what its text means
-pub begun_is : (begin : Begin) (log new : List Entry) (session : ℕ) (text : List ℕ) (b : Bound) (short : Bool) → (e : Entry) × (new ≡ log ++ e ∷ []) × IsStartOf session b short e → IsBound begin.schema text b
+pub begun_is : (begin : Begin) (log new : List Entry) (session : ℕ) (text : List ℕ) (b : Bound) (short : Bool) → (e : Entry) × (new ≡ log ++ e ∷ []) × IsStartEntry session b short e → IsBound begin.schema text b
     → (e : Entry) × (new ≡ log ++ e ∷ []) × IsStart begin log session text e
 begun_is begin log new session text b short x means = (x.0, x.1, start_is begin log session text b short x.0 x.2 means)
 

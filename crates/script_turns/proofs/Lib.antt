@@ -1,4 +1,3 @@
 pub mod Entries
-pub mod Awaiting
 pub mod Meanings
 pub mod Sessions

@@ -3,7 +3,7 @@
 //!
 //! Its one contract: `bound_of` gives what a text means, or its refusal for want of memory. Beside that stand the definitions of a
 //! history of a script (`IsHistory`, `IsFrontHistory`), which name no order of the sessions, and the laws of one Start and one
-//! Finish. It stands on `tsql_binder` for what texts mean, on `script_reader` for the steps, and on `statement_core` for the events.
+//! Finish. It depends on `tsql_binder` for what texts mean, and on `script_reader` for the steps.
 #![tactic(auto)]
 
 mod binding;

@@ -18,9 +18,9 @@ use Rattle.group_log.specs.Reports.{line_of}
 use Rattle.group_view.specs.declared.claim.Claim.{Claim}
 use Rattle.history_gate.specs.Histories.{own_numbers, Tells}
 use Rattle.history_gate.specs.Passes.{PassState}
-use Rattle.reorganize.specs.Course.{Course}
-use Rattle.reorganize.proofs.Courses.{course_begins, course_begins_turn, course_ends_turn, course_on, install_turn, leaves, lent_turn, looked_close, looked_none, looked_unless, may_begin, may_close, may_end, saw_now, saw_on, turning_on}
-use Rattle.reorganize.proofs.Works.{works_still}
+use Rattle.statement_core.specs.Course.{Course}
+use Rattle.statement_core.proofs.Courses.{course_begins, course_begins_turn, course_ends_turn, course_on, install_turn, leaves, lent_turn, looked_close, looked_none, looked_unless, may_begin, may_close, may_end, saw_now, saw_on, turning_on}
+use Rattle.statement_core.proofs.Works.{works_still}
 use Rattle.statement_core.specs.Reorganizes.{IsClosing, IsLedgerAt, IsStartLedger, MayBegin, MayClose, MayEnd, HoldsAt}
 use Rattle.statement_core.specs.declared.movers.Turned.TheVariants as turned
 use Rattle.session_pool.specs.declared.event.Event.{Event}

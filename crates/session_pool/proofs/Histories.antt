@@ -103,7 +103,7 @@ none_of sessions session (e ∷ log) has_not among =
     no_turn (End s) among = apart s among
     no_turn (Mover by work) among = refl
 
--- before its first event, each session has a front of its turns
+-- before its first event, each session has a prefix of its turns
 pub rests_first : (sessions : List ℕ) (lines : List Step) (movers : ℕ) → AreAtRest sessions lines movers false []
 rests_first sessions lines movers = record {
   free = λ n. refl;
@@ -130,7 +130,7 @@ module _ (sizes : Sizes) (script : Script) (movers : ℕ) (core : CoreValue) (ev
   only_movers done rests = subst (All (IsByMover movers)) (sym log) (all_by_movers movers events (subst (All (IsByMover 8)) log pool.movers) rests.numbers)
 
   free_at : (done : Bool) → AreAtRest script.sessions script.lines movers done events → IsFreeAt (ground_of script.schema sizes) core.log
-  free_at done rests = record { moment = all_claims.moment; free = λ by. all_claims.none by (free_claims core.claims events pool.claims rests.free by) }
+  free_at done rests = record { moment = all_claims.moment; holds = λ by. all_claims.holds by (free_claims core.claims events pool.claims rests.free by) }
 
   pub whole_run : AreAtRest script.sessions script.lines movers true events → (1 ≤ movers → IsLast (ground_of script.schema sizes) 1 (entries_in events)) → IsRunOf (ground_of script.schema sizes) script movers core.log
   whole_run rests last = record {

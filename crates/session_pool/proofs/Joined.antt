@@ -24,7 +24,7 @@ own_list n (p ∷ own) one =
     let same : p.0 ≡ n = cc one in
     (0, omega arith, λ i. (same i, sym (ap (λ b. cond b p.1 (list_of n own)) (eq-eqb p.0 n same)) i))
 
--- a whole run is a front of one too
+-- a whole run is a prefix of one too
 pub whole_or_front : (session : ℕ) (lines : List Step) (done : Bool) (entries : List Entry) → IsSessionRun session lines true entries → IsSessionRun session lines done entries
 whole_or_front session lines true entries whole = whole
 whole_or_front session lines false entries whole = ([], subst (AreTurns session (length (texts_of session lines))) (sym (append-nil (turns_of session entries))) whole)

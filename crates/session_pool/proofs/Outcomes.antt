@@ -12,7 +12,7 @@ use Rattle.group_log.specs.Followed.{ground_of, Ground}
 use Rattle.history_gate.specs.Passes.{PassState}
 use Rattle.log_laws.specs.Started.{Begun, IsStarted}
 use Rattle.log_laws.proofs.StartedOn.{started_through}
-use Rattle.script_turns.specs.Awaiting.{Awaits}
+use Rattle.statement_core.specs.Awaiting.{Awaits}
 use Rattle.statement_core.specs.declared.started.Outcome.{Outcome}
 use Rattle.statement_core.specs.declared.started.Outcome.TheVariants as outcome
 use Rattle.statement_core.specs.declared.started.Started.{Started}

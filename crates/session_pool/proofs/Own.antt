@@ -18,16 +18,16 @@ use Rattle.group_log.specs.Reorganizing.{works_of}
 use Rattle.group_view.specs.declared.claim.Claim.{Claim}
 use Rattle.history_gate.specs.Histories.{own_numbers, list_of, added, Tells}
 use Rattle.history_gate.proofs.Lookup.{list_told}
-use Rattle.log_laws.specs.Started.{IsStarted}
+use Rattle.log_laws.specs.Started.{IsStarted, IsStartEntry}
 use Rattle.log_laws.proofs.StartedOn.{started_through}
-use Rattle.reorganize.proofs.Courses.{leaves_on}
-use Rattle.reorganize.proofs.Works.{turns_others, works_others}
+use Rattle.statement_core.proofs.Courses.{leaves_on}
+use Rattle.statement_core.proofs.Works.{turns_others, works_others}
 use Rattle.statement_core.specs.declared.movers.Turned.{Turned}
 use Rattle.statement_core.specs.declared.movers.Turned.TheVariants.{Lent, Alone, Short, Idle}
 use Rattle.statement_core.specs.declared.started.Outcome.{Outcome}
 use Rattle.statement_core.specs.declared.started.Outcome.TheVariants as outcome
 use Rattle.statement_core.specs.declared.started.Started.{Started}
-use Rattle.statement_core.specs.Cores.{IsDone, IsStartOf}
+use Rattle.statement_core.specs.Cores.{IsDone}
 use Rattle.statement_core.specs.Reorganizes.{LeavesBy}
 use Rattle.session_pool.specs.declared.event.Event.{Event}
 use Rattle.session_pool.specs.Events.{number_in, entries_in, events_by}
@@ -180,8 +180,8 @@ module _ (found now after : List Event) (own held own' : List (ℕ × List Event
       look_added mover (Some (Ok turned)) grows = turn_added mover turned grows
       look_added mover (Some (Err m)) still = nothing_added still
 
-      pub start_added : (session : ℕ) (bound : Bound) (r : Result Started M) → IfOk r (λ started. (e : Event) × (after ≡ now ++ e ∷ []) × IsStartOf session bound started.short e.entry × (e.lent ≡ None)) → OnErr r (after ≡ now)
-          → MatchResult r (λ started. (e : Event) × (own' ≡ added number_in e own) × IsStartOf session bound started.short e.entry × (e.lent ≡ None)) (λ _. own' ≡ own)
+      pub start_added : (session : ℕ) (bound : Bound) (r : Result Started M) → IfOk r (λ started. (e : Event) × (after ≡ now ++ e ∷ []) × IsStartEntry session bound started.short e.entry × (e.lent ≡ None)) → OnErr r (after ≡ now)
+          → MatchResult r (λ started. (e : Event) × (own' ≡ added number_in e own) × IsStartEntry session bound started.short e.entry × (e.lent ≡ None)) (λ _. own' ≡ own)
       start_added session bound (Ok s) ok err = (ok.0, event_added ok.0 ok.1, ok.2, ok.3)
       start_added session bound (Err m) ok err = nothing_added err
 

@@ -18,7 +18,7 @@ use Rattle.script_turns.proofs.Entries.{start_of_does}
 use Rattle.statement_core.specs.declared.movers.Turned.{Turned}
 use Rattle.statement_core.specs.declared.movers.Turned.TheVariants.{Lent, Alone, Short, Idle}
 use Rattle.statement_core.specs.declared.started.Started.{Started}
-use Rattle.statement_core.specs.Cores.{IsStartOf}
+use Rattle.log_laws.specs.Started.{IsStartEntry}
 use Rattle.session_pool.specs.declared.event.Event.{Event}
 use Rattle.session_pool.specs.Events.{number_in, entries_in, held_in}
 use Rattle.session_pool.specs.Rests.{lists_but}
@@ -44,7 +44,7 @@ numbers_stay e own after is = ap own_numbers is ∙ numbers_added number_in e ow
 
 -- ---- a session
 
-start_in : (session : ℕ) (b : Bound) (short : Bool) (e : Entry) → IsStartOf session b short e → IsStartIn session e
+start_in : (session : ℕ) (b : Bound) (short : Bool) (e : Entry) → IsStartEntry session b short e → IsStartIn session e
 start_in session b short (Start s bound why) h = h.0
 start_in session b short (Finish s r) h = absurd h
 start_in session b short (End s) h = absurd h
@@ -52,7 +52,7 @@ start_in session b short (Mover actor work) h = absurd h
 
 -- what a Start adds to a pass
 abbrev pub AddsStart : ℕ → Bound → List (ℕ × List Event) → List (ℕ × List Event) → Started → Type 0
-AddsStart session b before after started = (e : Event) × (after ≡ added (λ x. number_in x) e before) × IsStartOf session b started.short e.entry × (e.lent ≡ None)
+AddsStart session b before after started = (e : Event) × (after ≡ added (λ x. number_in x) e before) × IsStartEntry session b started.short e.entry × (e.lent ≡ None)
 
 pub start_adds : {M : Type 0} (session : ℕ) (b : Bound) (before after : List (ℕ × List Event)) (r : Result Started M) (started : Started) → r ≡ Ok started
     → MatchResult r (AddsStart session b before after) (λ _. after ≡ before) → AddsStart session b before after started

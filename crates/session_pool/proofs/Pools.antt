@@ -1,4 +1,4 @@
--- What the type of a core behind a gate keeps, one event more, and the events of sessions.
+-- What the type of a core after a gate keeps, one event more, and the events of sessions.
 use Rattle.std.proofs.Common.{◌≡◌, ℕ, ◌<◌, List, [], ◌∷◌, ◌++◌, length, slice_get, refl, sym, ap, subst, ◌∙◌, Bool, All, Contains, Result, Ok, Err, IfOk, OnErr}
 use Rattle.std.specs.Prelude.{None, Some}
 use Rattle.std.proofs.lemmas.List.Elements.{All-contains, All-push}
@@ -17,15 +17,14 @@ use Rattle.group_book.specs.Commits.{Sizes}
 use Rattle.group_directory.specs.Installing.{held_by}
 use Rattle.group_log.specs.Followed.{ground_of, Ground}
 use Rattle.group_view.specs.declared.claim.Claim.{Claim}
-use Rattle.log_laws.specs.Started.{Begun, IsStarted}
+use Rattle.log_laws.specs.Started.{Begun, IsStarted, IsStartEntry}
 use Rattle.script_reader.specs.declared.script.Step.{Step}
-use Rattle.script_turns.specs.Awaiting.{Awaits}
+use Rattle.statement_core.specs.Awaiting.{Awaits}
 use Rattle.script_turns.specs.Turns.{texts_of, IsBound, IsMeant, AreMeant}
 use Rattle.script_turns.proofs.Entries.{start_of_does}
 use Rattle.script_turns.proofs.Meanings.{meant_append}
 use Rattle.statement_core.specs.declared.started.Started.{Started}
 use Rattle.statement_core.specs.Begun.{Hands, MayWork}
-use Rattle.statement_core.specs.Cores.{IsStartOf}
 use Rattle.statement_core.specs.CoreValue.{CoreValue}
 use Rattle.statement_core.specs.Counted.{HasStartCounts}
 use Rattle.statement_core.specs.Reorganizes.{reorganizes, HasLedger}
@@ -59,7 +58,7 @@ pub record Adds (old new : CoreValue) (e : Entry) : Type 0 where
   pub sizes : new.sizes ≡ old.sizes
   pub sessions : new.sessions ≡ old.sessions
 
-meant_start : (schema : Schema) (lines : List Step) (log : List Entry) (session : ℕ) (bound : Bound) (short : Bool) (e : Entry) → IsStartOf session bound short e
+meant_start : (schema : Schema) (lines : List Step) (log : List Entry) (session : ℕ) (bound : Bound) (short : Bool) (e : Entry) → IsStartEntry session bound short e
     → (text : List ℕ) × (slice_get (texts_of session lines) (statements_of session log) ≡ Some text) × IsBound schema text bound → IsMeant (begin_of schema) lines log e
 meant_start schema lines log session bound short (Start s b why) is meant = (
   meant.0,
@@ -70,7 +69,7 @@ meant_start schema lines log session bound short (Finish s r) is meant = absurd 
 meant_start schema lines log session bound short (End s) is meant = absurd is
 meant_start schema lines log session bound short (Mover by w) is meant = absurd is
 
-start_among : (sessions : List ℕ) (session : ℕ) (bound : Bound) (short : Bool) (e : Entry) → IsStartOf session bound short e → Contains sessions session → IsTurnAmong sessions e × IsByMover 8 e
+start_among : (sessions : List ℕ) (session : ℕ) (bound : Bound) (short : Bool) (e : Entry) → IsStartEntry session bound short e → Contains sessions session → IsTurnAmong sessions e × IsByMover 8 e
 start_among sessions session bound short (Start s b why) is has = (subst (Contains sessions) (sym is.0) has, tt)
 start_among sessions session bound short (Finish s r) is has = absurd is
 start_among sessions session bound short (End s) is has = absurd is
@@ -170,7 +169,7 @@ module _ (schema : Schema) (sizes : Sizes) (sessions : List ℕ) (lines : List S
 
   module _ {M : Type 0} (new : CoreValue) (session : ℕ) (bound : Bound) where
     abbrev pub StartsTo : Result Started M → Type 0
-    StartsTo r = IfOk r (λ started. (e : Entry) × (new.log ≡ old.log ++ e ∷ []) × IsStartOf session bound started.short e)
+    StartsTo r = IfOk r (λ started. (e : Entry) × (new.log ≡ old.log ++ e ∷ []) × IsStartEntry session bound started.short e)
 
     pub keeps_start : (r : Result Started M) → Contains sessions session → (now : List Event) → events_of notes old.log ≡ now → held_in (events_by session now) ≡ None
         → (text : List ℕ) × (slice_get (texts_of session lines) (statements_of session old.log) ≡ Some text) × IsBound schema text bound
@@ -182,7 +181,7 @@ module _ (schema : Schema) (sizes : Sizes) (sessions : List ℕ) (lines : List S
     keeps_start (Err m) has now view free meant ok err sc si se cl = keeps_same new err sc si se cl
 
     pub start_events : (r : Result Started M) (now : List Event) → events_of notes old.log ≡ now → StartsTo r
-        → IfOk r (λ started. (e : Event) × (events_of notes new.log ≡ now ++ e ∷ []) × IsStartOf session bound started.short e.entry × (e.lent ≡ None))
+        → IfOk r (λ started. (e : Event) × (events_of notes new.log ≡ now ++ e ∷ []) × IsStartEntry session bound started.short e.entry × (e.lent ≡ None))
     start_events (Ok s) now view ok = (event_of ok.0 None, grown new.log now ok.0 view ok.1, ok.2, refl)
     start_events (Err m) now view ok = tt
 

@@ -84,7 +84,7 @@ work_one session (Mover actor work) h = record { counts = refl; begun = λ befor
 abbrev ended_by : Bool → Entry → Bool
 ended_by before e = before || is_end e
 
--- a list of works, where something else stands behind them
+-- a list of works, where something else stands after them
 module _ (session : ℕ) (others : List Entry) where
   works_counted : (works : List Entry) → AreWorks works → statements_of session (works ++ others) ≡ statements_of session others
   works_counted [] are = refl

@@ -1,4 +1,4 @@
--- The events of turns, and what the type of a core behind a gate keeps by them.
+-- The events of turns, and what the type of a core after a gate keeps by them.
 use Rattle.std.proofs.Common.{◌≡◌, ℕ, List, [], ◌∷◌, ◌++◌, length, refl, sym, ap, subst, ◌∙◌, true, Result, Ok, Err, IfOk, OnErr}
 use Rattle.std.specs.Prelude.{Option, None, Some, IsSome}
 use Rattle.std.proofs.lemmas.List.{append-nil}
@@ -25,7 +25,7 @@ use Rattle.statement_core.specs.Movers.{GivesTurn}
 use Rattle.statement_core.specs.Reorganizes.{IsClosing, IsLedgerAt}
 use Rattle.statement_core.specs.Turns.{BeginsTurn, TurnsTo, entry_of}
 use Rattle.statement_core.proofs.Turns.{turn_begun}
-use Rattle.reorganize.proofs.Courses.{idle_seen, never_alone}
+use Rattle.statement_core.proofs.Courses.{idle_seen, never_alone}
 use Rattle.session_pool.specs.declared.attempt.Attempt.TheVariants as attempt
 use Rattle.session_pool.specs.declared.event.Event.{Event}
 use Rattle.session_pool.specs.declared.event.Note.{Note}

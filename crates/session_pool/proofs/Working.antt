@@ -15,7 +15,7 @@ use Rattle.cs_model.specs.declared.work.Work.{Work}
 use Rattle.group_view.specs.declared.claim.Claim.{Claim}
 use Rattle.history_gate.specs.Histories.{own_numbers, list_of, added, Grows, Tells}
 use Rattle.history_gate.specs.Passes.{PassState}
-use Rattle.reorganize.proofs.Works.{turns_still}
+use Rattle.statement_core.proofs.Works.{turns_still}
 use Rattle.session_pool.specs.declared.attempt.Attempt.{Attempt}
 use Rattle.session_pool.specs.declared.attempt.Attempt.TheVariants.{Lent, Idle, Short}
 use Rattle.session_pool.specs.declared.event.Event.{Event}

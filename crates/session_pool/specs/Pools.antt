@@ -1,4 +1,4 @@
--- What the type of a core behind a gate keeps.
+-- What the type of a core after a gate keeps.
 use Rattle.std.specs.Prelude.{◌≡◌, ◌<◌, ◌≤◌, ◌++◌, ℕ, List, [], ◌∷◌, length, All, Contains}
 use Rattle.cs_types.specs.declared.Schema.{Schema}
 use Rattle.cs_model.specs.declared.work.Actor.{Actor}

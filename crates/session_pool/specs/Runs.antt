@@ -7,12 +7,13 @@ use Rattle.cs_model.specs.declared.work.Actor.TheVariants as actor
 use Rattle.cs_model.specs.declared.work.Work.{Work}
 use Rattle.cs_model.specs.Actors.{turns_of}
 use Rattle.group_book.specs.Turns.{claim_by}
-use Rattle.group_log.specs.Followed.{Ground, Moment}
+use Rattle.group_log.specs.Followed.{Ground}
 use Rattle.group_log.specs.Reorganizing.{is_short}
 use Rattle.script_reader.specs.declared.script.Script.{Script}
 use Rattle.script_reader.specs.declared.script.Step.{Step}
 use Rattle.script_turns.specs.Histories.{IsHistory, IsFrontHistory}
 use Rattle.script_turns.specs.Turns.{texts_of, AreTurns}
+use Rattle.statement_core.specs.Reorganizes.{HoldsAt}
 use Rattle.statement_core.specs.Turns.{BeginsTurn}
 
 -- ---- sessions
@@ -58,9 +59,8 @@ IsLast origin mover log = HasNothingLeft origin mover log ⊎ EndsShort mover lo
 -- ---- the log
 
 -- no actor holds a claim at the moment that a log leads to
-pub record IsFreeAt (origin : Ground) (log : List Entry) : Type 0 where
-  pub moment : Moment origin log
-  pub free : (by : Actor) → claim_by by moment.book ≡ None
+abbrev pub IsFreeAt : Ground → List Entry → Type 0
+IsFreeAt origin log = HoldsAt origin (λ state book. (by : Actor) → claim_by by book ≡ None) log
 
 -- the log of a whole run: such a history, in which a mover's entries are those of one from 1 to `movers`, at whose end no actor
 -- holds a claim and, where there are movers, nothing is left for mover 1, or its want of memory or release stands last

@@ -8,7 +8,7 @@ use Rattle.script_turns.specs.Turns.{IsStartIn, IsFinishOf}
 abbrev pub AreWorks : List Entry → Type 0
 AreWorks entries = All (λ entry. is_turn entry ≡ false) entries
 
--- the Start and the Finish of one statement of the session stand behind the entries before, with works between them
+-- the Start and the Finish of one statement of the session stand after the entries before, with works between them
 abbrev pub AddsStatement : ℕ → List Entry → List Entry → Type 0
 AddsStatement session before after =
     (a : Entry) × (works : List Entry) × (b : Entry) × (after ≡ before ++ a ∷ (works ++ b ∷ [])) × IsStartIn session a × AreWorks works × IsFinishOf session b

@@ -9,8 +9,8 @@ use Rattle.group_view.specs.declared.claim.Claim.{Claim}
 use Rattle.group_view.specs.Claims.{IsMendable}
 use Rattle.history_gate.specs.Histories.{own_numbers, list_of, Tells}
 use Rattle.history_gate.specs.Passes.{PassState}
-use Rattle.reorganize.specs.Course.{Course}
-use Rattle.reorganize.specs.Courses.{IsCourse, IsTurning}
+use Rattle.statement_core.specs.Course.{Course}
+use Rattle.statement_core.specs.Courses.{IsCourse, IsTurning}
 use Rattle.statement_core.specs.declared.movers.Turned.TheVariants as turned
 use Rattle.statement_core.specs.Reorganizes.{IsLedgerAt, HoldsAt}
 use Rattle.session_pool.specs.declared.attempt.Attempt.{Attempt}

@@ -106,7 +106,6 @@ fn run<J: Made + Send + Sync, R: Threads + Wait + Sync, D: Desk>(
     movers: u32,
 ) -> Result<Core, (Core, Memory)>
     requires log { core.log ≡ [] }
-    requires claims { core.claims ≡ [] }
     requires schema { core.schema ≡ J.schema }
     requires sizes { core.sizes ≡ J.sizes }
     requires sessions { core.sessions ≡ J.sessions }
@@ -119,6 +118,8 @@ fn run<J: Made + Send + Sync, R: Threads + Wait + Sync, D: Desk>(
     ensures schema_then { IfErr result (λ e. e.0.schema ≡ J.schema) }
     ensures sizes_then { IfErr result (λ e. e.0.sizes ≡ J.sizes) }
 {
+    // By its contract an empty log holds no claims.
+    let _log = core.log();
     let pooled: Pooled<J> = Pooled::new(alloc, core);
     let (gate, pass) = match Gate::new(alloc, pooled, SEATS) {
         Ok(made) => made,
@@ -152,7 +153,6 @@ pub fn run_sessions<R: Threads + Wait + Sync, D: Desk>(
     movers: u32,
 ) -> Result<Core, (Core, Memory)>
     requires log { core.log ≡ [] }
-    requires claims { core.claims ≡ [] }
     requires schema { core.schema ≡ script.now.schema }
     requires sessions { core.sessions ≡ script.now.sessions }
     requires runnable { IsRunnable script.now }

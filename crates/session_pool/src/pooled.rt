@@ -105,9 +105,10 @@ impl<J: Made> Pooled<J> {
     ghost use Rattle.group_log.specs.Followed.{ground_of};
     ghost use Rattle.group_view.specs.declared.claim.Claim.{Claim};
     ghost use Rattle.group_view.specs.Claims.{IsProductOf};
-    ghost use Rattle.script_turns.specs.Awaiting.{Awaits};
+    ghost use Rattle.statement_core.specs.Awaiting.{Awaits};
     ghost use Rattle.script_turns.specs.Turns.{texts_of, IsBound};
-    ghost use Rattle.statement_core.specs.Cores.{IsDone, IsStartOf};
+    ghost use Rattle.log_laws.specs.Started.{IsStartEntry};
+    ghost use Rattle.statement_core.specs.Cores.{IsDone};
     ghost use Rattle.statement_core.specs.Counted.{outcome_counts};
     ghost use Rattle.statement_core.specs.Reorganizes.{IsClosing, IsLedgerAt, LeavesBy, MayBegin, MayClose, MayEnd};
     ghost use Rattle.session_pool.specs.declared.event.Event.{Event};
@@ -150,7 +151,7 @@ impl<J: Made> Pooled<J> {
         requires ready { IsReady J.schema bound }
         requires meant { (text : List ℕ) × (slice_get (texts_of session J.lines) (statements_of session (entries_in self.old)) ≡ Some text) × IsBound J.schema text bound }
         requires free { held_in (events_by session self.old) ≡ None }
-        ensures events { IfOk result (λ s. (e : Event) × (self.new ≡ self.old ++ e ∷ []) × IsStartOf session bound s.short e.entry × (e.lent ≡ None)) }
+        ensures events { IfOk result (λ s. (e : Event) × (self.new ≡ self.old ++ e ∷ []) × IsStartEntry session bound s.short e.entry × (e.lent ≡ None)) }
         ensures awaits { IfOk result (Awaits J.sizes (begin_of J.schema) (entries_in self.new) session) }
         ensures err { OnErr result (self.new ≡ self.old) }
     {

@@ -16,8 +16,7 @@ use cs_base::{Items, Memory};
 use cs_model::Actor;
 use group_directory::Ledger;
 use history_gate::{Gate, Pass};
-use reorganize::Reorganizing;
-use statement_core::Desk;
+use statement_core::{Desk, Reorganizing};
 use std::alloc::Global;
 use std::sync::Wait;
 

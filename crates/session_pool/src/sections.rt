@@ -9,9 +9,10 @@ ghost use Rattle.cs_model.specs.Text.{statements_of};
 ghost use Rattle.group_log.specs.Counted.{AreCountsAt};
 ghost use Rattle.group_log.specs.Followed.{ground_of};
 ghost use Rattle.history_gate.specs.Histories.{own_numbers, list_of, added, Tells};
-ghost use Rattle.script_turns.specs.Awaiting.{Awaits};
+ghost use Rattle.statement_core.specs.Awaiting.{Awaits};
 ghost use Rattle.script_turns.specs.Turns.{texts_of, IsBound};
-ghost use Rattle.statement_core.specs.Cores.{IsDone, IsStartOf};
+ghost use Rattle.log_laws.specs.Started.{IsStartEntry};
+ghost use Rattle.statement_core.specs.Cores.{IsDone};
 ghost use Rattle.statement_core.specs.Counted.{outcome_counts};
 ghost use Rattle.statement_core.specs.Reorganizes.{LeavesBy};
 ghost use Rattle.session_pool.specs.declared.event.Event.{Event};
@@ -42,7 +43,7 @@ pub(crate) fn start<J: Made, R: Wait>(
     requires meant { (text : List ℕ) × (slice_get (texts_of session J.lines) (statements_of session (entries_in (list_of session pass.own))) ≡ Some text) × IsBound J.schema text bound }
     requires free { held_in (list_of session pass.own) ≡ None }
     ensures pass { (result.0.gate ≡ pass.gate) × (result.0.reserve ≡ pass.reserve) }
-    ensures own { MatchResult result.1 (λ s. (e : Event) × (result.0.own ≡ added (λ x. number_in x) e pass.own) × IsStartOf session bound s.short e.entry × (e.lent ≡ None)) (λ _. result.0.own ≡ pass.own) }
+    ensures own { MatchResult result.1 (λ s. (e : Event) × (result.0.own ≡ added (λ x. number_in x) e pass.own) × IsStartEntry session bound s.short e.entry × (e.lent ≡ None)) (λ _. result.0.own ≡ pass.own) }
     ensures awaits { IfOk result.1 (Awaits J.sizes (begin_of J.schema) (entries_in result.0.seen) session) }
     ensures told { Tells (λ x. number_in x) result.0.own result.0.seen }
 {

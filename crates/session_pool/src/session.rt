@@ -8,7 +8,7 @@ ghost use Rattle.group_log.specs.Counted.{AreCountsAt};
 ghost use Rattle.group_log.specs.Followed.{ground_of};
 ghost use Rattle.history_gate.specs.Histories.{own_numbers, list_of, Tells};
 ghost use Rattle.script_reader.specs.Scripts.{IsRunnable};
-ghost use Rattle.script_turns.specs.Awaiting.{Awaits};
+ghost use Rattle.statement_core.specs.Awaiting.{Awaits};
 ghost use Rattle.script_turns.specs.Turns as spec;
 ghost use Rattle.script_turns.specs.Turns.{texts_of};
 ghost use Rattle.statement_core.specs.Cores.{IsDone};

@@ -9,33 +9,14 @@ use Rattle.cs_model.specs.declared.entry.Entry.{Entry}
 use Rattle.cs_model.specs.declared.entry.Entry.TheVariants.{End}
 use Rattle.cs_model.specs.Actors.{actor_of, is_end, entries_of, has_ended, one_unless}
 use Rattle.log_laws.specs.Laws.{AreDistinct}
-use Rattle.log_laws.proofs.Entries.{entries_push, ended_push}
+use Rattle.log_laws.proofs.Entries.{ended_after, ended_stays}
 use Rattle.statement_core.specs.Ended.{HaveEnded, without_end}
 
 -- ---- one session
 
-pub ended_after : (log : List Entry) (e : Entry) (s : ℕ) → has_ended (entries_of s (log ++ e ∷ [])) ≡ cond (actor_of e == s) (has_ended (entries_of s log) || is_end e) (has_ended (entries_of s log))
-ended_after log e s = ap has_ended (entries_push s log e) ∙ at (actor_of e == s)
-  where
-    at : (t : Bool) → has_ended (entries_of s log ++ cond t (e ∷ []) []) ≡ cond t (has_ended (entries_of s log) || is_end e) (has_ended (entries_of s log))
-    at true = ended_push (entries_of s log) e
-    at false = ap has_ended (append-nil (entries_of s log))
-
-or_false : (b : Bool) → (b || false) ≡ b
-or_false true = refl
-or_false false = refl
-
 or_true : (b : Bool) → (b || true) ≡ true
 or_true true = refl
 or_true false = refl
-
--- an entry that is no End ends no session
-pub ended_stays : (log : List Entry) (e : Entry) (s : ℕ) → is_end e ≡ false → has_ended (entries_of s (log ++ e ∷ [])) ≡ has_ended (entries_of s log)
-ended_stays log e s goes = ended_after log e s ∙ at (actor_of e == s)
-  where
-    at : (t : Bool) → cond t (has_ended (entries_of s log) || is_end e) (has_ended (entries_of s log)) ≡ has_ended (entries_of s log)
-    at true = ap (λ b. has_ended (entries_of s log) || b) goes ∙ or_false (has_ended (entries_of s log))
-    at false = refl
 
 -- an entry of another session ends none
 pub ended_apart : (log : List Entry) (e : Entry) (s : ℕ) → (actor_of e == s) ≡ false → has_ended (entries_of s (log ++ e ∷ [])) ≡ has_ended (entries_of s log)

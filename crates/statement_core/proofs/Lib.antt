@@ -25,3 +25,7 @@ pub mod Working
 pub mod Mending
 pub mod Closing
 pub mod Turns
+pub mod Awaiting
+pub mod Works
+pub mod Courses
+pub mod Lines

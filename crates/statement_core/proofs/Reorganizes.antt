@@ -23,7 +23,7 @@ use Rattle.group_book.specs.Book.Choice.{Compress, Flush, Rebuild, Merge, Settle
 use Rattle.group_book.specs.Choices.{choice_work, install_work, release_work}
 use Rattle.group_log.specs.Counted.{IsBegunAt}
 use Rattle.group_log.specs.Followed.{is_mover, Ground}
-use Rattle.group_log.specs.Reorganizing.{begins_turn, work_by, works_of, MayDo, MayTurn, IsWorkBy}
+use Rattle.group_log.specs.Reorganizing.{begins_turn, work_by, works_of, MayMake, MayTurn, IsWorkBy}
 use Rattle.group_log.specs.Reports.{line_of}
 use Rattle.group_log.proofs.Counting.{begun_on}
 use Rattle.group_view.specs.declared.claim.Claim.{Claim}
@@ -79,9 +79,9 @@ table_other (bound.Refused refusal) e = refl
 
 module _ (origin : Ground) (session : ℕ) (all : Bool) (start : Book) (from behind : List Entry) where
   abbrev May : Work → Type 0
-  May w = MayDo origin session all start from behind w
+  May w = MayMake origin session all start from behind w
 
-  turn_do : (w : Work) → begins_turn w ≡ true → MayTurn origin session all start from behind → MayDo origin session all start from behind w
+  turn_do : (w : Work) → begins_turn w ≡ true → MayTurn origin session all start from behind → MayMake origin session all start from behind w
   turn_do (work.ClaimCompress source fresh) is may = may
   turn_do (work.InstallCompress source fresh rows) is may = absurd (cc is)
   turn_do (work.ReleaseCompress source fresh) is may = absurd (cc is)
@@ -99,7 +99,7 @@ module _ (origin : Ground) (session : ℕ) (all : Bool) (start : Book) (from beh
   turn_do (work.Close group) is may = absurd (cc is)
   turn_do work.Memory is may = may
 
-  install_do : (made : book.Choice) (claim : book.Claim) (w : Work) → install_work made claim ≡ Some w → MayDo origin session all start from behind w
+  install_do : (made : book.Choice) (claim : book.Claim) (w : Work) → install_work made claim ≡ Some w → MayMake origin session all start from behind w
   install_do (Compress source) claim w is = subst May (same_Some _ w is) tt
   install_do Flush claim w is = subst May (same_Some _ w is) tt
   install_do (Rebuild source) claim w is = subst May (same_Some _ w is) tt
@@ -108,7 +108,7 @@ module _ (origin : Ground) (session : ℕ) (all : Bool) (start : Book) (from beh
   install_do Clear claim w is = absurd (none-some w is)
   install_do Idle claim w is = absurd (none-some w is)
 
-  release_do : (made : book.Choice) (claim : book.Claim) (w : Work) → release_work made claim ≡ Some w → MayDo origin session all start from behind w
+  release_do : (made : book.Choice) (claim : book.Claim) (w : Work) → release_work made claim ≡ Some w → MayMake origin session all start from behind w
   release_do (Compress source) claim w is = subst May (same_Some _ w is) tt
   release_do Flush claim w is = subst May (same_Some _ w is) tt
   release_do (Rebuild source) claim w is = subst May (same_Some _ w is) tt

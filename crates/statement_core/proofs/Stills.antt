@@ -99,7 +99,7 @@ commits_alike sizes m n (edit ∷ edits) book made same clock h = (
   h.1,
 )
 
--- behind a step that leaves it all
+-- after a step that leaves it all
 pub leaves_over : (changes : List Change) (old mid new : CoreState) (after : State) → IsSame old mid → Leaves changes mid new after → Leaves changes old new after
 leaves_over changes old mid new after same x = record {
   later = x.later;

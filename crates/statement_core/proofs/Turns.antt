@@ -1,5 +1,5 @@
 -- The turns of movers: the entries that they are, what these make of the book, and the room for them.
-use Rattle.std.proofs.Common.{◌≡◌, ◌≢◌, ℕ, ◌+◌, ◌≤◌, List, [], ◌∷◌, ◌++◌, filter, length, not, refl, sym, ap, subst, ◌∙◌, cond, inl, inr, arith, Bool, true, false, Option, None, Some}
+use Rattle.std.proofs.Common.{◌≡◌, ◌≢◌, ℕ, ◌+◌, ◌≤◌, List, [], ◌∷◌, ◌++◌, filter, length, map, not, refl, sym, ap, subst, ◌∙◌, cond, inl, inr, arith, Bool, true, false, Option, None, Some}
 use Rattle.std.specs.Prelude.{◌==◌, Contains, IfSome, IsSome}
 use Rattle.std.specs.Option.{option_map}
 use Rattle.std.specs.declared.alloc.Global.{Global}
@@ -27,14 +27,14 @@ use Rattle.txn_table.specs.Txns.{txn_of, snapshots_in, snapshot_of as snapshot_i
 use Rattle.delete_bitmap.specs.declared.Marks.{Marks}
 use Rattle.row_group.specs.declared.packed.Packed.{Packed}
 use Rattle.group_book.specs.Book as book
-use Rattle.group_book.specs.Book.{Choice, Ending, Book, is_opened}
+use Rattle.group_book.specs.Book.{Choice, Ending, Book, empty, is_opened}
 use Rattle.group_book.specs.Book.Choice.{Compress, Flush, Rebuild, Merge, Settle, Clear, Idle}
 use Rattle.group_book.specs.Choices.{choice, choice_work, after_choice, first_of, flushable, id_in, install_work, lowest, release_work}
 use Rattle.group_book.specs.Commits.{Sizes}
 use Rattle.group_book.specs.Invariant.{makes_group, AreById, AreSourcesOf, IsClaim}
 use Rattle.group_book.specs.Orders.{IsReordered}
 use Rattle.group_book.specs.Turns.{after_close, claim_by, same_actor, made_of, installed, released}
-use Rattle.group_log.specs.Followed.{ground_of, Ground, Moment, Works}
+use Rattle.group_log.specs.Followed.{ground_of, Followed, Ground, Moment, Works}
 use Rattle.group_log.specs.Followed.Works.{chosen, out_of_memory, installed as installed_work, released as released_work, closed as closed_work}
 use Rattle.group_log.specs.Reorganizing.{IsWorkBy}
 use Rattle.group_view.specs.declared.claim.Claim.{Claim}
@@ -260,6 +260,11 @@ pub mended_product : (o : Option (Actor × Claim)) (product : Product) → IsMen
 mended_product None product is = tt
 mended_product (Some held) product is = shared_product held.1 is.0 is.1 product is.2
 
+-- a list has no claims where the book has none
+none_mapped : (claims : List (Actor × Claim)) → map claim_of claims ≡ [] → claims ≡ []
+none_mapped [] none = refl
+none_mapped (held ∷ claims) none = absurd (cc none)
+
 -- who holds no claim has none in the book
 pub free_in_book : (d : Directory) (actor : Actor) → held_by actor d.list.claims.items ≡ None → claim_by actor (book_of d.list) ≡ None
 free_in_book d actor is = claim_held d.list actor ∙ ap (option_map claim_of) is
@@ -363,7 +368,14 @@ module _ (made : Terms) (held : CoreState) (log : List Entry) (cap : ℕ) (sessi
 
   -- no one else holds a claim
   pub all_claims : HasAllClaims (ground_of made.schema.value (sizes_of made)) log (claims_of held)
-  all_claims = record { moment = moment; none = free_in_book held.directory }
+  all_claims = record { moment = moment; holds = free_in_book held.directory }
+
+  -- and before the first entry there is none
+  pub no_claims : log ≡ [] → claims_of held ≡ []
+  no_claims first =
+      let origin = ground_of made.schema.value (sizes_of made) in
+      let start : groups_of held ≡ empty = (subst (λ (l : List Entry). Followed origin l (state_of i.changes held) (groups_of held)) first i.followed).1 in
+      none_mapped (claims_of held) (ap (λ (b : Book). b.claims) start)
 
   -- who holds one ends it by its install or its release
   pub turn_ended : (ends : Choice → book.Claim → Option Work) (actor : Actor) (kept : Actor × Claim) → held_by actor (claims_of held) ≡ Some kept → (w : Work) → ends (choice_of kept.1.choice) (claim_of kept) ≡ Some w

@@ -1,4 +1,4 @@
--- What a started statement's work is handed, and what it stands on.
+-- What a started statement's work is handed, and what it depends on.
 use Rattle.std.specs.Prelude.{◌≡◌, ◌≤◌, All, Option, None, Some, true, false}
 use Rattle.std.specs.List.Sorted.{IsStrictlySortedBy}
 use Rattle.cs_types.specs.Keys.{key_cmp}

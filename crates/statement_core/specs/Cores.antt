@@ -46,13 +46,6 @@ pub record IsCore (made : Terms) (held : CoreState) (log : List Entry) (capacity
   pub counted : IsCounted (ground_of made.schema.value (sizes_of made)) log
   pub reorganized : IsReorganized (ground_of made.schema.value (sizes_of made)) log
 
--- the entry is the Start of this statement in a session
-abbrev pub IsStartOf : ℕ → Bound → Bool → Entry → Type 0
-IsStartOf session b short (Start s bound why) = (s ≡ session) × (bound.value ≡ b) × (why ≡ short)
-IsStartOf session b short (Finish s reply) = ⊥
-IsStartOf session b short (End s) = ⊥
-IsStartOf session b short (Mover actor work) = ⊥
-
 -- the outcome is what the definitions give on what the session has begun, and ends it
 pub record IsDone (begin : Begin) (sizes : Sizes) (log : List Entry) (session : ℕ) (outcome : Outcome) : Type 0 where
   pub begun : Begun

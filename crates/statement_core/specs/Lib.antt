@@ -15,3 +15,7 @@ pub mod Movers
 pub mod NewTable
 pub mod Ended
 pub mod Cores
+pub mod Awaiting
+pub mod Course
+pub mod Courses
+pub mod Lines

@@ -51,10 +51,14 @@ IsLedgerFor book None ledger = ledger ≡ None
 IsLedgerFor book (Some all) None = ⊥
 IsLedgerFor book (Some all) (Some ledger) = IsLedgerOf book ledger
 
--- the ledger is that of the moment that the log leads to
-pub record IsLedgerAt (origin : Ground) (log : List Entry) (ledger : Ledger) : Type 0 where
+-- this holds of the moment that the log leads to
+pub record HoldsAt (origin : Ground) (P : State → Book → Type 0) (log : List Entry) : Type 0 where
   pub moment : Moment origin log
-  pub of : IsLedgerOf moment.book ledger
+  pub holds : P moment.state moment.book
+
+-- the ledger is that of this moment
+abbrev pub IsLedgerAt : Ground → List Entry → Ledger → Type 0
+IsLedgerAt origin log ledger = HoldsAt origin (λ state book. IsLedgerOf book ledger) log
 
 -- the ledger of the Start of a REORGANIZE that has done nothing yet
 pub record IsStartLedger (origin : Ground) (log : List Entry) (session : ℕ) (all : Bool) (ledger : Ledger) : Type 0 where
@@ -98,11 +102,6 @@ MayClose origin log (actor.Session session) = HasClose origin log session
 MayClose origin log (actor.Mover mover) = ⊥
 
 -- ---- what its calls tell
-
--- this holds of the moment that the log leads to
-pub record HoldsAt (origin : Ground) (P : State → Book → Type 0) (log : List Entry) : Type 0 where
-  pub moment : Moment origin log
-  pub holds : P moment.state moment.book
 
 -- the log after an actor has looked for the open store: with its close, or the same, where none was open
 abbrev pub IsClosing : Ground → List Entry → Actor → Option ℕ → List Entry → Type 0

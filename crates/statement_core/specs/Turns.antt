@@ -14,11 +14,11 @@ use Rattle.group_view.specs.declared.claim.Claim as lent
 use Rattle.group_directory.specs.Installing.{held_by}
 use Rattle.statement_core.specs.declared.movers.Turned.{Turned}
 use Rattle.statement_core.specs.Movers.{IsWorkOf}
+use Rattle.statement_core.specs.Reorganizes.{HoldsAt}
 
 -- these are all claims at the moment that the log leads to: in its book who holds none of them holds none
-pub record HasAllClaims (origin : Ground) (log : List Entry) (claims : List (Actor × lent.Claim)) : Type 0 where
-  pub moment : Moment origin log
-  pub none : (actor : Actor) → held_by actor claims ≡ None → claim_by actor moment.book ≡ None
+abbrev pub HasAllClaims : Ground → List Entry → List (Actor × lent.Claim) → Type 0
+HasAllClaims origin log claims = HoldsAt origin (λ state book. (actor : Actor) → held_by actor claims ≡ None → claim_by actor book ≡ None) log
 
 -- ---- the first event
 

@@ -13,7 +13,7 @@ ghost use Rattle.cs_model.specs.Ready.{IsReady};
 ghost use Rattle.cs_model.specs.Steps.{Legal};
 ghost use Rattle.cs_model.specs.Text.{IsPrintableEntry};
 ghost use Rattle.log_laws.specs.Laws.{AreDistinct};
-ghost use Rattle.log_laws.specs.Started.{Begun, IsStarted};
+ghost use Rattle.log_laws.specs.Started.{Begun, IsStarted, IsStartEntry};
 ghost use Rattle.group_book.specs.Book.{Book};
 ghost use Rattle.group_book.specs.Choices as spec;
 ghost use Rattle.group_book.specs.Turns.{same_actor};
@@ -22,7 +22,7 @@ ghost use Rattle.group_log.specs.Followed.{ground_of, Followed};
 ghost use Rattle.group_log.specs.Reorganizing.{IsReorganized};
 ghost use Rattle.group_directory.specs.Installing.{held_by};
 ghost use Rattle.statement_core.specs.Begun.{Hands, MayWork};
-ghost use Rattle.statement_core.specs.Cores.{IsDone, IsStartOf};
+ghost use Rattle.statement_core.specs.Cores.{IsDone};
 ghost use Rattle.statement_core.specs.Counted.{outcome_counts, HasStartCounts};
 ghost use Rattle.statement_core.specs.Ended.{HaveEnded};
 ghost use Rattle.statement_core.specs.Movers.{GivesTurn, IsMended};
@@ -163,7 +163,7 @@ impl Core {
         requires rests { is_begun (entries_of session self.old.log) ≡ false }
         requires going { has_ended (entries_of session self.old.log) ≡ false }
         requires ready { IsReady self.old.schema bound }
-        ensures log { IfOk result (λ started. (entry : Entry) × (self.new.log ≡ self.old.log ++ entry ∷ []) × IsStartOf session bound started.short entry) }
+        ensures log { IfOk result (λ started. (entry : Entry) × (self.new.log ≡ self.old.log ++ entry ∷ []) × IsStartEntry session bound started.short entry) }
         ensures bound { IfOk result (λ started. started.bound.value ≡ bound) }
         ensures terms { IfOk result (λ started. AreTerms started.terms.value × (sizes_of started.terms.value ≡ self.new.sizes)) }
         ensures started { IfOk result (λ started. (begun : Begun) × Hands begun started × MayWork begun × IsStarted (begin_of self.new.schema) self.new.log session begun) }
@@ -372,6 +372,8 @@ impl Core {
         ensures reorganized { IsReorganized (ground_of self.now.schema self.now.sizes) self.now.log }
         // In the book that it leads to, an actor that holds none of the claims has no turn to end.
         ensures claims { HasAllClaims (ground_of self.now.schema self.now.sizes) self.now.log self.now.claims }
+        // While the log is empty nobody holds a claim.
+        ensures none { self.now.log ≡ [] → self.now.claims ≡ [] }
     {
         self.log.as_slice()
     }

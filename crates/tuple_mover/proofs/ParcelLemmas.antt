@@ -121,7 +121,7 @@ rest_parcel schema sizes own fit few =
       given = given-itself (length schema.columns) own;
     }
 
--- one group more in front
+-- one group more first
 module _ (schema : Schema) (is_schema : IsSchema schema) (sizes : Sizes) (some_group : 1 ≤ sizes.group_rows) (some_direct : 1 ≤ sizes.direct_rows) where
   abbrev width : ℕ
   width = length schema.columns

@@ -61,7 +61,7 @@ fn keep_at(
     Ok(())
 }
 
-/// The positions of the versions that are kept of a group. The numbers of their ends are put behind the others.
+/// The positions of the versions that are kept of a group. The numbers of their ends are put after the others.
 fn kept_positions(
     part: &GroupPart,
     buffer: &Ends,

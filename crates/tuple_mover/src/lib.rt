@@ -3,7 +3,7 @@
 //!
 //! Its one contract: `work` gives the product of a claim, the new group or the new bitmaps as an install of the book of row
 //! groups puts them in place, and `parcel_of` gives the parcel of own writes, as a commit of the book loads them. Both read
-//! what they are lent and change none of it. It stands on `row_group` for packing, on the bitmaps and the buffer, and on the
+//! what they are lent and change none of it. It depends on `row_group` for packing, on the bitmaps and the buffer, and on the
 //! definitions of `group_view`. The forms follow Larson et al., PVLDB 2015, section 4.
 #![tactic(auto)]
 
@@ -17,6 +17,3 @@ mod spent;
 pub use flushes::locate;
 pub use parcels::parcel_of;
 pub use products::{compress, merge, repack, work};
-
-#[cfg(test)]
-mod tests;

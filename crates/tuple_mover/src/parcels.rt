@@ -27,7 +27,7 @@ fn rows_in(writes: &[Write]) -> usize
     rows
 }
 
-/// The place behind the first writes that have a row, so many of them.
+/// The place after the first writes that have a row, so many of them.
 fn place_past(writes: &[Write], count: usize) -> usize
     requires { count ≤ length (inserted_by (edits_of writes.now)) }
     ensures within { result ≤ length writes.now }

@@ -1,6 +1,16 @@
 use Rattle.std.proofs.Common.{sym, subst}
 use Rattle.script_reader.specs.Scripts.{IsScript, IsBadLine}
+use Rattle.columnstore.specs.Outcome.{sizes_in}
+use Rattle.columnstore.proofs.Replayed.{answers, told_stops}
 use Rattle.columnstore.proofs.answer.answer.Goals as goal
+
+pub returns-in-Ok-clause-answered : goal.returns-in-Ok-clause-answered
+returns-in-Ok-clause-answered g c =
+    let reads = subst (λ mode. IsScript mode c.args.bytes.items c.in-Ok.script) c.mode.ensures c.in-Ok.ensures.found in
+    answers c.args.way (sizes_in c.args.options) c.args.bytes.items c.in-Ok.script c.perform.result reads c.perform.ensures.text
+
+pub returns-in-Ok-clause-runs : goal.returns-in-Ok-clause-runs
+returns-in-Ok-clause-runs g c = λ script is. told_stops c.args.way (sizes_in c.args.options) c.in-Ok.script c.perform.result c.perform.ensures.text
 
 pub returns-in_ok-text-in-Err-Bad-clause-answered : goal.returns-in_ok-text-in-Err-Bad-clause-answered
 returns-in_ok-text-in-Err-Bad-clause-answered g c = record {

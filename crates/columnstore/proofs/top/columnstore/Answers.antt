@@ -2,8 +2,9 @@ use Rattle.std.proofs.Common.{◌≡◌, map, string_bytes, [], refl, sym, subst
 use Rattle.command_words.specs.declared.order.Order.TheVariants.{Replay, Run, Generate, Load}
 use Rattle.command_words.proofs.WordPairs.{in_range}
 use Rattle.script_reader.specs.Scripts.{IsScript}
+use Rattle.script_runner.specs.Logs.{Summed}
 use Rattle.columnstore.specs.declared.way.Way.TheVariants.{ByLine, OnThreads}
-use Rattle.columnstore.specs.Outcome.{sizes_in, order_of, mode_of, drawn_script, Summed, refused, served}
+use Rattle.columnstore.specs.Outcome.{sizes_in, order_of, mode_of, drawn_script, refused, served}
 use Rattle.columnstore.proofs.Serving.{given_way, none_given, no_script, terms_of}
 use Rattle.columnstore.proofs.Ending.{drawing, with_done, refusing, none_taken}
 use Rattle.columnstore.proofs.top.columnstore.Goals as goal

@@ -1,4 +1,4 @@
-use Rattle.std.proofs.Common.{subst, refl, codes, []}
+use Rattle.std.proofs.Common.{subst, refl, inl, codes, []}
 use Rattle.cs_outside.specs.Outside.{Takes}
 use Rattle.script_reader.specs.Scripts.{IsScript}
 use Rattle.columnstore.specs.declared.status.Status.TheVariants as status
@@ -10,7 +10,7 @@ use Rattle.columnstore.proofs.top.run_script.Goals as goal
 pub returns-in-Err-Fault-clause-ends : goal.returns-in-Err-Fault-clause-ends
 returns-in-Err-Fault-clause-ends g c =
     let came = c.in-Err-Fault.ensures.came in
-    (came.0, [], came.1, none_added (g.O.Sink.held c.args.output.now), fault_ends c.args.options c.args.way came.0 (g.I.Source.left c.read_all.new.source))
+    (came.0, [], came.1, none_added (g.O.Sink.held c.args.output.now), fault_ends c.args.options c.args.way came.0 (g.I.Source.left c.read_all.new.source) (g.O.Sink.faults c.args.output.now) (g.O.Sink.faults c.args.output.now))
 
 pub returns-in-Err-TooLong-clause-ends : goal.returns-in-Err-TooLong-clause-ends
 returns-in-Err-TooLong-clause-ends g c =
@@ -49,8 +49,8 @@ returns-in-Ok-answer-clause-complete g c = λ bytes script told small reads.
 pub returns-in-Err-Memory-clause-ends : goal.returns-in-Err-Memory-clause-ends
 returns-in-Err-Memory-clause-ends g c =
     let came = c.in-Err-Memory.ensures.came in
-    (came.0, [], came.1, none_added (g.O.Sink.held c.args.output.now), refl)
+    (came.0, [], came.1, none_added (g.O.Sink.held c.args.output.now), inl refl)
 
 pub returns-in-Err-clause-ends : goal.returns-in-Err-clause-ends
 returns-in-Err-clause-ends g c =
-    (c.in-Ok.bytes.items, [], c.in-Ok.ensures.ok, none_added (g.O.Sink.held c.args.output.now), refl)
+    (c.in-Ok.bytes.items, [], c.in-Ok.ensures.ok, none_added (g.O.Sink.held c.args.output.now), inl refl)

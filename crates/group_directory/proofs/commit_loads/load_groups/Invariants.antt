@@ -3,7 +3,7 @@ use Rattle.std.specs.Vec.Iter.{into_iter_items}
 use Rattle.group_directory.specs.Committing.{loaded}
 use Rattle.group_directory.proofs.commit_loads.load_groups.Given as goal
 
--- what is left goes behind as all did
+-- what is left goes after as all did
 abbrev pub invariant-loop-packed : goal.invariant-loop-packed
 invariant-loop-packed l = record {
   groups : l.list.groups.items ++ loaded l.list.next (into_iter_items l.packed-iterator) ≡ l.fn.list.groups.items ++ loaded l.fn.list.next l.fn.loads.items;

@@ -1,7 +1,7 @@
 use Rattle.std.proofs.Common.{◌≤◌, ◌∙◌, subst, arith}
 use Rattle.std.proofs.lemmas.Bool.Decides.{nat_tests}
 use Rattle.group_log.specs.Followed.{ground_of}
-use Rattle.reorganize.proofs.Courses.{course_begins}
+use Rattle.statement_core.proofs.Courses.{course_begins}
 use Rattle.script_runner.specs.Moves.{StopsShort, MakesTurn, Moved}
 use Rattle.script_runner.proofs.Moving.{may_turn, moved_idle, moved_short, moved_turn}
 use Rattle.script_runner.proofs.Steps.{at_err}

@@ -1,6 +1,6 @@
 use Rattle.std.proofs.Common.{◌≡◌}
 use Rattle.group_log.specs.Followed.{ground_of}
-use Rattle.reorganize.specs.Courses.{IsTurning}
+use Rattle.statement_core.specs.Courses.{IsTurning}
 use Rattle.script_runner.specs.Moves.{Moved}
 use Rattle.script_runner.proofs.moves.make_turns.Given as goal
 

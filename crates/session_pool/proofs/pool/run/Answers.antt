@@ -14,6 +14,9 @@ pub returns-in-Err-clause-stopped : goal.returns-in-Err-clause-stopped
 returns-in-Err-clause-stopped g c =
     c.core_of.ensures.front c.args.movers (subst (AreAtRest g.J.Made.sessions g.J.Made.lines c.args.movers false) (sym (c.in-Err.ensures.err ∙ c.new-pooled.ensures)) (rests_first g.J.Made.sessions g.J.Made.lines c.args.movers))
 
+pub new-pooled-requires-clause-claims : goal.new-pooled-requires-clause-claims
+new-pooled-requires-clause-claims g c = c.log-log.ensures.none c.requires.log
+
 pub new-pooled-requires-clause-numbers : goal.new-pooled-requires-clause-numbers
 new-pooled-requires-clause-numbers g c = subst (All (λ s. s < 65)) (sym c.requires.script.sessions_are) (sessions_below c.args.script.now c.requires.script.runnable)
 

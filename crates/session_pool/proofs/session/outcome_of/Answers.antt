@@ -1,7 +1,7 @@
 use Rattle.std.proofs.Common.{sym, ◌∙◌}
 use Rattle.cs_model.specs.State.{begin_of}
 use Rattle.group_log.specs.Followed.{ground_of}
-use Rattle.script_turns.proofs.Awaiting.{awaits_done}
+use Rattle.statement_core.proofs.Awaiting.{awaits_done}
 use Rattle.session_pool.specs.Events.{entries_in}
 use Rattle.session_pool.proofs.Outcomes.{desk_counts, desk_left, done_left, done_short, some_over}
 use Rattle.session_pool.proofs.Working.{works_none}

@@ -18,5 +18,5 @@ returns c =
     let i = c.self.invariant.0 in
     subst (λ (v : CoreValue). IfOk c.ledger.result (IsLedgerAt (ground_of v.schema v.sizes) v.log)) c.self.view_is
     (IfOk-weaker c.ledger.result (IsLedgerOf (groups_of inside.held)) _
-    (λ ledger is. record { moment = moment inside.terms.value inside.held inside.log.items _ inside.sessions.items i; of = is })
+    (λ ledger is. record { moment = moment inside.terms.value inside.held inside.log.items _ inside.sessions.items i; holds = is })
     (ledger_found inside.held.directory.list c.ledger.result c.ledger.ensures.lines c.ledger.ensures.buffered c.ledger.ensures.holders))

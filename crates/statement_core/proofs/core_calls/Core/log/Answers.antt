@@ -1,4 +1,4 @@
-use Rattle.std.proofs.Common.{subst}
+use Rattle.std.proofs.Common.{◌≡◌, [], subst}
 use Rattle.cs_model.specs.State.{begin_of}
 use Rattle.cs_model.specs.Steps.{Legal}
 use Rattle.group_log.specs.Counted.{IsCounted}
@@ -8,7 +8,7 @@ use Rattle.statement_core.specs.CoreValue.{CoreValue}
 use Rattle.statement_core.specs.CoreState.{state_of, groups_of}
 use Rattle.statement_core.specs.Turns.{HasAllClaims}
 use Rattle.statement_core.proofs.Keeping.{core_legal}
-use Rattle.statement_core.proofs.Turns.{all_claims}
+use Rattle.statement_core.proofs.Turns.{all_claims, no_claims}
 use Rattle.statement_core.proofs.core_calls.Core.log.Goals as goal
 
 pub returns-clause-legal : goal.returns-clause-legal
@@ -37,3 +37,8 @@ pub returns-clause-claims : goal.returns-clause-claims
 returns-clause-claims c =
     let inside = c.self.inside in
     subst (λ (v : CoreValue). HasAllClaims (ground_of v.schema v.sizes) v.log v.claims) c.self.view_is (all_claims inside.terms.value inside.held inside.log.items _ inside.sessions.items c.self.invariant.0)
+
+pub returns-clause-none : goal.returns-clause-none
+returns-clause-none c =
+    let inside = c.self.inside in
+    subst (λ (v : CoreValue). v.log ≡ [] → v.claims ≡ []) c.self.view_is (no_claims inside.terms.value inside.held inside.log.items _ inside.sessions.items c.self.invariant.0)

@@ -1,6 +1,0 @@
-use Rattle.std.specs.List.{All}
-use Rattle.cs_types.specs.Schemas.{IsRowOf}
-use Rattle.group_reports.proofs.tests.versions_of.Given as goal
-
-abbrev pub invariant-loop-cells : goal.invariant-loop-cells
-invariant-loop-cells g l = All (λ version. IsRowOf l.schema version.row) l.versions

@@ -1,6 +1,0 @@
-use Rattle.std.specs.List.{All}
-use Rattle.cs_types.specs.Schemas.{IsRowOf}
-use Rattle.group_view.proofs.tests.packed.Given as goal
-
-abbrev pub invariant-loop-key : goal.invariant-loop-key
-invariant-loop-key l = All (λ version. IsRowOf l.schema version.row) l.versions
