@@ -60,7 +60,7 @@ pub taken : (x rest : List Fault) (found next total : Option Fault) → next ≡
 taken x rest found next total e before =
     ap (λ z. earlier z (least rest)) e ∙ earlier_assoc found (least x) (least rest) ∙ ap (earlier found) (sym (least_append x rest)) ∙ before
 
--- what stands at a place, and behind it
+-- what stands at a place, and after it
 pub drop_here : {A : Type 0} (w : List A) (i : ℕ) (a : A) → i < length w → a ≡ get_or w i a → drop i w ≡ a ∷ drop (i + 1) w
 drop_here w i a lt is =
     let one : suc i ≡ i + 1 = omega arith in

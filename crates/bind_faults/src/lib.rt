@@ -2,7 +2,7 @@
 //!
 //! Its one contract: `first_fault` is the one fault that a statement is refused for, which is the place of a table that
 //! is not there, and else the leftmost of all faults of the statement, at one place the one of the least number. It
-//! takes no memory. It stands on `cs_types`, `tsql_trees` and `bind_names`.
+//! takes no memory. It depends on `cs_types`, `tsql_trees` and `bind_names`.
 #![tactic(auto)]
 
 ghost use Rattle.std.specs.Prelude.{◌≡◌};

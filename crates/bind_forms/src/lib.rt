@@ -2,7 +2,7 @@
 //!
 //! Its one contract: each call gives exactly the bound form that the definitions in specs/ say, unless memory ran out. The
 //! definitions are total: a statement with a fault, as a name that is no column, has a bound form too, which nobody uses.
-//! It stands on `cs_model`, `bind_names` and `tsql_trees`.
+//! It depends on `cs_model`, `bind_names` and `tsql_trees`.
 #![tactic(auto)]
 
 mod expr;

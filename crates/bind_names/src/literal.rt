@@ -20,7 +20,7 @@ pub fn trimmed(text: &[u8]) -> &[u8]
     rest
 }
 
-/// The day that a text literal names, `YYYY-MM-DD` or `YYYYMMDD` and any spaces behind it, as the number of days since
+/// The day that a text literal names, `YYYY-MM-DD` or `YYYYMMDD` and any spaces after it, as the number of days since
 /// 1970-01-01; None exactly where it is no date.
 pub fn date_literal(text: &[u8]) -> Option<i64>
     ensures { result ≡ date_literal text.now }

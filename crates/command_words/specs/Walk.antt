@@ -1,4 +1,4 @@
--- The words behind the mode, judged one pair behind the other.
+-- The words after the mode, judged one pair after the other.
 use Rattle.std.specs.Prelude.{ℕ, List, [], ◌∷◌, Bool, true, false, not, ◌&&◌, ◌||◌, bytes_eq, if◌then◌else◌, Option, None, Some}
 use Rattle.std.specs.List.{find}
 use Rattle.cs_types.specs.Calendar.{digits_value}
@@ -36,12 +36,12 @@ are_pairs mode [] = true
 are_pairs mode (name ∷ []) = false
 are_pairs mode (name ∷ value ∷ rest) = is_pair mode (name, value) && not (is_named name rest) && are_pairs mode rest
 
--- the value of the first text behind the option's name
+-- the value of the first text after the option's name
 abbrev pub value_among : OptionRow → Words → ℕ
 value_among row [] = row.usual
 value_among row (name ∷ []) = row.usual
 value_among row (name ∷ value ∷ rest) = if bytes_eq row.name name then (if is_value row value then digits_value value else row.usual) else value_among row rest
 
--- the order of a mode with these words behind it, where they are pairs of it
+-- the order of a mode with these words after it, where they are pairs of it
 abbrev pub order_in : Mode → Words → Option Order
 order_in mode words = if are_pairs mode words then Some (order_with mode (λ row. value_among row words)) else None

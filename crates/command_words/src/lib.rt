@@ -10,6 +10,3 @@ mod order;
 mod pairs;
 
 pub use order::{Order, RunOptions, Workload, orders_are_in_range};
-
-#[cfg(test)]
-mod tests;

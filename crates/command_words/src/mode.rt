@@ -72,7 +72,7 @@ impl Mode {
         }
     }
 
-    /// The order of the mode with the words behind it; None where they are no pairs of its options and their values.
+    /// The order of the mode with the words after it; None where they are no pairs of its options and their values.
     pub fn order(self, words: &[String]) -> Option<Order>
         ensures { result ≡ order_in self (map string_bytes words.now) }
     {

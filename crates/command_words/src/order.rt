@@ -48,7 +48,7 @@ pub enum Order {
 }
 
 impl Order {
-    /// The order that the words are, without the program's name: the first one is the mode, and behind it stand pairs of an
+    /// The order that the words are, without the program's name: the first one is the mode, and after it stand pairs of an
     /// option of that mode and its value, in any order, no option twice. A value is 1 to 10 digits whose number is in the
     /// option's range. An option that does not stand has its usual value. None of all other words.
     pub fn of_words(words: &[String]) -> Option<Order>

@@ -1,4 +1,4 @@
-// The pairs of an option and a value that stand behind the mode.
+// The pairs of an option and a value that stand after the mode.
 ghost use Rattle.std.specs.Prelude.{◌≡◌, map, string_bytes};
 ghost use Rattle.command_words.specs.Orders.{is_of, is_pair};
 ghost use Rattle.std.specs.List.{list_any};

@@ -5,7 +5,7 @@ use Rattle.std.proofs.lemmas.Bool.Decides.{nat_tests, eqb_tells}
 use Rattle.cs_model.specs.Likes.{Like, StandsFor, has_end, has_first, is_like, meets}
 use Rattle.cs_model.proofs.LikeLemmas.{whole_end, either_true, right_true, first_true, second_true}
 
--- an end is what stands behind a run
+-- an end is what stands after a run
 end_splits : (test : List ℕ → Bool) (text : List ℕ) → has_end test text ≡ true → (run : List ℕ) × (rest : List ℕ) × (text ≡ run ++ rest) × (test rest ≡ true)
 end_splits test [] h = ([], [], refl, h)
 end_splits test (b ∷ text) h =

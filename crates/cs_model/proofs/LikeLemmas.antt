@@ -31,7 +31,7 @@ end_of_end test (b ∷ text) h =
     (λ (later : has_end (has_end test) text ≡ true). right_true (test (b ∷ text)) (has_end test text) (end_of_end test text later))
     (either_true (has_end test (b ∷ text)) (has_end (has_end test) text) h)
 
--- where an end of a text begins with a pattern's byte, what is behind that byte is an end of what is behind the text's first one
+-- where an end of a text begins with a pattern's byte, what is after that byte is an end of what is after the text's first one
 behind_first : (p : ℕ) (test first : List ℕ → Bool) → ((text : List ℕ) → first text ≡ has_first p test text)
     → (b : ℕ) (text : List ℕ) → has_end first (b ∷ text) ≡ true → has_end test text ≡ true
 behind_first p test first same b [] h =

@@ -8,7 +8,7 @@ use Rattle.cs_model.specs.Actors.{actor_of}
 use Rattle.cs_model.specs.Text.{statements_of, is_start_of, entry_text, text_after, text}
 use Rattle.cs_model.specs.Places.{start_added}
 
--- an entry behind the first i ones
+-- an entry after the first i ones
 module _ (log : List Entry) (i : ℕ) (e : Entry) (within : i < length log) (is : e ≡ get_or log i e) where
   taken : take (i + 1) log ≡ take i log ++ e ∷ []
   taken = take_more log i e within ∙ ap (λ x. take i log ++ x ∷ []) (sym is)

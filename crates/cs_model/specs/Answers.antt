@@ -35,7 +35,7 @@ abbrev pub kept : Column → Computed → Result Value ℕ
 kept column (Ok x) = numbered (fit column.kind column.nullable x)
 kept column (Err refusal) = Err (expr_number refusal)
 
--- a cell before those behind it, or its refusal with the column, counted from 1
+-- a cell before those after it, or its refusal with the column, counted from 1
 abbrev pub cell_onto : ℕ → Result Value ℕ → Result (List Value) (ℕ × ℕ) → Result (List Value) (ℕ × ℕ)
 cell_onto i (Err number) cells = Err (number, i + 1)
 cell_onto i (Ok v) (Ok cells) = Ok (v ∷ cells)
@@ -46,7 +46,7 @@ abbrev pub cells_from : (ℕ → Column → Result Value ℕ) → ℕ → List C
 cells_from cell i [] = Ok []
 cells_from cell i (column ∷ rest) = cell_onto i (cell i column) (cells_from cell (i + 1) rest)
 
--- what is written of a row before what is written of those behind it, or its refusal with the row
+-- what is written of a row before what is written of those after it, or its refusal with the row
 abbrev pub row_onto : {Y : Type 0} → ℕ → Result Y (ℕ × ℕ) → Result (List Y) Refusal → Result (List Y) Refusal
 row_onto n (Err refusal) rows = Err (Valued refusal.0 n refusal.1)
 row_onto n (Ok row) (Ok rows) = Ok (row ∷ rows)

@@ -10,7 +10,7 @@ abbrev pub Like : List ℕ → List ℕ → Type 0
 Like [] text = text ≡ []
 Like (p ∷ pattern) text = (run : List ℕ) × (rest : List ℕ) × (text ≡ run ++ rest) × StandsFor p run × Like pattern rest
 
--- a text, or what stands behind some bytes of it, passes a test
+-- a text, or what stands after some bytes of it, passes a test
 abbrev pub has_end : (List ℕ → Bool) → List ℕ → Bool
 has_end test [] = test []
 has_end test (b ∷ text) = test (b ∷ text) || has_end test text
@@ -19,7 +19,7 @@ has_end test (b ∷ text) = test (b ∷ text) || has_end test text
 abbrev pub meets : ℕ → ℕ → Bool
 meets p b = (p == 95) || (p == b)
 
--- a byte of a pattern, other than `%`, stands for the first byte of a text, and what is behind passes a test
+-- a byte of a pattern, other than `%`, stands for the first byte of a text, and what is after passes a test
 abbrev pub has_first : ℕ → (List ℕ → Bool) → List ℕ → Bool
 has_first p test [] = false
 has_first p test (b ∷ text) = meets p b && test text

@@ -38,6 +38,3 @@ pub use report::{GroupLine, GroupState, SegmentLine};
 pub use series::series_schema;
 pub use truth::Truth;
 pub use work::{Actor, Work};
-
-#[cfg(test)]
-mod tests;

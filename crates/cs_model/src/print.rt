@@ -14,7 +14,7 @@ use cs_base::Memory;
 use cs_types::{ColumnType, Key, Line, Loose, Schema, Value, print_loose, print_value};
 use std::alloc::Global;
 
-/// Adds cells, each behind a comma and a space.
+/// Adds cells, each after a comma and a space.
 fn append_next_cells(cells: &[Loose], line: &mut Line) -> Result<(), Memory>
     requires { All IsPrintable cells.now }
     ensures { OnOk result (line.new ≡ line.old ++ flat_map next_cell cells.now) }
@@ -231,7 +231,7 @@ fn append_place(place: u64, line: &mut Line) -> Result<(), Memory>
     line.append_number(place)
 }
 
-/// Adds the text of an event; after `Memory` a front of it may stand in the line.
+/// Adds the text of an event; after `Memory` a prefix of it may stand in the line.
 pub fn append_entry(
     schema: &Schema,
     event: u64,

@@ -57,7 +57,7 @@ fn bit_of(holds: bool) -> u64
     if holds { 1 } else { 0 }
 }
 
-/// Adds a part, behind a comma and a space.
+/// Adds a part, after a comma and a space.
 fn append_part(part: &[u8], line: &mut Line) -> Result<(), Memory>
     ensures { OnOk result (line.new ≡ line.old ++ next_part part.now) }
 {
@@ -65,7 +65,7 @@ fn append_part(part: &[u8], line: &mut Line) -> Result<(), Memory>
     line.append(part)
 }
 
-/// Adds a number, behind a comma and a space.
+/// Adds a number, after a comma and a space.
 fn append_count(count: u64, line: &mut Line) -> Result<(), Memory>
     ensures { OnOk result (line.new ≡ line.old ++ next_part (decimal count)) }
 {
@@ -73,7 +73,7 @@ fn append_count(count: u64, line: &mut Line) -> Result<(), Memory>
     line.append_number(count)
 }
 
-/// Adds a cell of a column of this type, behind a comma and a space.
+/// Adds a cell of a column of this type, after a comma and a space.
 fn append_cell(kind: ColumnType, cell: &Value, line: &mut Line) -> Result<(), Memory>
     requires { IsPrintableCell kind cell.now }
     ensures { OnOk result (line.new ≡ line.old ++ next_part (value_text kind cell.now)) }

@@ -22,7 +22,7 @@ left_moves left items slice buf at n l s m = rw (m, s, take_rest, ← l, ← dro
 pub counted_once : (before now turns : ℕ) → before ≤ turns → now ≡ count_up before → now ≤ turns + 1
 counted_once before now turns small is = grind arith
 
--- the front of a piece is the front of what the piece was cut from
+-- the prefix of a piece is the prefix of what the piece was cut from
 pub front_of_piece : (rest piece : List ℕ) (size n : ℕ) → piece ≡ take size rest → n ≤ length piece → take n piece ≡ take n rest
 front_of_piece rest piece size n is short = ap (take n) is ∙ take-take n size rest (grind (arith, short, ap length is, length-take size rest))
 

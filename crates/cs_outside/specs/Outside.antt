@@ -10,7 +10,7 @@ pub record HasCause {T E : Type 0} (before now : ℕ) (result : Result T E) : Ty
   pub later : before ≤ now
   pub failed : OnErr result (Rose before now)
 
--- these bytes were taken from the front of those that are left, where they are told; whether they are told stays
+-- these bytes were taken from the start of those that are left, where they are told; whether they are told stays
 abbrev pub Takes : Option (List ℕ) → Option (List ℕ) → List ℕ → Type 0
 Takes old new bytes = old ≡ prepend_known bytes new
 
@@ -18,7 +18,7 @@ Takes old new bytes = old ≡ prepend_known bytes new
 abbrev pub Adds : Option (List ℕ) → Option (List ℕ) → List ℕ → Type 0
 Adds old new bytes = new ≡ append_known old bytes
 
--- some front of these bytes was added
+-- some prefix of these bytes was added
 abbrev pub AddsFront : Option (List ℕ) → Option (List ℕ) → List ℕ → Type 0
 AddsFront old new bytes = (n : ℕ) × (n ≤ length bytes) × Adds old new (take n bytes)
 

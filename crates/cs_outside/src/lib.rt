@@ -1,8 +1,8 @@
 //! The outside of the program: its words, a source of bytes and a sink for them, each with a count of its faults, and the
 //! two calls that read all of a source and write all of a text.
 //!
-//! Its one contract: bytes move from the front of what a source has left and to the end of what a sink holds, and a call
-//! fails only where the count of faults rose. It stands on `cs_base`.
+//! Its one contract: bytes move from the start of what a source has left and to the end of what a sink holds, and a call
+//! fails only where the count of faults rose. It depends on `cs_base`.
 #![tactic(auto)]
 
 mod arguments;
@@ -11,8 +11,6 @@ mod memory;
 mod sink;
 mod source;
 mod standard;
-#[cfg(test)]
-mod tests;
 
 pub use arguments::words;
 pub use memory::{MemorySink, MemorySource};

@@ -68,7 +68,7 @@ fn is_listed(failing: &[u64], call: u64) -> bool
     failing.contains(&call)
 }
 
-/// Copies bytes from the front of `rest` into the front of `buf`, as many as fit and at most `step`, and answers how many.
+/// Copies bytes from the start of `rest` into the start of `buf`, as many as fit and at most `step`, and answers how many.
 fn fill(buf: &mut [u8], rest: &[u8], step: usize) -> usize
     requires { 0 < step }
     ensures count { result ≡ min step (min (length buf.old) (length rest.now)) }

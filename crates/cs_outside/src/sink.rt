@@ -22,7 +22,7 @@ pub trait Sink {
     /// How often `write` was called, up to the last number of 64 bits.
     ghost calls: { Self → ℕ };
 
-    /// Adds bytes from the front of `piece`, at least one where it has one, and answers how many. After `Failed` nothing
+    /// Adds bytes from the start of `piece`, at least one where it has one, and answers how many. After `Failed` nothing
     /// was added.
     fn write(&mut self, piece: &[u8]) -> Result<usize, Failed>
         ensures bound { WritesAtMost result piece.now }
@@ -36,12 +36,12 @@ pub trait Sink {
 /// Why a text was not written whole.
 #[derive(Clone, Copy, Debug, PartialEq, Eq, Error)]
 pub enum WriteRefusal {
-    /// A write failed: the sink's count of faults rose in this call. A front of the text was added.
+    /// A write failed: the sink's count of faults rose in this call. A prefix of the text was added.
     #[error("a write failed")]
     Fault,
 }
 
-/// The front of these bytes that one call of `write` is handed.
+/// The prefix of these bytes that one call of `write` is handed.
 fn first_piece(bytes: &[u8]) -> &[u8]
     ensures { result.now ≡ take PIECE bytes.now }
 {
@@ -49,7 +49,7 @@ fn first_piece(bytes: &[u8]) -> &[u8]
 }
 
 /// Writes all of the bytes, in pieces of at most 65,536. It takes no memory of its own, and calls `write` at most once for
-/// each byte. Error: `Fault` only where the count of faults rose; a front of the bytes was added then.
+/// each byte. Error: `Fault` only where the count of faults rose; a prefix of the bytes was added then.
 pub fn write_whole<O: Sink>(sink: &mut O, bytes: &[u8]) -> Result<(), WriteRefusal>
     ensures ok { OnOk result (Adds (O.held sink.old) (O.held sink.new) bytes.now) }
     ensures err { OnErr result (AddsFront (O.held sink.old) (O.held sink.new) bytes.now) }

@@ -12,7 +12,7 @@ use thiserror::Error;
 /// How many bytes one call of `read` may take.
 const PIECE: usize = 8_192;
 
-/// Bytes that are read from the front on.
+/// Bytes that are read from the first one on.
 pub trait Source {
     /// The bytes that are left, where the source tells them. No call changes whether it does.
     ghost left: { Self → Option (List ℕ) };
@@ -23,7 +23,7 @@ pub trait Source {
     /// How often `read` was called, up to the last number of 64 bits.
     ghost calls: { Self → ℕ };
 
-    /// Moves bytes from the front of those that are left into the front of `buf`, and answers how many. Zero on a buffer
+    /// Moves bytes from the start of those that are left into the start of `buf`, and answers how many. Zero on a buffer
     /// that is not empty comes only at the end. After `Failed` the bytes that are left are as before.
     fn read(&mut self, buf: &mut [u8]) -> Result<usize, Failed>
         ensures bound { ReadsAtMost result buf.new }
@@ -60,7 +60,7 @@ pub fn read_all<I: Source>(
     ensures end { IfOk result (λ bytes. IsAtEnd (I.left source.new)) }
     ensures within { IfOk result (λ bytes. length bytes.items ≤ limit) }
     ensures fault { IsErrOf result InputRefusal.Fault → Rose (I.faults source.old) (I.faults source.new) }
-    // Whatever the answer, some bytes were taken from the front; it is `TooLong` exactly where they are too many.
+    // Whatever the answer, some bytes were taken from the start; it is `TooLong` exactly where they are too many.
     ensures came { (came : List ℕ) × Takes (I.left source.old) (I.left source.new) came × (IsErrOf result InputRefusal.TooLong ↔ (limit < length came)) }
     ensures later { I.faults source.old ≤ I.faults source.new }
     ensures turns { I.calls source.new ≤ I.calls source.old + limit + 1 }

@@ -162,6 +162,3 @@ pub fn copy_bytes(bytes: &Bytes) -> Result<Bytes, Memory>
 {
     Ok(bytes.clone()?)
 }
-
-#[cfg(test)]
-mod tests;

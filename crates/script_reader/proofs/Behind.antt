@@ -1,4 +1,4 @@
--- One more line behind those that were read.
+-- One more line after those that were read.
 use Rattle.std.proofs.Common.{◌≡◌, ℕ, List, [], ◌∷◌, ◌++◌, refl, sym, ap, subst, ◌∙◌, append_assoc, ◌⊎◌, inl, inr}
 use Rattle.std.proofs.lemmas.List.{append-nil}
 use Rattle.std.proofs.lemmas.List.Elements.{filter_map-append}
@@ -52,7 +52,7 @@ pub step_good : (mode : Mode) (texts : List (List ℕ)) (steps : List Step) (ste
 step_good mode [] steps step e = absurd (cc)
 step_good mode (text ∷ texts) steps step e = e
 
--- ---- what is read behind one more line
+-- ---- what is read after one more line
 
 module _ (mode : Mode) (before : List (List ℕ)) (line : List ℕ) (old : Reading) (r : IsRead mode before old) (none : reason_behind mode before line ≡ None) where
   pub quiet_read : (form : Form) → form_of line ≡ form → (form ≡ Skipped) ⊎ (form ≡ Other) → IsRead mode (before ++ line ∷ []) old

@@ -114,7 +114,7 @@ numbered_sound line front form each rest cut = at (is_number (take_while is_digi
         (cut ∙ ap (λ xs. front ++ xs) (sym (take-append-drop (prefix_len is_digit rest) rest)))
     at false e = inl refl
 
--- what stands behind a front
+-- what stands after a prefix
 behind_is : (front line : List ℕ) → starts_with nat_eq line front ≡ true → line ≡ front ++ drop (length front) line
 behind_is [] line e = refl
 behind_is (f ∷ front) [] e = absurd (cc)

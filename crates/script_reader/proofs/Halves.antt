@@ -1,4 +1,4 @@
--- What is half done behind one more step.
+-- What is half done after one more step.
 use Rattle.std.proofs.Common.{◌≡◌, ℕ, suc, ◌<◌, List, [], ◌∷◌, ◌++◌, get_or, set, refl, sym, ap, subst, ◌∙◌, cond, Bool, true, false, arith, ◌⊎◌, inl, inr, get_or-set_other, get_or-set_same}
 use Rattle.std.proofs.lemmas.Bool.{eqb-true, eqb-false, leb-true, ne_eqb}
 use Rattle.std.proofs.lemmas.List.{append-nil, length-set}

@@ -51,7 +51,7 @@ line_reason line = if nat_lt 65536 (length line) then Some 5 else (if list_all i
 abbrev pub is_blank : ℕ → Bool
 is_blank c = (c == 9) || (c == 32)
 
--- without the blanks at the front
+-- without the blanks at the start
 abbrev pub unblanked : List ℕ → List ℕ
 unblanked [] = []
 unblanked (c ∷ rest) = if is_blank c then unblanked rest else c ∷ rest
@@ -62,7 +62,7 @@ stripped line = reverse (unblanked (reverse (unblanked line)))
 
 -- ---- its form
 
--- what stands behind a front, where the line begins with it
+-- what stands after a prefix, where the line begins with it
 abbrev pub behind : List ℕ → List ℕ → Option (List ℕ)
 behind front line = if starts_with nat_eq line front then Some (drop (length front) line) else None
 
@@ -71,7 +71,7 @@ abbrev pub some_text : List ℕ → Option (List ℕ)
 some_text [] = None
 some_text (b ∷ text) = Some (b ∷ text)
 
--- the text behind blanks, of which there is one at least
+-- the text after blanks, of which there is one at least
 abbrev pub blanked_text : List ℕ → Option (List ℕ)
 blanked_text [] = None
 blanked_text (c ∷ rest) = if is_blank c then some_text (unblanked rest) else None
@@ -80,7 +80,7 @@ abbrev pub finish_form : ℕ → List ℕ → Form
 finish_form session [] = Ask (Finished session)
 finish_form session (b ∷ rest) = Other
 
--- behind `s<n>`: `>` (byte 62) and a text with or without blanks before it, `<` (byte 60) and nothing, or blanks and a text
+-- after `s<n>`: `>` (byte 62) and a text with or without blanks before it, `<` (byte 60) and nothing, or blanks and a text
 abbrev pub session_form : ℕ → List ℕ → Form
 session_form session [] = Other
 session_form session (c ∷ rest) =
@@ -92,21 +92,21 @@ abbrev pub is_number : List ℕ → Bool
 is_number [] = false
 is_number (d ∷ digits) = not (d == 48) && nat_le (length digits) 8
 
--- behind `m<n>`: nothing, or `>` or `<` alone
+-- after `m<n>`: nothing, or `>` or `<` alone
 abbrev pub mover_form : ℕ → List ℕ → Form
 mover_form mover [] = Ask (Turn mover)
 mover_form mover (c ∷ []) = if c == 62 then Ask (Claiming mover) else (if c == 60 then Ask (Installing mover) else Other)
 mover_form mover (c ∷ d ∷ rest) = Other
 
--- behind `s` or `m`: a number, and what follows its digits
+-- after `s` or `m`: a number, and what follows its digits
 abbrev pub numbered_form : (ℕ → List ℕ → Form) → List ℕ → Form
 numbered_form form line = if is_number (take_while is_digit line) then form (digits_value (take_while is_digit line)) (drop (prefix_len is_digit line) line) else Other
 
--- behind `setup`: blanks and a text
+-- after `setup`: blanks and a text
 abbrev pub setup_form : List ℕ → Form
 setup_form rest = option_map_or Setup (blanked_text rest) Other
 
--- what stands behind `setup`, `s` or `m`
+-- what stands after `setup`, `s` or `m`
 abbrev pub named_form : List ℕ → Form
 named_form line =
     option_map_or setup_form (behind (codes "setup") line)

@@ -34,7 +34,7 @@ IsPlaced (Setup text) = Unit {0}
 IsPlaced Skipped = Unit {0}
 IsPlaced Other = Unit {0}
 
--- each place, by the actors' numbers, says whether its actor has something half done behind these steps
+-- each place, by the actors' numbers, says whether its actor has something half done after these steps
 abbrev pub AreMarkedFor : (ℕ → Actor) → ℕ → List Bool → List Step → Type 0
 AreMarkedFor actor places marks steps = (length marks ≡ places) × ((n : ℕ) → n < places → slice_index_or marks n false ≡ half_done (actor n) steps)
 
@@ -63,7 +63,7 @@ pub record IsRead (mode : Mode) (lines : List (List ℕ)) (reading : Reading) : 
   pub steps : reading.lines ≡ steps_of lines
   pub marked : AreMarked reading.half_done reading.lines
 
--- why the n-th line, behind these, is refused
+-- why the n-th line, after these, is refused
 abbrev pub RefusesLine : Mode → List (List ℕ) → List ℕ → ℕ → ScriptRefusal → Type 0
 RefusesLine mode before line n (Bad at reason number) = (at ≡ n) × IsBad mode before line reason number × (IsGood mode before line → ⊥)
 RefusesLine mode before line n Memory = Unit {0}

@@ -67,7 +67,7 @@ is_begun (Some (Turn mover)) = false
 is_begun (Some (Claiming mover)) = true
 is_begun (Some (Installing mover)) = false
 
--- a session has a statement half done behind these steps, or a mover a turn: its last step begins one alone
+-- a session has a statement half done after these steps, or a mover a turn: its last step begins one alone
 unfoldable pub half_done : Actor → List Step → Bool
 half_done actor steps = is_begun (last_or None (filter (is_by actor) steps))
 
@@ -80,7 +80,7 @@ may_follow before (Turn mover) = not (half_done (Mover mover) before)
 may_follow before (Claiming mover) = not (half_done (Mover mover) before)
 may_follow before (Installing mover) = half_done (Mover mover) before
 
--- each of the steps may follow those before it, and behind the last nothing is half done
+-- each of the steps may follow those before it, and after the last nothing is half done
 abbrev pub ArePaired : List Step → List Step → Type 0
 ArePaired before [] = (actor : Actor) → half_done actor before ≡ false
 ArePaired before (step ∷ steps) = (may_follow before step ≡ true) × ArePaired (before ++ step ∷ []) steps
@@ -124,7 +124,7 @@ allows Run (Turn mover) = false
 allows Run (Claiming mover) = false
 allows Run (Installing mover) = false
 
--- why a step is bad behind these: one that the mode does not have (reason 3), of another actor (reason 4), or no step that may
+-- why a step is bad after these: one that the mode does not have (reason 3), of another actor (reason 4), or no step that may
 -- follow (reason 7)
 abbrev pub step_reason : Mode → List Step → Step → Option ℕ
 step_reason mode before step = if not (allows mode step) then Some 3 else (if not (is_actor (taken_by step)) then Some 4 else (if may_follow before step then None else Some 7))
@@ -139,7 +139,7 @@ form_reason mode (setup ∷ setups) before (Setup text) = Some 2
 form_reason mode [] before (Ask step) = Some 2
 form_reason mode (setup ∷ setups) before (Ask step) = step_reason mode before step
 
--- why a line is bad behind the lines before it, but for a setup statement that is refused
+-- why a line is bad after the lines before it, but for a setup statement that is refused
 abbrev pub reason_behind : Mode → List (List ℕ) → List ℕ → Option ℕ
 reason_behind mode before line = option_or (line_reason line) (form_reason mode (setups before) (steps_of before) (form_of line))
 
@@ -149,11 +149,11 @@ HasTable Skipped = Unit {0}
 HasTable (Ask step) = Unit {0}
 HasTable Other = Unit {0}
 
--- a line is good behind the lines before it: it has no reason to be bad, and its setup statement, if it has one, is a table's
+-- a line is good after the lines before it: it has no reason to be bad, and its setup statement, if it has one, is a table's
 abbrev pub IsGood : Mode → List (List ℕ) → List ℕ → Type 0
 IsGood mode before line = (reason_behind mode before line ≡ None) × HasTable (form_of line)
 
--- each of the lines is good behind those before it
+-- each of the lines is good after those before it
 abbrev pub AreGood : Mode → List (List ℕ) → List (List ℕ) → Type 0
 AreGood mode before [] = Unit {0}
 AreGood mode before (line ∷ lines) = IsGood mode before line × AreGood mode (before ++ line ∷ []) lines
@@ -170,7 +170,7 @@ pub record IsScript (mode : Mode) (bytes : List ℕ) (script : Script) : Type 0 
   pub finished : (actor : Actor) → half_done actor script.lines ≡ false
   pub sessions : script.sessions ≡ sessions_of script.lines
 
--- why a line is bad behind the lines before it, and the error number of a refused setup statement (reason 8), else 0
+-- why a line is bad after the lines before it, and the error number of a refused setup statement (reason 8), else 0
 pub data IsBad (mode : Mode) (before : List (List ℕ)) (line : List ℕ) : ℕ → ℕ → Type 0 where
   by_reason : {reason : ℕ} → reason_behind mode before line ≡ Some reason → IsBad mode before line reason 0
   by_setup : (text : List ℕ) (at : ℕ) {number : ℕ} → reason_behind mode before line ≡ None → form_of line ≡ Setup text → IsNoTable text number at → IsBad mode before line 8 number

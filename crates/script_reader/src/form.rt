@@ -37,7 +37,7 @@ fn is_blank(byte: u8) -> bool
     byte == b'\t' || byte == b' '
 }
 
-/// The line without the blanks at its front.
+/// The line without the blanks at its start.
 fn unblanked(line: &[u8]) -> &[u8]
     ensures { result.now ≡ unblanked line.now }
 {
@@ -65,7 +65,7 @@ fn stripped(line: &[u8]) -> &[u8]
     rest
 }
 
-/// What stands behind a front, where the line begins with it.
+/// What stands after a prefix, where the line begins with it.
 fn behind<'a>(front: &[u8], line: &'a [u8]) -> Option<&'a [u8]>
     ensures { option_map (λ rest. rest.now) result ≡ spec.behind front.now line.now }
 {
@@ -108,7 +108,7 @@ fn text_of(alloc: Global, text: &[u8]) -> Result<Option<Bytes>, Memory>
     Ok(Some(Items::from_vec(text.to_vec(alloc)?)))
 }
 
-/// The text behind blanks; None where no blank stands before it, or it is empty.
+/// The text after blanks; None where no blank stands before it, or it is empty.
 fn blanked_text(alloc: Global, rest: &[u8]) -> Result<Option<Bytes>, Memory>
     ensures { IfOk result (λ copy. copy ≡ spec.blanked_text rest.now) }
 {
@@ -118,7 +118,7 @@ fn blanked_text(alloc: Global, rest: &[u8]) -> Result<Option<Bytes>, Memory>
     }
 }
 
-/// The form of a line by what stands behind its session.
+/// The form of a line by what stands after its session.
 fn session_form(alloc: Global, session: u32, rest: &[u8]) -> Result<Form, Memory>
     ensures { IfOk result (λ form. form ≡ session_form session rest.now) }
 {
@@ -134,7 +134,7 @@ fn session_form(alloc: Global, session: u32, rest: &[u8]) -> Result<Form, Memory
     Ok(step.map_or(Form::Other, Form::Ask))
 }
 
-/// The form of a line by what stands behind its mover.
+/// The form of a line by what stands after its mover.
 fn mover_form(mover: u32, rest: &[u8]) -> Form
     ensures { result ≡ mover_form mover rest.now }
 {
@@ -146,9 +146,9 @@ fn mover_form(mover: u32, rest: &[u8]) -> Form
     }
 }
 
-/// The number that a line begins with, and what stands behind its digits; None where it begins with no number.
+/// The number that a line begins with, and what stands after its digits; None where it begins with no number.
 fn numbered(line: &[u8]) -> Option<(u32, &[u8])>
-    // It gives each line its form by what stands behind `s` or `m`.
+    // It gives each line its form by what stands after `s` or `m`.
     ensures { (form : ℕ → List ℕ → Form) → option_map_or (λ x. form x.0 x.1.now) result Other ≡ numbered_form form line.now }
 {
     let (front, rest) = line.split_at(digits(line));
@@ -156,7 +156,7 @@ fn numbered(line: &[u8]) -> Option<(u32, &[u8])>
     Some((number, rest))
 }
 
-/// The form of a line by what stands behind its `setup`.
+/// The form of a line by what stands after its `setup`.
 fn setup_form(alloc: Global, rest: &[u8]) -> Result<Form, Memory>
     ensures { IfOk result (λ form. form ≡ spec.setup_form rest.now) }
 {
@@ -166,7 +166,7 @@ fn setup_form(alloc: Global, rest: &[u8]) -> Result<Form, Memory>
     }
 }
 
-/// The form of a line by what stands behind its `s`.
+/// The form of a line by what stands after its `s`.
 fn session_line(alloc: Global, rest: &[u8]) -> Result<Form, Memory>
     ensures { IfOk result (λ form. form ≡ numbered_form session_form rest.now) }
 {
@@ -176,7 +176,7 @@ fn session_line(alloc: Global, rest: &[u8]) -> Result<Form, Memory>
     }
 }
 
-/// The form of a line by what stands behind its `m`.
+/// The form of a line by what stands after its `m`.
 fn mover_line(rest: &[u8]) -> Form
     ensures { result ≡ numbered_form mover_form rest.now }
 {

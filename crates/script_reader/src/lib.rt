@@ -3,7 +3,7 @@
 //! last one.
 //!
 //! Its one contract: `read_script` gives the script that the grammar has for the bytes and a mode, and else the first bad line
-//! and its reason. It stands on `tsql_create` for the setup statement.
+//! and its reason. It depends on `tsql_create` for the setup statement.
 #![tactic(auto)]
 
 mod form;
@@ -11,8 +11,6 @@ mod line;
 mod lines;
 mod read;
 mod script;
-#[cfg(test)]
-mod tests;
 
 pub use read::read_script;
 pub use script::{Mode, Script, ScriptRefusal, Step};

@@ -26,7 +26,7 @@ fn cut_at(bytes: &[u8]) -> usize
     at
 }
 
-/// The first line, and what stands behind it; None where there is no line.
+/// The first line, and what stands after it; None where there is no line.
 pub fn next_line(bytes: &[u8]) -> Option<(&[u8], &[u8])>
     ensures shorter { IfSome result (λ x. length x.1.now < length bytes.now) }
     ensures lines { joined (option_map (λ x. (x.0.now, x.1.now)) result) ≡ lines bytes.now }

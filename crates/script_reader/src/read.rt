@@ -45,7 +45,7 @@ const OTHER_STEP: u32 = 3;
 /// A session that is not 1 to 64, or a mover that is not 1 to 8.
 const OTHER_ACTOR: u32 = 4;
 
-/// The end of a statement or a turn without its beginning, or a beginning behind which the end is missing.
+/// The end of a statement or a turn without its beginning, or a beginning after which the end is missing.
 const UNPAIRED: u32 = 7;
 
 /// A setup statement that is refused.
@@ -61,7 +61,7 @@ struct HalfDone {
 }
 
 impl HalfDone {
-    /// Behind no step.
+    /// After no step.
     fn none() -> HalfDone
         ensures { AreMarked result [] }
     {
@@ -71,7 +71,7 @@ impl HalfDone {
         }
     }
 
-    /// Marks what is half done behind one more step.
+    /// Marks what is half done after one more step.
     fn mark(&mut self, step: &Step)
         requires { HasPlace (taken_by step.now) }
         ensures { (steps : List Step) → AreMarked self.old steps → AreMarked self.new (steps ++ step.now ∷ []) }
@@ -109,7 +109,7 @@ struct Reading {
     schema: Option<Schema>,
     /// The steps of the lines.
     lines: Items<Step>,
-    /// What is half done behind them.
+    /// What is half done after them.
     half_done: HalfDone,
 }
 
@@ -137,7 +137,7 @@ impl Reading {
         }
     }
 
-    /// Why a step is bad in this mode, behind those so far.
+    /// Why a step is bad in this mode, after those so far.
     fn step_reason(&self, mode: Mode, step: &Step) -> Option<u32>
         ensures reason { AreMarked self.now.half_done self.now.lines → result ≡ spec.step_reason mode self.now.lines step.now }
         ensures placed { result ≡ None → HasPlace (taken_by step.now) }
@@ -153,7 +153,7 @@ impl Reading {
         }
     }
 
-    /// Why a line of this form is bad in this mode, behind those so far.
+    /// Why a line of this form is bad in this mode, after those so far.
     fn form_reason(&self, mode: Mode, form: &Form) -> Option<u32>
         ensures reason { (before : List (List ℕ)) → IsRead mode before self.now → result ≡ spec.form_reason mode (setups before) (steps_of before) form.now }
         ensures placed { result ≡ None → IsPlaced form.now }
@@ -299,7 +299,7 @@ fn sessions(alloc: Global, steps: &[Step]) -> Result<Items<u32>, Memory>
     Ok(sessions)
 }
 
-/// The script of this mode that these bytes are: the table of its setup line, and the steps of the lines behind it.
+/// The script of this mode that these bytes are: the table of its setup line, and the steps of the lines after it.
 ///
 /// A line's form, without tabs and spaces at both ends: empty or `--` and anything, which is skipped; `setup`, blanks and a
 /// text; `s`, a session's number and blanks and a text, a statement; `s`, the number, `>` and a text, its start alone; `s`,

@@ -34,7 +34,7 @@ impl Mode {
 pub struct Script {
     /// The table of the setup line.
     pub schema: Schema,
-    /// The steps of the lines behind it.
+    /// The steps of the lines after it.
     pub lines: Items<Step>,
     /// The sessions of the steps, ascending, each 1 to 64.
     pub sessions: Items<u32>,

@@ -2,7 +2,7 @@
 //! number of its words.
 //!
 //! It has no contract, since none can say what the system gives and takes: its one run tries the arguments, both standard
-//! streams and an exit status other than 0, by the functions that the columnstore calls. It stands on `cs_outside`.
+//! streams and an exit status other than 0, by the functions that the columnstore calls. It depends on `cs_outside`.
 #![tactic(auto)]
 
 use cs_outside::{Sink, Source, StdSink, StdSource, read_all, words, write_whole};

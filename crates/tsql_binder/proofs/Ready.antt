@@ -88,7 +88,7 @@ module _ (schema : Schema) where
   planned_ready (statements.Delete table filter) none = tt
   planned_ready (statements.Select items table filter groups order) none = tt
 
-  -- what is behind `sys.` is a report
+  -- what is after `sys.` is a report
   named_ready : (name : List ℕ) (bound : Bound) → report_named name ≡ Some bound → IsReady schema bound
   named_ready name bound e = at (same_name name groups_name) (same_name name segments_name) e
     where

@@ -32,7 +32,7 @@ whole_is (shown.All place) table None (Some groups) order e = absurd (cc e)
 whole_is (shown.All place) table None None (Some order) e = absurd (cc e)
 whole_is (shown.List list) table filter groups order e = absurd (cc e)
 
--- a report, by its bound form and its name behind `sys`
+-- a report, by its bound form and its name after `sys`
 module _ (schema : Schema) (report : Bound) (name : List ℕ) (other : (statement : Statement) → plan_of schema statement ≡ report → ⊥)
     (named : (n : List ℕ) → report_named n ≡ Some report → same_name n name ≡ true) (names : (n : List ℕ) → same_name n name ≡ true → report_named n ≡ Some report) where
   not_planned : (statement : Statement) (found : Option Fault) → unless found (plan_of schema statement) ≡ Ok report → ⊥

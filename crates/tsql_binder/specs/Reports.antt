@@ -16,7 +16,7 @@ groups_name = codes "dm_db_column_store_row_group_physical_stats"
 abbrev pub segments_name : List ℕ
 segments_name = codes "column_store_segments"
 
--- the report of a name behind `sys.`
+-- the report of a name after `sys.`
 abbrev pub report_named : List ℕ → Option Bound
 report_named name =
     if same_name name groups_name then Some GroupReport

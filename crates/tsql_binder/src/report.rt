@@ -1,4 +1,4 @@
-//! The two reports on row groups, which stand behind `sys.`.
+//! The two reports on row groups, which stand after `sys.`.
 
 ghost use Rattle.std.specs.Prelude.{◌≡◌};
 ghost use Rattle.tsql_binder.specs.Reports as spec;
@@ -13,7 +13,7 @@ const GROUPS: &[u8] = b"dm_db_column_store_row_group_physical_stats";
 /// The report on segments.
 const SEGMENTS: &[u8] = b"column_store_segments";
 
-/// The report of a name behind `sys.`.
+/// The report of a name after `sys.`.
 fn report_named(name: &[u8]) -> Option<Bound>
     ensures { result ≡ spec.report_named name.now }
 {

@@ -98,8 +98,8 @@ fn first_columns(columns: &[WrittenColumn]) -> &[WrittenColumn]
     }
 }
 
-/// The 33rd column, or the leftmost name that an earlier column has. No column behind the 33rd one is looked at, since
-/// its name stands behind that one's.
+/// The 33rd column, or the leftmost name that an earlier column has. No column after the 33rd one is looked at, since
+/// its name stands after that one's.
 #[tactic(auto, using(crate::proofs::AllNames::first_names))]
 fn names_fault(columns: &[WrittenColumn]) -> Option<u32>
     requires { AreInOrder columns.now }

@@ -32,7 +32,7 @@ pub enum TablePartTree {
     },
 }
 
-/// What stands behind a column's type. The place is that of its first word.
+/// What stands after a column's type. The place is that of its first word.
 #[derive(Clone, Copy, Debug)]
 pub enum MarkTree {
     Null { place: u32 },

@@ -1,7 +1,7 @@
 //! What statements are made of, read: names, literals, columns' types, expressions, predicates and lists of them. And why a text is refused.
 //!
 //! Its one contract: each method of `Grammar` reads its line of the grammar, gives the tree that the grammar gives, and
-//! stops at the token at which the line stops. It stands on `tsql_grammar`.
+//! stops at the token at which the line stops. It depends on `tsql_grammar`.
 #![tactic(auto)]
 
 mod error;

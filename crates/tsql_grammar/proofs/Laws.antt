@@ -148,7 +148,7 @@ pub record Laws {X : Type 0} (a : Form X) : Type 0 where
   pub complete : (u rest : Symbols) (x : X) → a.Has u x → next_among a.goes rest ≡ false → a.reads (u ++ rest) ≡ Ok (x, rest)
   -- where it stops, what is before it begins a text of the form
   pub stops : (ts rest : Symbols) → a.reads ts ≡ Err rest → (u : Symbols) × (more : Symbols) × (x : X) × (ts ≡ u ++ rest) × a.Has (u ++ more) x
-  -- no token behind the next one is looked at
+  -- no token after the next one is looked at
   pub near : (u v w other rest : Symbols) (t : Symbol) (x : X) → a.reads (u ++ t ∷ v) ≡ Ok (x, rest) → rest ≡ w ++ t ∷ v → a.reads (u ++ t ∷ other) ≡ Ok (x, w ++ t ∷ other)
   pub far : (u v w other rest : Symbols) (t : Symbol) → a.reads (u ++ t ∷ v) ≡ Err rest → rest ≡ w ++ t ∷ v → a.reads (u ++ t ∷ other) ≡ Err (w ++ t ∷ other)
 

@@ -31,7 +31,7 @@ whole_only {X} a la ts x h =
 pub whole_err : {X : Type 0} (a : Form X) → Laws a → (ts rest : Symbols) → to_end (a.reads ts) ≡ Err rest → IsRefusedAt a ts rest
 whole_err {X} a la ts rest e = go (a.reads ts) refl e
   where
-    -- what has the front and the token is no text, for reading stops there, or goes no further
+    -- what has the prefix and the token is no text, for reading stops there, or goes no further
     left : (u v : Symbols) (t : Symbol) (x : X) → a.reads (u ++ t ∷ v) ≡ Ok (x, t ∷ v) → Begins a (u ++ t ∷ []) → ⊥
     left u v t x h b =
         let text : (u ++ t ∷ []) ++ b.0 ≡ u ++ t ∷ b.0 = append_assoc u (t ∷ []) b.0 in
@@ -70,7 +70,7 @@ whole_err {X} a la ts rest e = go (a.reads ts) refl e
 prefix_begins : {X : Type 0} (a : Form X) (u v : Symbols) → Begins a (u ++ v) → Begins a u
 prefix_begins {X} a u v b = (v ++ b.0, b.1, subst (λ (z : Symbols). a.Has z b.1) (append_assoc u v b.0) b.2)
 
--- two fronts of one text: one goes on where the other ends
+-- two prefixes of one text: one goes on where the other ends
 fronts : (u v r s : Symbols) → u ++ r ≡ v ++ s → ((u ≡ v) × (r ≡ s)) ⊎ (((t : Symbol) × (w : Symbols) × (v ≡ (u ++ t ∷ []) ++ w) × (r ≡ t ∷ w ++ s)) ⊎ ((t : Symbol) × (w : Symbols) × (u ≡ (v ++ t ∷ []) ++ w) × (s ≡ t ∷ w ++ r)))
 fronts [] [] r s e = inl (refl, e)
 fronts [] (t ∷ v) r s e = inr (inl (t, v, refl, e))

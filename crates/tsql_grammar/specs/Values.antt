@@ -63,7 +63,7 @@ abbrev pub digits_value : ℕ → List ℕ → ℕ
 digits_value value [] = value
 digits_value value (b ∷ bytes) = digits_value (with_digit value b) bytes
 
--- what is behind the point
+-- what is after the point
 abbrev pub behind_point : List ℕ → List ℕ
 behind_point [] = []
 behind_point (b ∷ bytes) = if b == 46 then bytes else behind_point bytes

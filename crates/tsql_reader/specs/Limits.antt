@@ -37,7 +37,7 @@ abbrev pub next_place : Symbols → Option ℕ
 next_place [] = None
 next_place (t ∷ ts) = Some t.place
 
--- in a list in parentheses, the value behind so many commas and one more
+-- in a list in parentheses, the value after so many commas and one more
 abbrev pub value_behind : ℕ → Symbols → Option ℕ
 value_behind n [] = None
 value_behind n (t ∷ ts) =
@@ -63,7 +63,7 @@ abbrev pub order_over : Statement → Option ℕ
 order_over (statements.Select items table filter groups order) = first_of (name_over groups) (oitem_over order)
 order_over _ = None
 
--- the number and the place of the first element over a limit; each list stands behind the ones named before it
+-- the number and the place of the first element over a limit; each list stands after the ones named before it
 abbrev pub passed_limit : Symbols → Statement → Option (ℕ × ℕ)
 passed_limit symbols statement =
     first_of (option_map (λ place. (10738, place)) (row_over statement))

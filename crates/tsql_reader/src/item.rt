@@ -32,7 +32,7 @@ fn aggregate_in(terminal: Terminal) -> Aggregate
     }
 }
 
-/// Reads what stands behind COUNT: a `*` or a name, in parentheses.
+/// Reads what stands after COUNT: a `*` or a name, in parentheses.
 #[tactic(auto, unfolding(tsql_grammar::specs::Grammar::counted))]
 fn counted(
     grammar: &Grammar<'_>,
@@ -56,7 +56,7 @@ fn counted(
     })
 }
 
-/// Reads what stands behind another aggregate: a name in parentheses.
+/// Reads what stands after another aggregate: a name in parentheses.
 #[tactic(auto, unfolding(tsql_grammar::specs::Grammar::aggregated))]
 fn aggregated(
     grammar: &Grammar<'_>,

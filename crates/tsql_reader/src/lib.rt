@@ -1,7 +1,7 @@
 //! Texts into statements.
 //!
 //! Its one contract: `read_statement` gives exactly the statement that the grammar gives a text, and for a text that is
-//! none the number and the place of its refusal. It stands on `tsql_tokens`, `tsql_grammar` and `tsql_exprs`, and
+//! none the number and the place of its refusal. It depends on `tsql_tokens`, `tsql_grammar` and `tsql_exprs`, and
 //! gives the trees of `tsql_trees`.
 #![tactic(auto)]
 
@@ -10,7 +10,5 @@ mod limits;
 mod parts;
 mod read;
 mod statement;
-#[cfg(test)]
-mod tests;
 
 pub use read::read_statement;

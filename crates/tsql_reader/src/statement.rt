@@ -251,7 +251,7 @@ fn statement(grammar: &Grammar<'_>, reader: &mut Reader<'_>) -> Result<Statement
     select(grammar, reader)
 }
 
-/// Reads a statement and a `;` behind it, where it is there.
+/// Reads a statement and a `;` after it, where it is there.
 #[tactic(auto, unfolding(tsql_grammar::specs::Grammar::line))]
 pub fn line(grammar: &Grammar<'_>, reader: &mut Reader<'_>) -> Result<Statement, ReadError>
     ensures { Steps result reader.new.rest.now ((line grammar.now.text.now grammar.now.depth).reads reader.old.rest.now) }

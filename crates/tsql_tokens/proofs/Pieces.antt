@@ -1,4 +1,4 @@
--- What stands at the front of a text: the function finds what stands there, and what it finds stands there.
+-- What stands at the beginning of a text: the function finds what stands there, and what it finds stands there.
 use Rattle.std.proofs.Common.{◌≡◌, ◌≢◌, ℕ, ◌+◌, ◌-◌, ◌<◌, List, [], ◌∷◌, ◌++◌, take, drop, length, Bool, true, false, refl, sym, ap, subst, ◌∙◌, append_assoc, arith, inl, inr}
 use Rattle.std.specs.Prelude.{◌⊎◌, ◌==◌, ◌&&◌, not, if◌then◌else◌, Option, None, Some}
 use Rattle.std.specs.List.{list_all}
@@ -37,7 +37,7 @@ not_not : (b : Bool) → not b ≡ false → b ≡ true
 not_not true e = refl
 not_not false e = absurd cc
 
--- the bytes at the front pass, and the next one does not
+-- the bytes at the beginning pass, and the next one does not
 skip_of : (p : ℕ → Bool) (bytes after : List ℕ) → list_all p bytes ≡ true → next_is p after ≡ false → skip_while p (bytes ++ after) ≡ after
 skip_of p [] [] h n = refl
 skip_of p [] (b ∷ after) h n = if_false (p b) (skip_while p after) (b ∷ after) n
@@ -372,7 +372,7 @@ begun_is named b next =
 abbrev Found_at : Lexeme → List ℕ → List ℕ → Type 0
 Found_at lexeme text after = (bytes : List ℕ) × (text ≡ bytes ++ after) × Is lexeme bytes after × (bytes ≢ [])
 
--- what passes at the front is not nothing
+-- what passes at the beginning is not nothing
 some_skipped : (p : ℕ → Bool) (b : ℕ) (next after bytes : List ℕ) → b ∷ next ≡ bytes ++ after → p b ≡ true → next_is p after ≡ false → bytes ≢ []
 some_skipped p b next after [] e h n k = let q : p b ≡ false = subst (λ (z : List ℕ). next_is p z ≡ false) (sym e) n in absurd cc
 some_skipped p b next after (c ∷ bytes) e h n k = absurd cc
@@ -461,7 +461,7 @@ behind_complete Number bytes after h = ap (λ (z : List ℕ). some_of z) (number
 behind_complete Text bytes after (content, e, h) = rw (e, append_assoc (doubled content) (39 ∷ []) after) (text_complete content after h)
 behind_complete Sign bytes after h = sign_complete bytes after h
 
--- ---- the piece at the front
+-- ---- the piece at the beginning
 
 front_of : (bytes after : List ℕ) → take (length (bytes ++ after) - length after) (bytes ++ after) ≡ bytes
 front_of bytes after =

@@ -21,7 +21,7 @@ abbrev pub next_is : (ℕ → Bool) → List ℕ → Bool
 next_is p [] = false
 next_is p (b ∷ bytes) = p b
 
--- what is behind the bytes at the front that pass
+-- what is after the bytes at the beginning that pass
 abbrev pub skip_while : (ℕ → Bool) → List ℕ → List ℕ
 skip_while p [] = []
 skip_while p (b ∷ bytes) = if p b then skip_while p bytes else b ∷ bytes

@@ -35,7 +35,7 @@ abbrev pub lexeme_at : Bool → List ℕ → Lexeme
 lexeme_at named [] = Sign
 lexeme_at named (b ∷ next) = begun named b next
 
--- ---- the lexemes, each with the bytes behind it
+-- ---- the lexemes, each with the bytes after it
 
 -- a word goes on as far as it can; that it begins with a letter or '_' is said by which lexeme begins
 abbrev pub IsWord : List ℕ → List ℕ → Type 0
@@ -118,7 +118,7 @@ Is Number bytes after = IsNumber bytes after
 Is Text bytes after = IsText bytes after
 Is Sign bytes after = IsSign bytes after
 
--- at the front of a text, which is the bytes and what is after them, these bytes are the lexeme; named says whether
+-- at the beginning of a text, which is the bytes and what is after them, these bytes are the lexeme; named says whether
 -- the last token before it is a name
 abbrev pub Stands : Bool → Lexeme → List ℕ → List ℕ → Type 0
 Stands named lexeme bytes after = (lexeme_at named (bytes ++ after) ≡ lexeme) × Is lexeme bytes after × (bytes ≢ [])

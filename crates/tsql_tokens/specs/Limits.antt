@@ -45,7 +45,7 @@ over_limit n Number bytes = whole_if (is_long_number bytes) bytes
 over_limit n Text bytes = whole_if (has_tab bytes) bytes
 over_limit n Sign bytes = whole_if (next_is (λ b. b == 40) bytes && nat_le most_open n) bytes
 
--- how many parentheses are open behind a lexeme
+-- how many parentheses are open after a lexeme
 unfoldable pub open_after : ℕ → Lexeme → List ℕ → ℕ
 open_after n Sign bytes = if next_is (λ b. b == 40) bytes then n + 1 else if next_is (λ b. b == 41) bytes then n - 1 else n
 open_after n _ bytes = n

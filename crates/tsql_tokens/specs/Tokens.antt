@@ -23,7 +23,7 @@ kind_of Number bytes = Some kind.Number
 kind_of Text bytes = Some kind.Text
 kind_of Sign bytes = Some kind.Sign
 
--- whether the last token behind a lexeme is a name: as before it, where it is no token
+-- whether the last token after a lexeme is a name: as before it, where it is no token
 abbrev pub is_name : Bool → Option TokenKind → Bool
 is_name named None = named
 is_name named (Some kind.Name) = true
@@ -36,7 +36,7 @@ pub record Piece : Type 0 where
   pub lexeme : Lexeme
   pub bytes : List ℕ
 
--- these lexemes stand one after another at the front of the text, and the rest is behind them
+-- these lexemes stand one after another at the beginning of the text, and the rest is after them
 abbrev pub IsFront : Bool → List ℕ → List Piece → List ℕ → Type 0
 IsFront named text [] rest = text ≡ rest
 IsFront named text (p ∷ pieces) rest = (after : List ℕ) × (text ≡ p.bytes ++ after)
@@ -62,7 +62,7 @@ tokens_of from (p ∷ pieces) =
 abbrev pub HasTokens : List ℕ → List Token → Type 0
 HasTokens text tokens = (pieces : List Piece) × IsFront false text pieces [] × AreWithin 0 pieces × (tokens ≡ tokens_of 0 pieces)
 
--- how many bytes lexemes have, what is open behind them, and whether the last token is a name
+-- how many bytes lexemes have, what is open after them, and whether the last token is a name
 abbrev pub size_of : List Piece → ℕ
 size_of [] = 0
 size_of (p ∷ pieces) = length p.bytes + size_of pieces
@@ -75,16 +75,16 @@ abbrev pub named_behind : Bool → List Piece → Bool
 named_behind named [] = named
 named_behind named (p ∷ pieces) = named_behind (named_after named p.lexeme p.bytes) pieces
 
--- no lexeme stands at the front of a text that goes on
+-- no lexeme stands at the beginning of a text that goes on
 abbrev pub NothingStands : Bool → List ℕ → Type 0
 NothingStands named text = (text ≢ []) × ((lexeme : Lexeme) (bytes after : List ℕ) → text ≡ bytes ++ after → Stands named lexeme bytes after → ⊥)
 
--- the lexeme at the front of a text is over a limit, this many bytes after its beginning
+-- the lexeme at the beginning of a text is over a limit, this many bytes after its beginning
 abbrev pub GoesOver : Bool → ℕ → List ℕ → ℕ → Type 0
 GoesOver named n text offset = (lexeme : Lexeme) × (bytes : List ℕ) × (after : List ℕ) × (part : List ℕ) × (text ≡ bytes ++ after)
     × Stands named lexeme bytes after × (over_limit n lexeme bytes ≡ Some part) × (offset ≡ length bytes - length part)
 
--- a text is at fault at its front: there nothing stands, which is 102, or a limit is passed, which is 50001
+-- a text is at fault at its beginning: there nothing stands, which is 102, or a limit is passed, which is 50001
 abbrev pub IsFault : Bool → ℕ → List ℕ → ℕ → ℕ → Type 0
 IsFault named n text number offset =
     ((number ≡ 102) × (offset ≡ 0) × NothingStands named text) ⊎ ((number ≡ 50001) × GoesOver named n text offset)

@@ -42,7 +42,7 @@ pub fn digit_is_next(text: &[u8]) -> bool
     }
 }
 
-/// What is behind the digits at the front.
+/// What is after the digits at the beginning.
 pub fn skip_digits(text: &[u8]) -> &[u8]
     ensures { result.now ≡ skip_while is_digit text.now }
 {
@@ -56,7 +56,7 @@ pub fn skip_digits(text: &[u8]) -> &[u8]
     rest
 }
 
-/// What is behind the bytes at the front that a word may go on with.
+/// What is after the bytes at the beginning that a word may go on with.
 pub fn skip_word(text: &[u8]) -> &[u8]
     ensures { result.now ≡ skip_while goes_on_word text.now }
 {

@@ -1,4 +1,4 @@
-//! What stands at the front of a text.
+//! What stands at the beginning of a text.
 
 ghost use Rattle.std.specs.Prelude.{◌≡◌, ◌≢◌, ◌<◌, ◌≤◌, ◌++◌, [], ◌∷◌, ℕ, ◌+◌, ◌^◌, ◌==◌, not, length, drop, IfSome};
 ghost use Rattle.std.specs.Option.{option_map};
@@ -23,7 +23,7 @@ pub enum Lexeme {
     Sign,
 }
 
-/// The lexeme at the front of a text, its bytes, and what is behind it.
+/// The lexeme at the beginning of a text, its bytes, and what is after it.
 #[derive(Clone, Copy)]
 pub struct Piece<'a> {
     pub lexeme: Lexeme,
@@ -81,7 +81,7 @@ fn lexeme_at(text: &[u8], after_name: bool) -> Lexeme
     }
 }
 
-/// What is behind the digits, the point and the digits at the front.
+/// What is after the digits, the point and the digits at the beginning.
 fn after_number(text: &[u8]) -> &[u8]
     ensures { result.now ≡ after_number text.now }
 {
@@ -91,7 +91,7 @@ fn after_number(text: &[u8]) -> &[u8]
     }
 }
 
-/// What is behind the next `]`.
+/// What is after the next `]`.
 fn after_close(text: &[u8]) -> Option<&[u8]>
     ensures { option_map (λ rest. rest.now) result ≡ after_one (skip_while (λ b. not (b == 93)) text.now) }
 {
@@ -105,7 +105,7 @@ fn after_close(text: &[u8]) -> Option<&[u8]>
     None
 }
 
-/// What is behind the bracket that closes a name, whose first byte is next. It is None where there is no byte before
+/// What is after the bracket that closes a name, whose first byte is next. It is None where there is no byte before
 /// the bracket, or no bracket.
 fn after_bracket(text: &[u8]) -> Option<&[u8]>
     ensures { option_map (λ rest. rest.now) result ≡ after_bracket text.now }
@@ -116,7 +116,7 @@ fn after_bracket(text: &[u8]) -> Option<&[u8]>
     }
 }
 
-/// What is behind the quote that ends a text whose first byte is next.
+/// What is after the quote that ends a text whose first byte is next.
 fn after_text(text: &[u8]) -> Option<&[u8]>
     ensures { option_map (λ rest. rest.now) result ≡ after_text text.now }
 {
@@ -147,7 +147,7 @@ pub fn closes(text: &[u8]) -> bool
     matches!(text, [b'*', b'/', ..])
 }
 
-/// What is behind the next `count` bytes.
+/// What is after the next `count` bytes.
 pub fn skip(text: &[u8], count: usize) -> &[u8]
     requires { count ≤ length text.now }
     ensures { result.now ≡ drop count text.now }
@@ -155,7 +155,7 @@ pub fn skip(text: &[u8], count: usize) -> &[u8]
     &text[count..]
 }
 
-/// What is behind the next `count` bytes, or nothing where there are fewer.
+/// What is after the next `count` bytes, or nothing where there are fewer.
 fn after_bytes(text: &[u8], count: usize) -> &[u8]
     ensures value { result.now ≡ drop count text.now }
     ensures shorter { length result.now ≤ length text.now }
@@ -167,7 +167,7 @@ fn after_bytes(text: &[u8], count: usize) -> &[u8]
     }
 }
 
-/// What is behind the end of the last of `count` open comments.
+/// What is after the end of the last of `count` open comments.
 #[tactic(auto, using(crate::proofs::Comments::comment_steps))]
 fn after_comment(count: u32, text: &[u8]) -> Option<&[u8]>
     requires some { 0 < count }
@@ -213,7 +213,7 @@ fn is_pair(first: u8, second: u8) -> bool
     )
 }
 
-/// What is behind the longest sign.
+/// What is after the longest sign.
 fn after_sign(text: &[u8]) -> Option<&[u8]>
     ensures { option_map (λ rest. rest.now) result ≡ after_sign text.now }
 {
@@ -224,7 +224,7 @@ fn after_sign(text: &[u8]) -> Option<&[u8]>
     }
 }
 
-/// What is behind a lexeme at the front of a text, or None where it does not stand there.
+/// What is after a lexeme at the beginning of a text, or None where it does not stand there.
 #[tactic(auto, unfolding(crate::specs::Behind::behind))]
 fn behind(lexeme: Lexeme, text: &[u8]) -> Option<&[u8]>
     requires { length text.now < 2 ^ 31 }
@@ -242,7 +242,7 @@ fn behind(lexeme: Lexeme, text: &[u8]) -> Option<&[u8]>
     }
 }
 
-/// The lexeme at the front of a text, or None where none stands there. `after_name` says whether the last token before
+/// The lexeme at the beginning of a text, or None where none stands there. `after_name` says whether the last token before
 /// it is a name.
 #[tactic(auto, unfolding(crate::specs::Behind::piece_at), using(crate::proofs::Comments::comment_steps))]
 pub fn piece_at(text: &[u8], after_name: bool) -> Option<Piece<'_>>

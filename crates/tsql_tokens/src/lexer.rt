@@ -35,7 +35,7 @@ fn add(found: &mut Items<Token>, kind: Option<TokenKind>, from: u32, to: u32) ->
     Ok(())
 }
 
-/// Whether the last token is a name, behind a lexeme of this kind.
+/// Whether the last token is a name, after a lexeme of this kind.
 fn is_name(after_name: bool, kind: Option<TokenKind>) -> bool
     ensures { result ≡ is_name after_name kind }
 {

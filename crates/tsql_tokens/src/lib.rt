@@ -9,8 +9,6 @@ mod lexeme;
 mod lexer;
 mod limits;
 mod reserved;
-#[cfg(test)]
-mod tests;
 mod token;
 
 pub use lexer::tokens;

@@ -83,7 +83,7 @@ pub fn over_limit(count: u32, lexeme: Lexeme, bytes: &[u8]) -> Option<&[u8]>
     }
 }
 
-/// How many parentheses are open behind a lexeme. A `)` that closes none changes nothing.
+/// How many parentheses are open after a lexeme. A `)` that closes none changes nothing.
 #[tactic(auto, unfolding(crate::specs::Limits::open_after))]
 pub fn open_after(count: u32, lexeme: Lexeme, bytes: &[u8]) -> u32
     requires { count < 2 ^ 31 }

@@ -43,7 +43,7 @@ pub struct FactorTree {
     pub primary: PrimaryTree,
 }
 
-/// What stands behind the sign of a factor.
+/// What stands after the sign of a factor.
 #[cycle(expr)]
 #[derive(Debug, Drop)]
 pub enum PrimaryTree {

@@ -27,7 +27,7 @@ pub struct NegTree {
     pub part: PartTree,
 }
 
-/// What stands behind the NOTs.
+/// What stands after the NOTs.
 #[cycle(pred)]
 #[derive(Debug, Drop)]
 pub enum PartTree {
