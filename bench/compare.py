@@ -5,10 +5,14 @@ usage: bench/compare.py PROGRAM [--rows N] [--repeat R] [--only WORD]
     N rows (1,048,576), queries repeated R times (10), of all cases or of those with that word in the name
 
 A query's time is the R-th part of what a run with R repeats more takes longer, a load's that of a run with it against one
-without, each the least of five runs. Times are processor time of the whole process, printing included, in milliseconds; sqlite3
-has a process of its own, and its times are those of its statements, rows fetched. Memory is the greatest resident size, below
-some 30 MB this script's own; bytes are 8 x words of the segment report, and sqlite3's pages. A ratio is of two times of one run;
-times of other runs compare with nothing."""
+without, each the least of five runs; a query that takes a few milliseconds is repeated 30 R times. Times are processor time of the whole
+process, printing included, in milliseconds; sqlite3 has a process of its own, and its times are those of its statements, rows fetched, a
+second of them at most. Memory is the greatest resident size, below some 30 MB this script's own; bytes are 8 x words of the segment
+report, and sqlite3's pages. A ratio is of two times of one run; times of other runs compare with nothing.
+
+The first table has all cases beside sqlite3. Its column "Of one group" is the time of a query as a part of that over the plain case, one packed
+group with no row deleted; of the case of a quarter of the rows it has the growth, how often its time goes into that of the plain case. The
+second table has queries beside themselves: by four workers and by one, by the clock, and over a column in runs and not in runs."""
 import argparse
 import datetime
 import json
@@ -30,20 +34,21 @@ loader.exec_module(load)
 run = load.run
 
 ROUNDS = 5
+MORE = 30
 SEGMENTS = "s1 SELECT * FROM sys.column_store_segments"
 NUMBERS = "CREATE TABLE t (k bigint NOT NULL PRIMARY KEY, v int, w int)"
 MIXED = "CREATE TABLE t (k bigint NOT NULL PRIMARY KEY, p decimal(9,2), d date, s varchar(20))"
 WORDS = "the of and to in is was he for it with as his on be at by had are but from or have an they which one were all her".split()
 
-# A query: its name and its text, where it differs sqlite3's, and how often a repeat is done. A text with {i} is another one each
-# time. `places` are the places of dates and decimals among its items: "d", or the digits behind the point.
+# A query: its name and its text, where it differs sqlite3's, and how often a repeat is done: a fast one MORE times. A text with {i} is
+# another one each time. `places` are the places of dates and decimals among its items: "d", or the digits after the point.
 Query = namedtuple("Query", "name ours theirs times places session", defaults=(None, 1, {}, "s1"))
-# A case: its setup, the lines of its script behind it, the statements of sqlite3, the options, what the log has to have, its queries.
+# A case: its setup, the lines of its script after it, the statements of sqlite3, the options, what the log has to have, its queries.
 Case = namedtuple("Case", "name rows setup lines theirs words says queries")
 
 
 def case(name, rows, load, queries, lines=(), groups=1, says=()):
-    """A case over the table of numbers, in so many packed groups. The lines behind its load only the columnstore has."""
+    """A case over the table of numbers, in so many packed groups. The lines after its load only the columnstore has."""
     words = ("--group-rows", str(max(2, rows // groups)), "--direct-rows", str(min(rows // groups, 102_400)))
     return Case(name, rows, NUMBERS, [*(f"s1 {text}" for text in load), *lines], load, words, says, queries)
 
@@ -57,12 +62,16 @@ def replay(program, words, script, out):
     os.execv(program, [program, "replay", *words])
 
 
+# What runs took: the least seconds of the processors and by the clock, the most megabytes, and the replies with their rows.
+Took = namedtuple("Took", "seconds clock room replies")
+
+
 def runs(program, given, lines, folder):
-    """The least seconds of the runs over these lines, the most megabytes, and the replies with their rows."""
+    """Runs of the program over these lines."""
     script, out = f"{folder}/script", f"{folder}/out"
     with open(script, "w") as file:
         file.writelines(line + "\n" for line in (f"setup {given.setup}", *lines))
-    used = [run.measured(replay, program, given.words, script, out) for _ in range(ROUNDS)]
+    used = [timed(replay, program, given.words, script, out) for _ in range(ROUNDS)]
     with open(out) as file:
         log = file.read()
     wrong = re.search(r"^\d+ \S+ < error.*|^\d+ m\d+ memory.*", log, re.MULTILINE)
@@ -72,7 +81,14 @@ def runs(program, given, lines, folder):
     missing = [text for text in given.says if text not in log]
     if missing:
         sys.exit(f"compare: {given.name}: the log has no {missing[0]!r}")
-    return min(seconds for seconds, _ in used), max(room for _, room in used), replies
+    return Took(*(min(one[n] for one in used) for n in (0, 1)), max(one[2] for one in used), replies)
+
+
+def timed(work, *given):
+    """The seconds of a process of its own, of the processors and by the clock, and its megabytes."""
+    start = time.monotonic()
+    seconds, room = run.measured(work, *given)
+    return seconds, time.monotonic() - start, room
 
 
 def answer_of(reply):
@@ -81,20 +97,29 @@ def answer_of(reply):
     return [row[2:] for row in rows.splitlines()] if head.endswith("rows") else [head]
 
 
-def of_columnstore(program, given, repeat, folder):
-    """Time of the load, memory, bytes, and the answer and the time of each query."""
-    asked = [f"{query.session} {query.ours.format(i=1)}" for query in given.queries]
-    loaded = runs(program, given, given.lines, folder)[0]
-    once, room, replies = runs(program, given, [*given.lines, *asked], folder)
-    answers = [answer_of(reply) for reply in replies[len(replies) - len(asked) :]]
-    times = []
+def asked_once(given):
+    return [f"{query.session} {query.ours.format(i=1)}" for query in given.queries]
+
+
+def times_of(program, given, repeat, folder, once, kind):
+    """The time of each query, of the processors or by the clock, where each has been asked `once`."""
     for query in given.queries:
         number = repeat * query.times
         more = [f"{query.session} {query.ours.format(i=i)}" for i in range(2, number + 2)]
-        times.append((runs(program, given, [*given.lines, *asked, *more], folder)[0] - once) / number)
-    empty = runs(program, given._replace(says=()), [], folder)[0]
-    report = answer_of(("rows", runs(program, given, [*given.lines, SEGMENTS], folder)[2][-1][1]))
-    return loaded - empty, room, 8 * sum(int(line.split(", ")[5]) for line in report), answers, times
+        took = runs(program, given, [*given.lines, *asked_once(given), *more], folder)
+        yield (getattr(took, kind) - getattr(once, kind)) / number
+
+
+def of_columnstore(program, given, repeat, folder):
+    """Time of the load, memory, bytes, and the answer and the time of each query."""
+    asked = asked_once(given)
+    loaded = runs(program, given, given.lines, folder).seconds
+    once = runs(program, given, [*given.lines, *asked], folder)
+    answers = [answer_of(reply) for reply in once.replies[len(once.replies) - len(asked) :]]
+    times = list(times_of(program, given, repeat, folder, once, "seconds"))
+    empty = runs(program, given._replace(says=()), [], folder).seconds
+    report = answer_of(("rows", runs(program, given, [*given.lines, SEGMENTS], folder).replies[-1][1]))
+    return loaded - empty, once.room, 8 * sum(int(line.split(", ")[5]) for line in report), answers, times
 
 
 # ---- sqlite3
@@ -129,12 +154,13 @@ def sqlite_work(given, repeat, out):
     (pages,), (size,) = table.execute("PRAGMA page_count").fetchone(), table.execute("PRAGMA page_size").fetchone()
     answers, times = [asked_of(table, query, 1) for query in given.queries], []
     for query in given.queries:
-        number, rounds = repeat * query.times, []
-        for turn in range(ROUNDS):
-            start = time.process_time()
-            for i in range(number):
-                asked_of(table, query, 2 + turn * number + i)
-            rounds.append((time.process_time() - start) / number)
+        number, rounds, i = repeat * query.times, [], 1
+        for _ in range(ROUNDS):
+            start, before = time.process_time(), i
+            while i - before < number and time.process_time() - start < 1:
+                i += 1
+                asked_of(table, query, i)
+            rounds.append((time.process_time() - start) / (i - before))
         times.append(min(rounds))
     with open(out, "w") as file:
         json.dump([loaded, pages * size, answers, times], file)
@@ -155,15 +181,17 @@ def series(rows, key="value"):
 
 
 def six(rows):
+    """Six queries, each fast."""
     low = rows // 2
-    return [
-        Query("COUNT, SUM(v)", "SELECT COUNT(*), SUM(v) FROM t"),
-        Query("COUNT, SUM(w) WHERE v = 3", "SELECT COUNT(*), SUM(w) FROM t WHERE v = 3"),
-        Query("the same, k BETWEEN (an eighth)", f"SELECT COUNT(*), SUM(w) FROM t WHERE k BETWEEN {low} AND {low + rows // 8}"),
-        Query("v, COUNT, SUM(w) GROUP BY v", "SELECT v, COUNT(*), SUM(w) FROM t GROUP BY v"),
-        Query("COUNT WHERE v IN (..) OR w < 100", "SELECT COUNT(*) FROM t WHERE v IN (1, 3, 5) OR w < 100"),
-        Query("w, COUNT, MAX(k) GROUP BY w", "SELECT w, COUNT(*), MAX(k) FROM t GROUP BY w"),
-    ]
+    queries = {
+        "COUNT, SUM(v)": "SELECT COUNT(*), SUM(v) FROM t",
+        "COUNT, SUM(w) WHERE v = 3": "SELECT COUNT(*), SUM(w) FROM t WHERE v = 3",
+        "the same, k BETWEEN (an eighth)": f"SELECT COUNT(*), SUM(w) FROM t WHERE k BETWEEN {low} AND {low + rows // 8}",
+        "v, COUNT, SUM(w) GROUP BY v": "SELECT v, COUNT(*), SUM(w) FROM t GROUP BY v",
+        "COUNT WHERE v IN (..) OR w < 100": "SELECT COUNT(*) FROM t WHERE v IN (1, 3, 5) OR w < 100",
+        "w, COUNT, MAX(k) GROUP BY w": "SELECT w, COUNT(*), MAX(k) FROM t GROUP BY w",
+    }
+    return [Query(name, text, times=MORE) for name, text in queries.items()]
 
 
 def mixed_cells(i):
@@ -201,11 +229,11 @@ def mixed(rows):
 
 def states(rows):
     """One group with a hundredth of its rows deleted: in the buffer, flushed, settled; and with a snapshot from before."""
-    load, gone, sums = series(rows), "DELETE FROM t WHERE w < 10", [six(rows)[0], six(rows)[3]]
+    load, gone = series(rows), "DELETE FROM t WHERE w < 10"
     for name, turns, says in (("in the buffer", 0, ()), ("flushed", 1, ("install flush",)), ("settled", 2, ("install flush", "m1 settle"))):
-        yield case(f"1 % deleted, {name}", rows, [*load, gone], sums, lines=["m1"] * turns, says=says)
+        yield case(f"1 % deleted, {name}", rows, [*load, gone], six(rows), lines=["m1"] * turns, says=says)
     held = [*(f"s1 {text}" for text in load), "s2 BEGIN TRAN", "s2 SELECT COUNT(*) FROM t", f"s1 {gone}", "m1"]
-    old = [query._replace(session="s2") for query in sums]
+    old = [query._replace(session="s2") for query in six(rows)]
     yield case("an old snapshot, 1 % deleted since and flushed", rows, load, old, says=("install flush",))._replace(lines=held)
 
 
@@ -224,10 +252,44 @@ def cases(rows):
     ])
     yield case("keys in no order", rows, series(rows, f"value * {run.PRIME} % {rows}"), six(rows))
     yield case("by key, and 1 % of the rows", rows, series(rows), [
-        Query("SELECT by key", f"SELECT v, w FROM t WHERE k = {rows // 3}", None, 100),
+        Query("SELECT by key", f"SELECT v, w FROM t WHERE k = {rows // 3}", times=100),
         Query("UPDATE of 1 %", "UPDATE t SET v = v + 1 WHERE w < 10"),
-        Query("DELETE by key", "DELETE FROM t WHERE k = {i}", None, 10),
+        Query("DELETE by key", "DELETE FROM t WHERE k = {i}", times=10),
     ])
+
+
+# ---- queries beside themselves
+
+
+def by_workers(program, rows, repeat, folder):
+    """Queries over 8 groups by four workers, and by one, by the clock."""
+    queries = [*six(rows), Query("v, w, COUNT, SUM(k) GROUP BY v, w", "SELECT v, w, COUNT(*), SUM(k) FROM t GROUP BY v, w", times=MORE)]
+    given, times, answers = case("", rows, series(rows), queries, groups=8), [], []
+    for number in ("4", "1"):
+        had = given._replace(words=(*given.words, "--workers", number))
+        once = runs(program, had, [*had.lines, *asked_once(had)], folder)
+        answers.append(once.replies)
+        times.append(times_of(program, had, repeat, folder, once, "clock"))
+    if answers[0] != answers[1]:
+        sys.exit("compare: four workers answer otherwise than one")
+    for query, four, one in zip(queries, *times):
+        yield f"{query.name}, over 8 groups, four workers, by the clock", four, "one worker", one
+
+
+def by_runs(program, rows, repeat, folder):
+    """A GROUP BY over w, whose cells stand in runs where v has ten values, and in none where v has 999: rows stand by v first."""
+    queries = [
+        Query("w, COUNT GROUP BY w", "SELECT w, COUNT(*) FROM t GROUP BY w", times=MORE),
+        Query("w, COUNT, SUM(v) GROUP BY w", "SELECT w, COUNT(*), SUM(v) FROM t GROUP BY w", times=MORE),
+    ]
+    times = []
+    for values in (10, 999):
+        load = [f"INSERT INTO t SELECT value, value % {values}, value * 7 % 1000 FROM GENERATE_SERIES(1, {rows})"]
+        given = case("", rows, load, queries)
+        once = runs(program, given, [*given.lines, *asked_once(given)], folder)
+        times.append(times_of(program, given, repeat, folder, once, "seconds"))
+    for query, fast, slow in zip(queries, *times):
+        yield f"{query.name}, w in runs", fast, "w not in runs", slow
 
 
 # ---- all of it
@@ -237,8 +299,8 @@ def table(*cells):
     print("| " + " | ".join(cells) + " |", flush=True)
 
 
-def compared(program, given, repeat, folder, before):
-    """Prints the lines of a case. Its times are kept in `before`, by query, to tell growth."""
+def compared(program, given, repeat, folder, plain):
+    """Prints the lines of a case. The times of the plain case are kept in `plain`, by query."""
     loaded, room, size, answers, times = of_columnstore(program, given, repeat, folder)
     other_loaded, other_room, other_size, wanted, other_times = of_sqlite(given, repeat, folder)
     for query, ours, theirs in zip(given.queries, answers, wanted):
@@ -249,11 +311,12 @@ def compared(program, given, repeat, folder, before):
             sys.exit(f"compare: {given.name}: {query.name}: two answers: {differ[0]!r}, and sqlite3 {differ[1]!r}")
     lines = [("its load", loaded, other_loaded)] + [(query.name, *pair) for query, pair in zip(given.queries, zip(times, other_times))]
     for name, ours, theirs in lines:
-        grown = f"{before[name] / ours:.1f}" if given.name.startswith("a quarter") and ours > 0 and name in before else ""
-        table(given.name, f"{given.rows:,}", name, f"{ours * 1000:.3f}", f"{theirs * 1000:.3f}", f"{ours / theirs:.2f}" if theirs > 0 else "", grown)
         if given.name.startswith("one packed"):
-            before[name] = ours
-    table(given.name, f"{given.rows:,}", f"memory {room:.0f} MB, sqlite3 {other_room:.0f} MB; {size:,} bytes, sqlite3 {other_size:,}", "", "", f"{size / other_size:.2f}", "")
+            plain[name] = ours
+        of_plain = f"{ours / plain[name]:.2f}" if plain.get(name, 0) > 0 and ours > 0 else ""
+        grown = f"growth {plain[name] / ours:.1f}" if of_plain and given.name.startswith("a quarter") else of_plain
+        table(given.name, f"{given.rows:,}", name, f"{ours * 1000:.3f}", f"{theirs * 1000:.3f}", f"{ours / theirs:.3g}" if theirs > 0 else "", grown)
+    table(given.name, f"{given.rows:,}", f"memory {room:.0f} MB, sqlite3 {other_room:.0f} MB; {size:,} bytes, sqlite3 {other_size:,}", "", "", f"{size / other_size:.3g}", "")
 
 
 def loads(program, statements, folder):
@@ -262,7 +325,7 @@ def loads(program, statements, folder):
     run.measured(load.run_columnstore, [program, "generate", *words], made)
     ours, room = min(run.measured(load.run_columnstore, [program, "load", *words], out) for _ in range(ROUNDS))
     theirs, _ = min(run.measured(load.run_sqlite, made, out) for _ in range(ROUNDS))
-    table(f"load --statements {statements}", "", f"memory {room:.0f} MB", f"{ours * 1000:.0f}", f"{theirs * 1000:.0f}", f"{ours / theirs:.2f}", "")
+    table(f"load --statements {statements}", "", f"memory {room:.0f} MB", f"{ours * 1000:.0f}", f"{theirs * 1000:.0f}", f"{ours / theirs:.3g}", "")
 
 
 def main():
@@ -277,15 +340,21 @@ def main():
         sys.exit("compare: the program is not built; ./columnstore builds it")
     if given.rows < 1000 or given.repeat < 1:
         sys.exit("compare: from 1,000 rows and one repeat on")
-    table("Case", "Rows", "Query", "columnstore, ms", "sqlite3, ms", "Ratio", "Of a quarter")
+    table("Case", "Rows", "Query", "columnstore, ms", "sqlite3, ms", "Ratio", "Of one group")
     table(*["---"] * 7)
-    before = {}
+    plain = {}
     with tempfile.TemporaryDirectory() as folder:
         for each in cases(given.rows):
             if given.only in each.name:
-                compared(program, each, given.repeat, folder, before)
+                compared(program, each, given.repeat, folder, plain)
         if given.only in "load":
             loads(program, given.rows * 200_000 // 1_048_576, folder)
+        print()
+        table("Query", "ms", "Of what", "ms", "Ratio")
+        table(*["---"] * 5)
+        for name, rule in (("workers", by_workers), ("runs", by_runs)):
+            for what, ours, of, other in rule(program, given.rows // 8 * 8, given.repeat, folder) if given.only in name else ():
+                table(what, f"{ours * 1000:.3f}", of, f"{other * 1000:.3f}", f"{ours / other:.2f}" if other > 0 else "")
 
 
 if __name__ == "__main__":

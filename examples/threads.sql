@@ -6,7 +6,7 @@
 setup CREATE TABLE accounts (id int NOT NULL PRIMARY KEY, balance int NOT NULL)
 s1 INSERT INTO accounts SELECT value, 100 FROM GENERATE_SERIES(1, 12)
 -- Sessions 2 and 3 write the same two accounts, each within a transaction. Where both come to one account, the later one is refused:
--- by 1222 as long as the other transaction is open, and behind its commit by 3960, which ends the own one.
+-- by 1222 as long as the other transaction is open, and after its commit by 3960, which ends the own one.
 s2 BEGIN TRAN
 s2 UPDATE accounts SET balance = balance + 10 WHERE id = 1
 s2 UPDATE accounts SET balance = balance + 10 WHERE id = 2
