@@ -5,8 +5,8 @@
 //! first event of its turn, the last one, or both; the line that finishes a REORGANIZE has all that this does; and at the end nobody
 //! holds a claim. Where memory gives out, the row model and the book follow the log too, and it is that of the lines before. It is a
 //! loop over a `Runner`, whose calls make the events of one step and the End of one session. It depends on `statement_core` for the
-//! events, on `reorganize` for the course of a REORGANIZE, on `script_reader` for the steps, and on `script_turns` for what their
-//! texts mean and whose turns they are.
+//! events and the course of a REORGANIZE, on `script_reader` for the steps, and on `script_turns` for what their texts mean and whose
+//! turns they are.
 #![tactic(auto)]
 
 mod moves;

@@ -5,8 +5,8 @@
 //! their REORGANIZE may work; no actor holds a claim, and, where there are movers, nothing is left for the first of them or its want
 //! of memory or release stands last; where memory gave out, the log has the first of each session's turns. Each session and each
 //! mover has a thread of its own, and makes its events in sections at a `history_gate`; the work between them is done by a `Desk`
-//! outside the gate. It depends on `statement_core` for the events, on `script_turns` for what the texts mean, on `reorganize` for
-//! how far a REORGANIZE is, and on `history_gate` for the one history that all sections make.
+//! outside the gate. It depends on `statement_core` for the events and for how far a REORGANIZE is, on `script_turns` for what the
+//! texts mean, and on `history_gate` for the one history that all sections make.
 #![tactic(auto)]
 
 mod attempt;
