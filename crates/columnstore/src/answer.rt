@@ -1,5 +1,5 @@
 // What is to be written for an input.
-ghost use Rattle.std.specs.Prelude.{◌≡◌, ◌≤◌, ◌++◌, List, [], All, true, IfErr, IfOk, MatchResult, OnOk};
+ghost use Rattle.std.specs.Prelude.{◌≡◌, ◌≤◌, ◌++◌, List, All, true, IfErr, IfOk, MatchResult, OnOk};
 ghost use Rattle.command_words.specs.Orders.{IsInRange};
 ghost use Rattle.cs_model.specs.declared.entry.Entry.{Entry};
 ghost use Rattle.cs_model.specs.State.{begin_of};
@@ -9,7 +9,7 @@ ghost use Rattle.script_reader.specs.declared.script.Mode.TheVariants as mode;
 ghost use Rattle.script_reader.specs.Scripts.{allows, IsScript, IsRunnable, RefusesScript};
 ghost use Rattle.statement_core.specs.Terms.{AreTermsOf};
 ghost use Rattle.group_log.specs.Followed.{ground_of};
-ghost use Rattle.script_runner.specs.Logs.{IsLogOf, IsMadeOf};
+ghost use Rattle.script_runner.specs.Logs.{IsLogOf};
 ghost use Rattle.columnstore.specs.declared.way.Way.TheVariants.{OnThreads};
 ghost use Rattle.columnstore.specs.Outcome.{sizes_in, order_of, mode_of, IsLogBy, IsAnswered, IsDoneOrStopped, setup_error_text, bad_line_text};
 
@@ -20,9 +20,9 @@ use cs_base::Memory;
 use cs_model::print_log;
 use cs_types::Line;
 use script_reader::{Mode, Script, ScriptRefusal, read_script};
-use script_runner::{Runner, run_schedule};
+use script_runner::{core_for, runner_for, text_of_run};
 use session_pool::run_sessions;
-use statement_core::{Core, Desk};
+use statement_core::Core;
 use statement_work::Clerk;
 use std::alloc::Global;
 use std::sync::Wait;
@@ -53,66 +53,6 @@ fn bad_line(alloc: Global, line: u64, reason: u32, number: u32) -> Result<Line, 
     Ok(text)
 }
 
-/// A new core for the table and the sessions of a script, with row groups so large.
-pub(crate) fn core_for(alloc: Global, options: RunOptions, script: &Script) -> Result<Core, Memory>
-    requires runnable { IsRunnable script.now }
-    requires sizes { AreTermsOf options.group_rows options.direct_rows }
-    ensures schema { IfOk result (λ core. core.schema ≡ script.now.schema) }
-    ensures sizes { IfOk result (λ core. core.sizes ≡ sizes_in options) }
-    ensures log { IfOk result (λ core. core.log ≡ []) }
-    ensures sessions { IfOk result (λ core. core.sessions ≡ script.now.sessions) }
-    ensures claims { IfOk result (λ core. core.claims ≡ []) }
-{
-    let schema = script.schema.copy()?;
-    Core::new(
-        alloc,
-        schema,
-        options.group_rows as u64,
-        options.direct_rows as u64,
-        script.sessions.as_slice(),
-    )
-}
-
-/// A runner over such a core.
-pub(crate) fn runner_for(
-    alloc: Global,
-    options: RunOptions,
-    script: &Script,
-) -> Result<Runner, Memory>
-    requires runnable { IsRunnable script.now }
-    requires sizes { AreTermsOf options.group_rows options.direct_rows }
-    ensures schema { IfOk result (λ runner. runner.schema ≡ script.now.schema) }
-    ensures sizes { IfOk result (λ runner. runner.sizes ≡ sizes_in options) }
-    ensures log { IfOk result (λ runner. runner.log ≡ []) }
-    ensures sessions { IfOk result (λ runner. runner.sessions ≡ script.now.sessions) }
-    ensures claims { IfOk result (λ runner. runner.claims ≡ []) }
-{
-    let core = core_for(alloc, options, script)?;
-    Runner::new(alloc, core)
-}
-
-/// Runs a script with a runner that was made for it, the work done at this desk, and gives the text of the log. Where memory gives
-/// out, in the run or for the text, the runner still has the log of the steps that were made.
-pub(crate) fn run<R: Threads + Wait, D: Desk>(
-    rt: &R,
-    alloc: Global,
-    runner: &mut Runner,
-    script: &Script,
-    desk: &D,
-) -> Result<Line, Memory>
-    requires runnable { IsRunnable script.now }
-    requires schema { runner.old.schema ≡ script.now.schema }
-    requires log { runner.old.log ≡ [] }
-    requires sessions { runner.old.sessions ≡ script.now.sessions }
-    requires claims { runner.old.claims ≡ [] }
-    ensures whole { IfOk result (λ line. IsLogOf (ground_of script.now.schema runner.old.sizes) script.now runner.new.log) }
-    ensures text { IfOk result (λ line. line ≡ text (begin_of script.now.schema) runner.new.log) }
-    ensures made { IsMadeOf (ground_of script.now.schema runner.old.sizes) script.now runner.new.log }
-{
-    run_schedule(rt, runner, script, desk)?;
-    print_log(alloc, runner.schema(), runner.log())
-}
-
 /// The text of the log of a run line by line, with row groups so large.
 fn replay<R: Threads + Wait>(
     rt: &R,
@@ -125,9 +65,14 @@ fn replay<R: Threads + Wait>(
     requires workers { (1 ≤ options.workers) × (options.workers ≤ 16) }
     ensures text { IfOk result (λ line. (log : List Entry) × IsLogOf (ground_of script.now.schema (sizes_in options)) script.now log × (line ≡ text (begin_of script.now.schema) log)) }
 {
-    let mut runner = runner_for(alloc, options, script)?;
+    let mut runner = runner_for(
+        alloc,
+        options.group_rows as u64,
+        options.direct_rows as u64,
+        script,
+    )?;
     let clerk = Clerk::new(options.workers);
-    run(rt, alloc, &mut runner, script, &clerk)
+    text_of_run(rt, alloc, &mut runner, script, &clerk)
 }
 
 /// The text of the log of a core, with this status.
@@ -155,7 +100,12 @@ fn serve<R: Threads + Wait + Sync>(
     requires movers { movers ≤ 8 }
     ensures text { IfOk result (λ a. (log : List Entry) × IsLogBy (OnThreads movers) (ground_of script.now.schema (sizes_in options)) script.now a.0 log × (a.1 ≡ text (begin_of script.now.schema) log)) }
 {
-    let core = core_for(alloc, options, script)?;
+    let core = core_for(
+        alloc,
+        options.group_rows as u64,
+        options.direct_rows as u64,
+        script,
+    )?;
     let clerk = Clerk::new(options.workers);
     match run_sessions(rt, alloc, core, script, &clerk, movers) {
         Ok(core) => text_of(alloc, &core, Status::Done),

@@ -6,13 +6,13 @@ ghost use Rattle.statement_core.specs.Terms.{AreTermsOf};
 ghost use Rattle.script_runner.specs.Logs.{Summed};
 ghost use Rattle.columnstore.specs.Outcome.{sizes_in, drawn_script};
 
-use crate::answer::{runner_for, script_of};
+use crate::answer::script_of;
 use command_words::{RunOptions, Workload};
 use cs_base::Memory;
 use cs_types::Line;
 use log_summary::print_summary;
 use script_reader::{Mode, Script, ScriptRefusal};
-use script_runner::run_schedule;
+use script_runner::{run_schedule, runner_for};
 use script_workload::workload;
 use statement_work::Clerk;
 use std::alloc::Global;
@@ -57,7 +57,12 @@ pub fn load<R: Threads + Wait>(
     ensures { IfOk result (λ line. Summed (sizes_in options) (drawn_script drawn) line) }
 {
     let script = read_drawn(alloc, drawn)?;
-    let mut runner = runner_for(alloc, options, &script)?;
+    let mut runner = runner_for(
+        alloc,
+        options.group_rows as u64,
+        options.direct_rows as u64,
+        &script,
+    )?;
     let clerk = Clerk::new(options.workers);
     run_schedule(rt, &mut runner, &script, &clerk)?;
     let rows = runner.rows();

@@ -1,9 +1,18 @@
--- The printed text of actors and their work.
-use Rattle.std.specs.Prelude.{ℕ, List, ◌++◌, codes, decimal}
+-- What actors' work is for the log: its printed text, and whether it says that memory was wanting.
+use Rattle.std.specs.Prelude.{ℕ, List, ◌++◌, Bool, true, false, codes, decimal}
 use Rattle.cs_model.specs.declared.work.Actor.{Actor}
 use Rattle.cs_model.specs.declared.work.Actor.TheVariants as actor
 use Rattle.cs_model.specs.declared.work.Work.{Work}
 use Rattle.cs_model.specs.declared.work.Work.TheVariants as work
+
+-- the work says that memory was wanting: in the place of a turn's first event, or for what was to be installed
+abbrev pub lacks_memory : Work → Bool
+lacks_memory work.Memory = true
+lacks_memory (work.ReleaseCompress source fresh) = true
+lacks_memory (work.ReleaseRebuild source fresh) = true
+lacks_memory (work.ReleaseMerge first second fresh) = true
+lacks_memory (work.ReleaseFlush entries) = true
+lacks_memory _ = false
 
 -- `s<n>`
 abbrev pub session_text : ℕ → List ℕ

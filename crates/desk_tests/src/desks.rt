@@ -1,9 +1,8 @@
 // Work that finds no memory, of statements and of turns: what is logged, and what it leaves.
-use crate::made::{run, runner_for};
-use command_words::RunOptions;
 use cs_base::Memory;
 use group_view::{Claim, Product};
 use script_reader::{Mode, read_script};
+use script_runner::{runner_for, text_of_run};
 use statement_core::{Desk, Outcome, Started};
 use statement_work::Clerk;
 use std::alloc::Global;
@@ -296,23 +295,11 @@ fn check(
     script: &str,
     text: &str,
 ) -> Result<(), Fail> {
-    let sizes = if packed {
-        RunOptions {
-            group_rows: 4,
-            direct_rows: 2,
-            workers: 1,
-        }
-    } else {
-        RunOptions {
-            group_rows: 2,
-            direct_rows: 102_400,
-            workers: 1,
-        }
-    };
+    let (group_rows, direct_rows) = if packed { (4, 2) } else { (2, 102_400) };
     let script = read_script(alloc, script.as_bytes(), Mode::Replay)?;
-    let mut runner = runner_for(alloc, sizes, &script)?;
+    let mut runner = runner_for(alloc, group_rows, direct_rows, &script)?;
     let desk = ShortDesk::new(Clerk::new(1), calls.0, calls.1);
-    let log = run(rt, alloc, &mut runner, &script, &desk)?;
+    let log = text_of_run(rt, alloc, &mut runner, &script, &desk)?;
     assert_eq!(rt; log.as_slice(), text.as_bytes());
     Ok(())
 }

@@ -9,7 +9,7 @@ mod desks;
 #[cfg(test)]
 mod history_gate_tests;
 #[cfg(test)]
-mod made;
+mod looks;
 #[cfg(test)]
 mod reorganize_tests;
 #[cfg(test)]

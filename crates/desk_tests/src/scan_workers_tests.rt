@@ -8,7 +8,7 @@ ghost use Rattle.cs_types.specs.Schemas.{IsSchema};
 ghost use Rattle.group_view.specs.Parts.{rowed_in, IsFitting};
 ghost use Rattle.row_work.specs.Reads.{MayRead};
 
-use crate::made::LOOKS;
+use crate::looks::LOOKS;
 use cs_base::{Items, Memory};
 use cs_model::{AnswerRow, Item, Query};
 use cs_types::{Column, ColumnType, Key, Loose, Row, Schema, Value};

@@ -3,11 +3,11 @@
 ghost use Rattle.std.specs.Prelude.{◌≤◌};
 
 use crate::desks::is_next;
-use crate::made::{LOOKS, core_for};
-use command_words::RunOptions;
+use crate::looks::LOOKS;
 use cs_base::Memory;
 use group_view::{Claim, Product};
 use script_reader::{Mode, read_script};
+use script_runner::core_for;
 use session_pool::run_sessions;
 use statement_core::{Desk, Outcome, Started};
 use statement_work::Clerk;
@@ -93,13 +93,8 @@ fn check(
 ) -> Result<(), Fail>
     requires { movers ≤ 8 }
 {
-    let sizes = RunOptions {
-        group_rows: 2,
-        direct_rows: 102_400,
-        workers: 1,
-    };
     let script = read_script(alloc, script.as_bytes(), Mode::Run)?;
-    let core = core_for(alloc, sizes, &script)?;
+    let core = core_for(alloc, 2, 102_400, &script)?;
     let desk = MeetingDesk {
         desk: Clerk::new(1),
         work: calls.0,

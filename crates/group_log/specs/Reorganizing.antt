@@ -16,6 +16,7 @@ use Rattle.cs_model.specs.declared.work.Work.{Work}
 use Rattle.cs_model.specs.declared.work.Work.TheVariants as work
 use Rattle.cs_model.specs.Floors.{IsFloor, snapshots}
 use Rattle.cs_model.specs.State.{State}
+use Rattle.cs_model.specs.Works.{lacks_memory}
 use Rattle.group_book.specs.Book.{Content, Group, Claim, Book, how_many, is_opened, is_closed, is_compressed}
 use Rattle.group_book.specs.Book.Choice.{Idle}
 use Rattle.group_book.specs.Choices.{choice}
@@ -63,15 +64,6 @@ begins_turn (work.Settle ends) = true
 begins_turn (work.Clear groups) = true
 begins_turn work.Memory = true
 begins_turn _ = false
-
--- the work says that memory was wanting: in the place of a turn's first event, or for what was to be installed
-abbrev pub is_short : Work → Bool
-is_short (work.ReleaseCompress source fresh) = true
-is_short (work.ReleaseRebuild source fresh) = true
-is_short (work.ReleaseMerge first second fresh) = true
-is_short (work.ReleaseFlush entries) = true
-is_short work.Memory = true
-is_short _ = false
 
 -- the store that a work closes
 abbrev pub closed_by : Work → List ℕ
@@ -131,7 +123,7 @@ HasLooked origin session all from behind =
 pub record MayTurn (origin : Ground) (session : ℕ) (all : Bool) (start : Book) (from behind : List Entry) : Type 0 where
   pub looked : HasLooked origin session all from behind
   pub room : begun_turns (works_of session behind) < most_turns start
-  pub well : list_any is_short (works_of session behind) ≡ false
+  pub well : list_any lacks_memory (works_of session behind) ≡ false
 
 -- it may make this work: a close first of all, and only where it is to close the open store; what begins a turn, where it may; and
 -- an install or a release at any time: that it ends a claim of its own is said by the book (`Works`)
@@ -151,7 +143,7 @@ MayMake origin session all start from behind _ = Unit {0}
 -- which other actors held these of the stores that were closed at its Start, or that it closed
 pub record LeavesFrom (origin : Ground) (session : ℕ) (all : Bool) (start : Book) (from behind : List Entry) (left : List (ℕ × Actor)) : Type 0 where
   pub looked : HasLooked origin session all from behind
-  pub well : list_any is_short (works_of session behind) ≡ false
+  pub well : list_any lacks_memory (works_of session behind) ≡ false
   pub since : List Entry
   pub rest : List Entry
   pub split : behind ≡ since ++ rest

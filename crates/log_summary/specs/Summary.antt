@@ -6,9 +6,8 @@ use Rattle.cs_model.specs.declared.entry.Refusal.{Refusal}
 use Rattle.cs_model.specs.declared.entry.Refusal.TheVariants as refusal
 use Rattle.cs_model.specs.declared.entry.Reply.{Reply}
 use Rattle.cs_model.specs.declared.entry.Reply.TheVariants.{Refused}
-use Rattle.cs_model.specs.declared.work.Work.{Work}
-use Rattle.cs_model.specs.declared.work.Work.TheVariants.{ReleaseCompress, ReleaseRebuild, ReleaseMerge, ReleaseFlush, Memory}
 use Rattle.cs_model.specs.Actors.{is_end}
+use Rattle.cs_model.specs.Works.{lacks_memory}
 
 -- ---- kinds of events
 
@@ -34,15 +33,6 @@ is_memory _ = false
 abbrev pub replies_memory : Reply → Bool
 replies_memory (Refused why) = is_memory why
 replies_memory _ = false
-
--- a turn that found no memory, or work on a claim that found none
-abbrev pub lacks_memory : Work → Bool
-lacks_memory Memory = true
-lacks_memory (ReleaseCompress source fresh) = true
-lacks_memory (ReleaseRebuild source fresh) = true
-lacks_memory (ReleaseMerge first second fresh) = true
-lacks_memory (ReleaseFlush entries) = true
-lacks_memory _ = false
 
 -- an event that stands there because memory was missing: a Finish with error 701, the entry `memory`, or a release
 abbrev pub is_short_event : Entry → Bool

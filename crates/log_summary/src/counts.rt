@@ -1,6 +1,7 @@
 // Counts of the events of a log, by kinds.
 ghost use Rattle.std.specs.Prelude.{◌≡◌, ◌+◌, ◌<◌, ◌^◌, count_by, if◌then◌else◌};
 ghost use Rattle.cs_model.specs.Actors as actors;
+ghost use Rattle.cs_model.specs.Works as works;
 ghost use Rattle.log_summary.specs.Summary as spec;
 
 use cs_model::{Entry, Refusal, Reply, Work};
@@ -51,7 +52,7 @@ fn is_end(entry: &Entry) -> bool
 
 /// Whether the work found no memory.
 fn lacks_memory(work: &Work) -> bool
-    ensures { result ≡ spec.lacks_memory work.now }
+    ensures { result ≡ works.lacks_memory work.now }
 {
     matches!(
         work,

@@ -23,7 +23,8 @@ use Rattle.group_book.proofs.Lists.{how_many-append}
 use Rattle.group_log.specs.Followed.{Ground, IsBookStep, Follows, Followed, Moment}
 use Rattle.group_log.specs.Grounds.{IsGround}
 use Rattle.group_log.specs.Moves.{transitions_of}
-use Rattle.group_log.specs.Reorganizing.{begins_turn, is_short, works_of, begun_turns, IsIdle}
+use Rattle.group_log.specs.Reorganizing.{begins_turn, works_of, begun_turns, IsIdle}
+use Rattle.cs_model.specs.Works.{lacks_memory}
 use Rattle.group_log.proofs.Moving.{step_moves}
 use Rattle.group_log.proofs.Since.{IsSince, since_step, since_log}
 use Rattle.reorganize_laws.proofs.Alike.{alike_state, alike_claims, one_log, claim_of_book}
@@ -49,10 +50,10 @@ both_false : (a b : Bool) → (a || b) ≡ false → (a ≡ false) × (b ≡ fal
 both_false true b h = cc
 both_false false b h = (refl, h)
 
-wells_of : (session : ℕ) (first : Entry) (es : List Entry) → list_any is_short (works_of session (first ∷ es)) ≡ false
-    → (list_any is_short (works_of session (first ∷ [])) ≡ false) × (list_any is_short (works_of session es) ≡ false)
-wells_of session first es well = both_false (list_any is_short (works_of session (first ∷ []))) (list_any is_short (works_of session es))
-    (sym (list_any-append is_short (works_of session (first ∷ [])) (works_of session es)) ∙ ap (list_any is_short) (sym (works_cons session first es)) ∙ well)
+wells_of : (session : ℕ) (first : Entry) (es : List Entry) → list_any lacks_memory (works_of session (first ∷ es)) ≡ false
+    → (list_any lacks_memory (works_of session (first ∷ [])) ≡ false) × (list_any lacks_memory (works_of session es) ≡ false)
+wells_of session first es well = both_false (list_any lacks_memory (works_of session (first ∷ []))) (list_any lacks_memory (works_of session es))
+    (sym (list_any-append lacks_memory (works_of session (first ∷ [])) (works_of session es)) ∙ ap (list_any lacks_memory) (sym (works_cons session first es)) ∙ well)
 
 -- ---- what becomes of the claim of a closed store
 
@@ -130,7 +131,7 @@ module _ (origin : Ground) (room : 1 ≤ origin.sizes.group_rows) (some : 1 ≤ 
 
     -- so it is, or each turn of the session on the way took one that was due
     pub kept_or_less : (session : ℕ) (es : List Entry) (m after : model.State) (book made : Book) → Since m book → Follows origin m book es after made → id < book.next → state_of book.groups id ≡ IsClosed
-        → state_of made.groups id ≡ IsClosed → made.next ≤ 2 ^ 62 → list_any is_short (works_of session es) ≡ false
+        → state_of made.groups id ≡ IsClosed → made.next ≤ 2 ^ 62 → list_any lacks_memory (works_of session es) ≡ false
         → IsKept es id made ⊎ (due_count session id made + begun_turns (works_of session es) ≤ due_count session id book)
     kept_or_less session [] m after book made since x lt was is within well = inr (let e = ap (due_count session id) x.1 in omega (arith, e))
     kept_or_less session (first ∷ es) m after book made since x lt was is within well = at (list_any (packs_of id) book.claims) refl (kept_or_less session es x.0 after x.1 made later x.4 more here is within wells.1)
@@ -147,7 +148,7 @@ module _ (origin : Ground) (room : 1 ≤ origin.sizes.group_rows) (some : 1 ≤ 
         here : state_of x.1.groups id ≡ IsClosed
         here = closed_between book x.1 made id (was_before first book x.1 moves id lt) (was_along es x.0 after x.1 made id later x.4 more) was is
 
-        wells : (list_any is_short (works_of session (first ∷ [])) ≡ false) × (list_any is_short (works_of session es) ≡ false)
+        wells : (list_any lacks_memory (works_of session (first ∷ [])) ≡ false) × (list_any lacks_memory (works_of session es) ≡ false)
         wells = wells_of session first es well
 
         at : (t : Bool) → list_any (packs_of id) book.claims ≡ t → IsKept es id made ⊎ (due_count session id made + begun_turns (works_of session es) ≤ due_count session id x.1)
@@ -162,7 +163,7 @@ module _ (origin : Ground) (room : 1 ≤ origin.sizes.group_rows) (some : 1 ≤ 
             omega (arith, less, drops, turns))
 
   -- what is due does not grow along a log
-  pub due_along : (session id : ℕ) (es : List Entry) (m after : model.State) (book made : Book) → Since m book → Follows origin m book es after made → id < book.next → list_any is_short (works_of session es) ≡ false
+  pub due_along : (session id : ℕ) (es : List Entry) (m after : model.State) (book made : Book) → Since m book → Follows origin m book es after made → id < book.next → list_any lacks_memory (works_of session es) ≡ false
       → due_count session id made ≤ due_count session id book
   due_along session id [] m after book made since x lt well = let e = ap (due_count session id) x.1 in omega (arith, e)
   due_along session id (first ∷ es) m after book made since x lt well =
@@ -176,7 +177,7 @@ module _ (origin : Ground) (room : 1 ≤ origin.sizes.group_rows) (some : 1 ≤ 
 
 -- all turns were made
 pub kept_by_turns : (origin : Ground) → IsGround origin → (session id most : ℕ) (es : List Entry) (m after : model.State) (book made : Book) → IsSince origin.begin origin.sizes.group_rows m book → Follows origin m book es after made
-    → id < book.next → state_of book.groups id ≡ IsClosed → state_of made.groups id ≡ IsClosed → made.next ≤ 2 ^ 62 → list_any is_short (works_of session es) ≡ false
+    → id < book.next → state_of book.groups id ≡ IsClosed → state_of made.groups id ≡ IsClosed → made.next ≤ 2 ^ 62 → list_any lacks_memory (works_of session es) ≡ false
     → due_count session id book ≤ most → begun_turns (works_of session es) ≡ 3 * most + 1 → IsKept es id made
 kept_by_turns origin g session id most es m after book made since x lt was is within well few turns =
     elim (kept_or_less origin g.group_rows g.direct_rows id session es m after book made since x lt was is within well) [

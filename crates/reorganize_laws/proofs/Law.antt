@@ -23,7 +23,8 @@ use Rattle.group_book.specs.States.State.{Absent, IsOpen, IsClosed}
 use Rattle.group_book.specs.Turns.{same_actor, claim_by}
 use Rattle.group_log.specs.Followed.{Ground, Follows, Followed, Moment}
 use Rattle.group_log.specs.Grounds.{IsGround}
-use Rattle.group_log.specs.Reorganizing.{is_in_use, closed_ids, is_short, works_of, begun_turns, closed_in, Saw, IsIdle, from_start, LeavesGroups, IsMove, IsReorganized}
+use Rattle.group_log.specs.Reorganizing.{is_in_use, closed_ids, works_of, begun_turns, closed_in, Saw, IsIdle, from_start, LeavesGroups, IsMove, IsReorganized}
+use Rattle.cs_model.specs.Works.{lacks_memory}
 use Rattle.group_log.proofs.Since.{IsSince, since_log}
 use Rattle.reorganize_laws.specs.Left.{IsFound, IsTold, IsGivenBack, CompressesWhatItFound}
 use Rattle.reorganize_laws.proofs.Alike.{IsAlike, alike_state, alike_claims, one_actor, one_log}
@@ -89,7 +90,7 @@ idle_at origin log other session same moment idle = (record { state = moment.sta
 module _ (origin : Ground) (g : IsGround origin) (session id most : ℕ) (from : List Entry) (s t : model.State) (start last : Book) (begun : Followed origin from s start)
     (few : due_count session id start ≤ most) (lt : id < start.next) (is : state_of last.groups id ≡ IsClosed) (within : last.next ≤ 2 ^ 62) where
   -- of what was a closed store at the Start
-  kept_closed : (since : List Entry) → Follows origin s start since t last → list_any is_short (works_of session since) ≡ false → Stops origin session most from since → state_of start.groups id ≡ IsClosed → IsKept since id last
+  kept_closed : (since : List Entry) → Follows origin s start since t last → list_any lacks_memory (works_of session since) ≡ false → Stops origin session most from since → state_of start.groups id ≡ IsClosed → IsKept since id last
   kept_closed since along well (inl turns) was = kept_by_turns origin g session id most since s t start last (since_log origin from s start g begun) along lt was is within well few turns
   kept_closed since along well (inr saw) was =
       subst (λ l. IsKept l id last) (sym saw.split)
@@ -134,7 +135,7 @@ module _ (origin : Ground) (g : IsGround origin) (session id most : ℕ) (from :
         let since = since_log origin (from ++ front) apart.0 apart.1 g (follows_both origin from front origin.begin.state s apart.0 origin.book start apart.1 begun apart.2) in
         let up = next_along origin g.group_rows g.direct_rows front s apart.0 start apart.1 first apart.2 in
         let drawn : id < apart.1.next = omega (arith, up, lt) in
-        let falls = due_along origin g.group_rows g.direct_rows session id front s apart.0 start apart.1 first apart.2 lt (ap (list_any is_short) front_works) in
+        let falls = due_along origin g.group_rows g.direct_rows session id front s apart.0 start apart.1 first apart.2 lt (ap (list_any lacks_memory) front_works) in
         let was = was_along origin g.group_rows g.direct_rows q apart.0 t apart.1 last id since apart.3 drawn in
         record {
           m = apart.0;
@@ -147,9 +148,9 @@ module _ (origin : Ground) (g : IsGround origin) (session id most : ℕ) (from :
           due = omega (arith, falls, few);
         }
 
-    kept_shut : IsShut → list_any is_short (works_of session (p ++ close ∷ q)) ≡ false → Stops origin session most from (p ++ close ∷ q) → IsKept q id last
+    kept_shut : IsShut → list_any lacks_memory (works_of session (p ++ close ∷ q)) ≡ false → Stops origin session most from (p ++ close ∷ q) → IsKept q id last
     kept_shut at well (inl turns) =
-        kept_by_turns origin g session id most q at.m t at.book last at.since at.on at.drawn at.shut is within (sym (ap (list_any is_short) all_works) ∙ well) at.due
+        kept_by_turns origin g session id most q at.m t at.book last at.since at.on at.drawn at.shut is within (sym (ap (list_any lacks_memory) all_works) ∙ well) at.due
         (let same = ap begun_turns all_works in omega (arith, same, turns))
     kept_shut at well (inr saw) =
         let cut = cuts_behind session (work.Close id) p q saw.since saw.rest saw.split saw.after in
@@ -161,7 +162,7 @@ module _ (origin : Ground) (g : IsGround origin) (session id most : ℕ) (from :
         (kept_behind cut.between saw.rest id last
         (kept_by_idle origin g session id (from ++ front) cut.between saw.rest at.m t at.book last reached (subst (λ l. Follows origin at.m at.book l t last) cut.second at.on) idle.0 idle.1 at.drawn at.shut is within))
 
-    kept_opened : Follows origin s start (p ++ close ∷ q) t last → list_any is_short (works_of session (p ++ close ∷ q)) ≡ false → Stops origin session most from (p ++ close ∷ q) → IsKept (p ++ close ∷ q) id last
+    kept_opened : Follows origin s start (p ++ close ∷ q) t last → list_any lacks_memory (works_of session (p ++ close ∷ q)) ≡ false → Stops origin session most from (p ++ close ∷ q) → IsKept (p ++ close ∷ q) id last
     kept_opened along well stops = subst (λ l. IsKept l id last) split_front (kept_behind front q id last (kept_shut (close_shuts along) well stops))
 
 -- ---- its close is the first of its works
@@ -212,8 +213,8 @@ module _ (origin : Ground) (g : IsGround origin) (before rest : List Entry) (ses
   works_are : works_of session behind ≡ works_of session since
   works_are = ap (works_of session) so.leaves.split ∙ works_append session since after ∙ ap (λ l. works_of session since ++ l) so.leaves.last ∙ append-nil (works_of session since)
 
-  well : list_any is_short (works_of session since) ≡ false
-  well = ap (list_any is_short) (sym works_are) ∙ so.leaves.well
+  well : list_any lacks_memory (works_of session since) ≡ false
+  well = ap (list_any lacks_memory) (sym works_are) ∙ so.leaves.well
 
   stops : Stops origin session most from since
   stops = elim so.leaves.stopped [ inl turns ↦ inl (ap begun_turns (sym works_are) ∙ turns) | inr saw ↦ inr saw ]
@@ -260,7 +261,7 @@ module _ (origin : Ground) (g : IsGround origin) (before rest : List Entry) (ses
         let none = first_work origin so.half.begun.before session so.half.begun.bound so.half.begun.short at.before id others said in
         subst (λ l. IsKept l id run.last) (sym cut.first)
         (kept_opened origin g session id most from run.s run.t run.start run.last run.begun few (drawn IsOpen was (λ e. cc)) shut room at.before cut.between none along
-        (subst (λ l. list_any is_short (works_of session l) ≡ false) cut.first well) (subst (Stops origin session most from) cut.first stops))
+        (subst (λ l. list_any lacks_memory (works_of session l) ≡ false) cut.first well) (subst (Stops origin session most from) cut.first stops))
 
     kept : IsFound so.half.book (works_of session behind) id → IsKept since id run.last
     kept (inl was) = from_closed was
@@ -282,7 +283,7 @@ module _ (origin : Ground) (g : IsGround origin) (before rest : List Entry) (ses
     not_by by fresh c true t_is =
         let w : Work = work.ReleaseCompress id fresh in
         let own : Contains since (entry.Mover (actor.Session session) w) = subst (λ a. Contains since (entry.Mover a w)) (one_actor by (actor.Session session) t_is) c in
-        let wrong : list_any is_short (works_of session since) ≡ true = in_any is_short (works_of session since) w (works_hold session since w own) refl in
+        let wrong : list_any lacks_memory (works_of session since) ≡ true = in_any lacks_memory (works_of session since) w (works_hold session since w own) refl in
         let right = well in
         cc
 

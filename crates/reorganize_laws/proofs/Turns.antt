@@ -26,7 +26,8 @@ use Rattle.group_book.proofs.Sized.{by_id_filter}
 use Rattle.group_log.specs.Followed.{Ground, Works, IsBookStep}
 use Rattle.group_log.specs.Followed.Works.{chosen, out_of_memory, installed, released, closed as closes}
 use Rattle.group_log.specs.Moves.{transitions_of}
-use Rattle.group_log.specs.Reorganizing.{begins_turn, is_short, works_of, begun_turns}
+use Rattle.group_log.specs.Reorganizing.{begins_turn, works_of, begun_turns}
+use Rattle.cs_model.specs.Works.{lacks_memory}
 use Rattle.reorganize_laws.proofs.Alike.{one_actor, claim_of_book}
 use Rattle.reorganize_laws.proofs.Entries.{works_one, works_hold}
 use Rattle.reorganize_laws.proofs.Lists.{in_head, in_filter, from_filter, any_in, in_any, count_below, count_falls, count_drops}
@@ -107,11 +108,11 @@ both_true false b h = cc
 
 -- ---- kinds of works
 
-release_short : (choice : Choice) (claim : Claim) (w : Work) → release_work choice claim ≡ Some w → is_short w ≡ true
-release_short (Compress source) claim w is = subst (λ w. is_short w ≡ true) (same_Some _ w is) refl
-release_short Flush claim w is = subst (λ w. is_short w ≡ true) (same_Some _ w is) refl
-release_short (Rebuild source) claim w is = subst (λ w. is_short w ≡ true) (same_Some _ w is) refl
-release_short (Merge first second) claim w is = subst (λ w. is_short w ≡ true) (same_Some _ w is) refl
+release_short : (choice : Choice) (claim : Claim) (w : Work) → release_work choice claim ≡ Some w → lacks_memory w ≡ true
+release_short (Compress source) claim w is = subst (λ w. lacks_memory w ≡ true) (same_Some _ w is) refl
+release_short Flush claim w is = subst (λ w. lacks_memory w ≡ true) (same_Some _ w is) refl
+release_short (Rebuild source) claim w is = subst (λ w. lacks_memory w ≡ true) (same_Some _ w is) refl
+release_short (Merge first second) claim w is = subst (λ w. lacks_memory w ≡ true) (same_Some _ w is) refl
 release_short Settle claim w is = absurd (none-some w is)
 release_short Clear claim w is = absurd (none-some w is)
 release_short Idle claim w is = absurd (none-some w is)
@@ -128,7 +129,7 @@ install_ends Idle claim w is = absurd (none-some w is)
 -- ---- an entry adds nothing to what is due
 
 module _ (origin : Ground) (m after : model.State) (e : Entry) (book made : Book) (changes : List Change) (floor session : ℕ) (j : IsBookOf origin.sizes.group_rows book changes floor)
-    (step : IsBookStep origin m book e after made) (moves : GroupsMoveBy (transitions_of e) book made) (well : list_any is_short (works_of session (e ∷ [])) ≡ false) where
+    (step : IsBookStep origin m book e after made) (moves : GroupsMoveBy (transitions_of e) book made) (well : list_any lacks_memory (works_of session (e ∷ [])) ≡ false) where
   -- a claim of the session does not end while its group is a closed store
   taken_stays : (id : ℕ) → state_of made.groups id ≡ IsClosed → list_any (takes_it session id) made.claims ≡ false → list_any (takes_it session id) book.claims ≡ false
   taken_stays id is none = at (list_any (takes_it session id) book.claims) refl
@@ -140,7 +141,7 @@ module _ (origin : Ground) (m after : model.State) (e : Entry) (book made : Book
       ended claim c parts (inr (by_release {w = w} entry_is work_is)) =
           let own = one_actor claim.actor (actor.Session session) parts.0 in
           let stands : Contains (works_of session (e ∷ [])) w = works_hold session (e ∷ []) w (subst (λ x. Contains (e ∷ []) x) (entry_is ∙ ap (λ a. entry.Mover a w) own) (in_head e [])) in
-          let wrong : list_any is_short (works_of session (e ∷ [])) ≡ true = in_any is_short (works_of session (e ∷ [])) w stands (release_short claim.choice claim w work_is) in cc
+          let wrong : list_any lacks_memory (works_of session (e ∷ [])) ≡ true = in_any lacks_memory (works_of session (e ∷ [])) w stands (release_short claim.choice claim w work_is) in cc
 
       at : (t : Bool) → list_any (takes_it session id) book.claims ≡ t → t ≡ false
       at false t_is = refl
@@ -278,7 +279,7 @@ module _ (sizes : Sizes) (at : ℕ) (by : Actor) (book : Book) (changes : List C
       let is : is_closed found.0.content ≡ true = state_closed found.0.content found.3 in
       subst (IsLowest (λ (h : Group). is_closed h.content) (free book)) found.2 (lowest_free sizes.group_rows book changes floor j found.0 found.1 is (unclaimed found.0 found.1 found.2 is (is_claimed book.claims found.0) refl))
 
-  pub turn_takes : (w : Work) (made : Book) → begins_turn w ≡ true → is_short w ≡ false → Works sizes at by book w made → Takes session id book made
+  pub turn_takes : (w : Work) (made : Book) → begins_turn w ≡ true → lacks_memory w ≡ false → Works sizes at by book w made → Takes session id book made
   turn_takes w made begins well (chosen none is) = compresses found_low
   turn_takes w made begins well (out_of_memory none is) = cc
   turn_takes w made begins well (installed claim holds is moved) = let wrong = install_ends claim.choice claim w is in cc
@@ -291,7 +292,7 @@ abbrev pub due_count : ℕ → ℕ → Book → ℕ
 due_count session id book = count_below (is_due session book) (id + 1)
 
 module _ (origin : Ground) (m after : model.State) (e : Entry) (book made : Book) (changes : List Change) (floor session id : ℕ) (j : IsBookOf origin.sizes.group_rows book changes floor)
-    (step : IsBookStep origin m book e after made) (moves : GroupsMoveBy (transitions_of e) book made) (well : list_any is_short (works_of session (e ∷ [])) ≡ false) (lt : id < book.next) where
+    (step : IsBookStep origin m book e after made) (moves : GroupsMoveBy (transitions_of e) book made) (well : list_any lacks_memory (works_of session (e ∷ [])) ≡ false) (lt : id < book.next) where
   stays_due : (i : ℕ) → i < id + 1 → is_due session made i ≡ true → is_due session book i ≡ true
   stays_due i less is = due_before origin m after e book made changes floor session j step moves well i (omega (arith, less, lt)) is
 
@@ -301,7 +302,7 @@ module _ (origin : Ground) (m after : model.State) (e : Entry) (book made : Book
 
 -- and a turn of the session takes one away, where the group is a closed store that no claim has
 pub due_drops : (origin : Ground) (m after : model.State) (e : Entry) (book made : Book) (changes : List Change) (floor session id : ℕ) → IsBookOf origin.sizes.group_rows book changes floor
-    → IsBookStep origin m book e after made → GroupsMoveBy (transitions_of e) book made → list_any is_short (works_of session (e ∷ [])) ≡ false → id < book.next
+    → IsBookStep origin m book e after made → GroupsMoveBy (transitions_of e) book made → list_any lacks_memory (works_of session (e ∷ [])) ≡ false → id < book.next
     → state_of book.groups id ≡ IsClosed → list_any (packs_of id) book.claims ≡ false → book.next ≤ 2 ^ 62 → due_count session id made + begun_turns (works_of session (e ∷ [])) ≤ due_count session id book
 due_drops origin m after (entry.Start s b short) book made changes floor session id j step moves well lt shut unheld room =
     omega (arith, due_falls origin m after (entry.Start s b short) book made changes floor session id j step moves well lt)
@@ -321,7 +322,7 @@ due_drops origin m after (entry.Mover by w) book made changes floor session id j
         omega (arith, fewer, none)
     at true own true u_is =
         let one : begun_turns (works_of session (entry.Mover by w ∷ [])) ≡ 1 = ap begun_turns (works_one session by w true own) ∙ ap (λ u. cond u 1 0 + 0) u_is in
-        let not_short : is_short w ≡ false = only_short (is_short w) (sym (ap (list_any is_short) (works_one session by w true own)) ∙ well) in
+        let not_short : lacks_memory w ≡ false = only_short (lacks_memory w) (sym (ap (list_any lacks_memory) (works_one session by w true own)) ∙ well) in
         let takes = turn_takes origin.sizes step.0 by book changes floor session id j own shut unheld room w made u_is not_short step.2 in
         let most = takes.most in
         let drops = count_drops (is_due session made) (is_due session book) (id + 1) takes.source

@@ -19,7 +19,8 @@ use Rattle.cs_model.specs.State.{Half, State, Begin, schema_now}
 use Rattle.cs_model.specs.Steps.{IsFinish, IsOutOfIds, IsReply, IsStep, Leads, ends_txn, finished, gone, pinned, rested, started}
 use Rattle.log_laws.proofs.Framed.{at_own, framed}
 use Rattle.log_laws.proofs.Owners.{equal}
-use Rattle.log_summary.specs.Summary.{is_short_event, replies_memory, lacks_memory}
+use Rattle.cs_model.specs.Works.{lacks_memory}
+use Rattle.log_summary.specs.Summary.{is_short_event, replies_memory}
 
 -- an entry in which memory was not wanting
 abbrev pub IsAmple : Entry → Type 0

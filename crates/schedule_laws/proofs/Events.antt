@@ -20,7 +20,8 @@ use Rattle.cs_model.specs.State.{Half, State, Begin}
 use Rattle.cs_model.specs.Steps.{IsFinish, IsOutOfIds, IsReply, Legal, finished}
 use Rattle.log_laws.specs.Laws.{IsSound}
 use Rattle.log_laws.proofs.Floors.{floor_one}
-use Rattle.log_summary.specs.Summary.{lacks_memory, replies_memory}
+use Rattle.cs_model.specs.Works.{lacks_memory}
+use Rattle.log_summary.specs.Summary.{replies_memory}
 use Rattle.tsql_binder.specs.Meaning.{Means}
 use Rattle.group_book.specs.Book.{Book, Choice, Claim}
 use Rattle.group_book.specs.Book.Choice.{Compress, Flush, Rebuild, Merge, Settle, Clear, Idle}

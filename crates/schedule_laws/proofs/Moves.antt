@@ -18,7 +18,8 @@ use Rattle.cs_model.specs.Floors.{IsFloor, snapshots}
 use Rattle.cs_model.specs.State.{State}
 use Rattle.cs_model.specs.Steps.{IsLeft}
 use Rattle.log_laws.proofs.Floors.{floor_one}
-use Rattle.log_summary.specs.Summary.{lacks_memory}
+use Rattle.cs_model.specs.Works.{lacks_memory}
+use Rattle.log_summary.specs.Summary.{}
 use Rattle.group_book.specs.Book.{Group, Choice, Claim, Book, is_opened}
 use Rattle.group_book.specs.Book.Choice.{Compress, Flush, Rebuild, Merge, Settle, Clear, Idle}
 use Rattle.group_book.specs.Choices.{choice, choice_work, first_of, lowest, release_work}

@@ -9,9 +9,11 @@
 //! turns they are.
 #![tactic(auto)]
 
+mod made;
 mod moves;
 mod run;
 mod runner;
 
+pub use made::{core_for, runner_for, text_of_run};
 pub use run::run_schedule;
 pub use runner::Runner;

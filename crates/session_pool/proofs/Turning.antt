@@ -16,7 +16,7 @@ use Rattle.group_book.specs.Choices.{id_in, release_work}
 use Rattle.group_book.specs.Commits.{Sizes}
 use Rattle.group_directory.specs.declared.ledger.Ledger.{Ledger}
 use Rattle.group_log.specs.Followed.{Ground}
-use Rattle.group_log.specs.Reorganizing.{is_short}
+use Rattle.cs_model.specs.Works.{lacks_memory}
 use Rattle.script_reader.specs.declared.script.Step.{Step}
 use Rattle.statement_core.specs.declared.movers.Turned.{Turned}
 use Rattle.statement_core.specs.declared.movers.Turned.TheVariants as turned
@@ -42,11 +42,11 @@ use Rattle.statement_core.proofs.Holding.{without}
 -- ---- what the log's end says
 
 -- a release is for want of memory
-release_short : (made : book.Choice) (claim : book.Claim) (w : Work) → release_work made claim ≡ Some w → is_short w ≡ true
-release_short (Compress source) claim w e = let same : work.ReleaseCompress source (id_in claim.fresh) ≡ w = cc e in ap is_short (sym same)
-release_short Flush claim w e = let same : work.ReleaseFlush (length claim.entries) ≡ w = cc e in ap is_short (sym same)
-release_short (Rebuild source) claim w e = let same : work.ReleaseRebuild source (id_in claim.fresh) ≡ w = cc e in ap is_short (sym same)
-release_short (Merge first second) claim w e = let same : work.ReleaseMerge first second (id_in claim.fresh) ≡ w = cc e in ap is_short (sym same)
+release_short : (made : book.Choice) (claim : book.Claim) (w : Work) → release_work made claim ≡ Some w → lacks_memory w ≡ true
+release_short (Compress source) claim w e = let same : work.ReleaseCompress source (id_in claim.fresh) ≡ w = cc e in ap lacks_memory (sym same)
+release_short Flush claim w e = let same : work.ReleaseFlush (length claim.entries) ≡ w = cc e in ap lacks_memory (sym same)
+release_short (Rebuild source) claim w e = let same : work.ReleaseRebuild source (id_in claim.fresh) ≡ w = cc e in ap lacks_memory (sym same)
+release_short (Merge first second) claim w e = let same : work.ReleaseMerge first second (id_in claim.fresh) ≡ w = cc e in ap lacks_memory (sym same)
 release_short Settle claim w e = absurd (cc e)
 release_short Clear claim w e = absurd (cc e)
 release_short Idle claim w e = absurd (cc e)

@@ -8,7 +8,7 @@ use Rattle.cs_model.specs.declared.work.Work.{Work}
 use Rattle.cs_model.specs.Actors.{turns_of}
 use Rattle.group_book.specs.Turns.{claim_by}
 use Rattle.group_log.specs.Followed.{Ground}
-use Rattle.group_log.specs.Reorganizing.{is_short}
+use Rattle.cs_model.specs.Works.{lacks_memory}
 use Rattle.script_reader.specs.declared.script.Script.{Script}
 use Rattle.script_reader.specs.declared.script.Step.{Step}
 use Rattle.script_turns.specs.Histories.{IsHistory, IsFrontHistory}
@@ -46,7 +46,7 @@ pub record EndsShort (mover : ℕ) (log : List Entry) : Type 0 where
   pub before : List Entry
   pub work : Work
   pub last : log ≡ before ++ Mover (actor.Mover mover) work ∷ []
-  pub short : is_short work ≡ true
+  pub short : lacks_memory work ≡ true
 
 -- the mover holds no claim and has nothing to do at the log's end: its turn would have no event
 abbrev pub HasNothingLeft : Ground → ℕ → List Entry → Type 0

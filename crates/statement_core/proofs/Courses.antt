@@ -19,7 +19,8 @@ use Rattle.group_book.specs.Book.Choice.{Settle, Clear}
 use Rattle.group_book.specs.Choices.{choice, choices, first_some, choice_work, install_work}
 use Rattle.group_book.proofs.Lists.{how_many-append}
 use Rattle.group_log.specs.Followed.{Ground, Followed, Moment}
-use Rattle.group_log.specs.Reorganizing.{begins_turn, closed_by, closed_ids, closed_in, from_start, held_groups, is_short, most_turns, begun_turns, works_of, AreLeft, HasLooked, HasNoneOpen, IsHalfDone, IsIdle, LeavesFrom, LeavesGroups, Saw}
+use Rattle.group_log.specs.Reorganizing.{begins_turn, closed_by, closed_ids, closed_in, from_start, held_groups, most_turns, begun_turns, works_of, AreLeft, HasLooked, HasNoneOpen, IsHalfDone, IsIdle, LeavesFrom, LeavesGroups, Saw}
+use Rattle.cs_model.specs.Works.{lacks_memory}
 use Rattle.group_log.specs.Reports.{line_of}
 use Rattle.group_view.specs.declared.claim.Claim as lent
 use Rattle.group_directory.specs.declared.ledger.Ledger.{Ledger}
@@ -135,7 +136,7 @@ half_before {session = session} {behind = behind} x = record {
 
 -- its course after further entries, by the session's works among these
 course_more : (origin : Ground) (session : ℕ) (from behind entries : List Entry) (course next : Course) (works : List Work) → turns_of session entries ≡ [] → works_of session entries ≡ works
-    → list_any is_short works ≡ false → next.all ≡ course.all → next.turns + begun_turns works ≡ course.turns → next.marked ≡ course.marked ++ closed_in works
+    → list_any lacks_memory works ≡ false → next.all ≡ course.all → next.turns + begun_turns works ≡ course.turns → next.marked ≡ course.marked ++ closed_in works
     → IsCourse origin session from behind course → IsCourse origin session from (behind ++ entries) next
 course_more origin session from behind entries course next works still own well all turns marked x =
     let before : List Work = works_of session behind in
@@ -155,7 +156,7 @@ course_more origin session from behind entries course next works still own well 
           ∙ ap (λ ids. ids ++ closed_in works) x.marked
           ∙ append_assoc (closed_ids x.half.book) (closed_in before) (closed_in works)
           ∙ ap (λ ids. closed_ids x.half.book ++ ids) (sym (flat_map-append closed_by before works) ∙ sym (ap closed_in both));
-      well = ap (list_any is_short) both ∙ list_any-append is_short before works ∙ ap (λ t. t || list_any is_short works) x.well ∙ well;
+      well = ap (list_any lacks_memory) both ∙ list_any-append lacks_memory before works ∙ ap (λ t. t || list_any lacks_memory works) x.well ∙ well;
     }
 
 pub course_on : (origin : Ground) (session : ℕ) (from behind : List Entry) (course : Course) (entries : List Entry) → works_of session entries ≡ [] → turns_of session entries ≡ []
@@ -246,7 +247,7 @@ may_begin origin session from behind course some x =
     let used = x.is.turns in
     record {
       half = x.is.half;
-      may = record { looked = looked_half origin session from behind course x; room = omega (arith, made, used, some); well = ap (list_any is_short) works ∙ x.is.well };
+      may = record { looked = looked_half origin session from behind course x; room = omega (arith, made, used, some); well = ap (list_any lacks_memory) works ∙ x.is.well };
     }
 
 pub may_end : (origin : Ground) (session : ℕ) (from behind : List Entry) (course : Course) → IsCourse origin session from behind course → MayEnd origin (from ++ behind) (Session session)
@@ -361,7 +362,7 @@ leaves_before : (origin : Ground) (session : ℕ) (all : Bool) (start : Book) (f
     → LeavesFrom origin session all start (from ++ more) behind left → LeavesFrom origin session all start from (more ++ behind) left
 leaves_before origin session all start from more behind left none x = record {
   looked = looked_before origin session all from more behind none x.looked;
-  well = ap (list_any is_short) same ∙ x.well;
+  well = ap (list_any lacks_memory) same ∙ x.well;
   since = more ++ x.since;
   rest = x.rest;
   split = ap (λ es. more ++ es) x.split ∙ sym (append_assoc more x.since x.rest);
@@ -383,7 +384,7 @@ leaves_more : (origin : Ground) (session : ℕ) (all : Bool) (start : Book) (fro
     → LeavesFrom origin session all start from behind left → LeavesFrom origin session all start from (behind ++ entries) left
 leaves_more origin session all start from behind entries left none x = record {
   looked = looked_on origin session all from behind entries x.looked;
-  well = ap (list_any is_short) same ∙ x.well;
+  well = ap (list_any lacks_memory) same ∙ x.well;
   since = x.since;
   rest = x.rest ++ entries;
   split = ap (λ es. es ++ entries) x.split ∙ append_assoc x.since x.rest entries;

@@ -6,7 +6,8 @@ use Rattle.cs_model.specs.declared.entry.Entry.TheVariants.{Mover}
 use Rattle.cs_model.specs.declared.work.Actor.TheVariants.{Session}
 use Rattle.cs_model.specs.declared.work.Work.{Work}
 use Rattle.group_log.specs.Followed.{Ground}
-use Rattle.group_log.specs.Reorganizing.{begins_turn, closed_by, closed_ids, closed_in, from_start, is_short, most_turns, begun_turns, works_of, HasLooked, IsHalfDone, IsIdle, Saw}
+use Rattle.group_log.specs.Reorganizing.{begins_turn, closed_by, closed_ids, closed_in, from_start, most_turns, begun_turns, works_of, HasLooked, IsHalfDone, IsIdle, Saw}
+use Rattle.cs_model.specs.Works.{lacks_memory}
 use Rattle.statement_core.specs.Course.{Course}
 
 -- the REORGANIZE that the session has half done made no work up to `from`; after its works since then these turns are left and these
@@ -20,7 +21,7 @@ pub record IsCourse (origin : Ground) (session : ℕ) (from behind : List Entry)
   pub all : half.all ≡ course.all
   pub turns : course.turns + begun_turns (works_of session behind) ≡ most_turns half.book
   pub marked : course.marked ≡ closed_ids half.book ++ closed_in (works_of session behind)
-  pub well : list_any is_short (works_of session behind) ≡ false
+  pub well : list_any lacks_memory (works_of session behind) ≡ false
 
 -- and it has looked for the open store, where it is to close that
 pub record IsTurning (origin : Ground) (session : ℕ) (from behind : List Entry) (course : Course) : Type 0 where
@@ -35,7 +36,7 @@ pub record HasStopped (origin : Ground) (session : ℕ) (from behind : List Entr
 -- the work begins a turn, or ends one; memory was not wanting, and it closes no store
 pub record IsTurnWork (first : Bool) (w : Work) : Type 0 where
   pub begins : begins_turn w ≡ first
-  pub well : is_short w ≡ false
+  pub well : lacks_memory w ≡ false
   pub closes : closed_by w ≡ []
 
 -- the entries are one such work of the session

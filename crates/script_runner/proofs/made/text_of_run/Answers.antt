@@ -1,6 +1,6 @@
 use Rattle.std.proofs.Common.{sym, subst, All, Contains}
 use Rattle.std.proofs.lemmas.List.Elements.{All-contains_itself}
-use Rattle.desk_tests.proofs.made.run.Goals as goal
+use Rattle.script_runner.proofs.made.text_of_run.Goals as goal
 
 pub run_schedule-requires-clause-known : goal.run_schedule-requires-clause-known
 run_schedule-requires-clause-known g c κs within =

@@ -2,7 +2,7 @@ use Rattle.std.proofs.Common.{sym, subst, All, length, ◌<◌, ◌≤◌, arith
 use Rattle.cs_types.specs.Schemas.{IsSchema}
 use Rattle.log_laws.specs.Laws.{AreDistinct}
 use Rattle.script_turns.proofs.Sessions.{sessions_below, sessions_few, sessions_distinct}
-use Rattle.desk_tests.proofs.made.core_for.Goals as goal
+use Rattle.script_runner.proofs.made.core_for.Goals as goal
 
 pub new-requires : goal.new-requires
 new-requires c = record {
