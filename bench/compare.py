@@ -263,7 +263,11 @@ def cases(rows):
 
 def by_workers(program, rows, repeat, folder):
     """Queries over 8 groups by four workers, and by one, by the clock."""
-    queries = [*six(rows), Query("v, w, COUNT, SUM(k) GROUP BY v, w", "SELECT v, w, COUNT(*), SUM(k) FROM t GROUP BY v, w", times=MORE)]
+    queries = [
+        *six(rows),
+        Query("v, COUNT, SUM(k) WHERE w < 500 GROUP BY v", "SELECT v, COUNT(*), SUM(k) FROM t WHERE w < 500 GROUP BY v", times=MORE),
+        Query("v, w, COUNT, SUM(k) GROUP BY v, w", "SELECT v, w, COUNT(*), SUM(k) FROM t GROUP BY v, w", times=MORE),
+    ]
     given, times, answers = case("", rows, series(rows), queries, groups=8), [], []
     for number in ("4", "1"):
         had = given._replace(words=(*given.words, "--workers", number))
