@@ -1,21 +1,22 @@
 // Which keys a run may have.
-ghost use Rattle.std.specs.Prelude.{◌≡◌, ◌<◌, List, IsTrue, IfOk};
+ghost use Rattle.std.specs.Prelude.{◌≡◌, ◌<◌, IsTrue, IfOk};
 ghost use Rattle.cs_types.specs.declared.Key.{Key};
 ghost use Rattle.delta_store.specs.Filters.{slot_of, may_have, AreAllAdmitted};
 
 use cs_base::Memory;
 use cs_types::Key;
+use delete_bitmap::Positions;
 use std::alloc::Global;
 use std::marker::Model;
 
 /// So many slots a key: where keys are scattered, one in four of those that were not added is taken for one that was.
 const SLOTS: usize = 4;
 
-/// A filter of keys: a slot for each key, shared with others, is marked once one of them is added. So a key whose slot has no
-/// mark was not added, and is told so at one look. Without slots it admits every key. Contracts see the marks.
+/// A filter of keys: a slot for each key, shared with others, is marked where one of them is among those that it was made of. So
+/// a key whose slot has no mark is not, and is told so at one look. Without slots it admits every key. Contracts see the marks.
 #[derive(Debug, Drop)]
 pub struct Filter {
-    slots: Vec<bool>,
+    slots: Positions,
 }
 
 impl Model for Filter {
@@ -23,7 +24,7 @@ impl Model for Filter {
 
     ghost Value = { List Bool };
 
-    ghost view = { λ filter. filter.slots.items };
+    ghost view = { λ filter. filter.slots };
 }
 
 impl Filter {
@@ -32,7 +33,7 @@ impl Filter {
         ensures { (key : Key) → IsTrue (may_have result key) }
     {
         Filter {
-            slots: Vec::new(alloc),
+            slots: Positions::none(alloc, 0),
         }
     }
 
@@ -40,36 +41,20 @@ impl Filter {
     pub fn of(alloc: Global, pairs: &[(Key, usize)]) -> Result<Filter, Memory>
         ensures { IfOk result (λ filter. AreAllAdmitted filter pairs.now) }
     {
-        let slots = pairs.len().saturating_mul(SLOTS) | 1;
-        let mut filter = Filter {
-            slots: vec![in alloc; false; slots]?,
-        };
+        let count = pairs.len().saturating_mul(SLOTS) | 1;
+        let mut slots = Positions::none(alloc, count);
         for pair in pairs {
-            filter.add(pair.0);
+            slots.insert(slot_of(pair.0, count))?;
         }
-        Ok(filter)
+        Ok(Filter { slots })
     }
 
-    /// Whether a key may be one of those that were added.
+    /// Whether a key may be one of those that the filter was made of.
     pub fn may_have(&self, key: Key) -> bool
         ensures { result ≡ may_have self.now key }
     {
-        if self.slots.is_empty() {
-            return true;
-        }
-        self.slots[slot_of(key, self.slots.len())]
-    }
-
-    /// Adds a key.
-    pub fn add(&mut self, key: Key)
-        ensures added { IsTrue (may_have self.new key) }
-        ensures kept { (other : Key) → IsTrue (may_have self.old other) → IsTrue (may_have self.new other) }
-    {
-        if self.slots.is_empty() {
-            return;
-        }
-        let at = slot_of(key, self.slots.len());
-        self.slots[at] = true;
+        let count = self.slots.len();
+        count == 0 || self.slots.contains(slot_of(key, count))
     }
 }
 

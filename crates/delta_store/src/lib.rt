@@ -3,8 +3,8 @@
 //!
 //! Its one contract: a `Delta` is its list of versions with their keys, which of its chunks are its own, and a number of
 //! versions that find room without memory; a `Frozen` is its list of versions; and each call has exactly the stated effect
-//! on them. A share has its chunks in common with its store and never changes. It stands on `cs_base` and `cs_types`. The
-//! form follows the delta store of SQL Server's clustered columnstore (Larson et al.,
+//! on them. A share has its chunks in common with its store and never changes. It stands on `cs_base`, `cs_types` and the sets
+//! of positions of `delete_bitmap`. The form follows the delta store of SQL Server's clustered columnstore (Larson et al.,
 //! SIGMOD 2013), with an index by key and begin and end of each version beside its row.
 #![tactic(auto)]
 

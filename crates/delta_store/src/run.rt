@@ -17,7 +17,8 @@ const UNFILTERED: usize = 1024;
 #[derive(Debug, Drop)]
 pub struct Run {
     pairs: Vec<(Key, usize)>,
-    /// The keys that it may have. A look-up of any other one ends here, and reads no pair.
+    /// The keys that it may have. A look-up of any other one ends here, and reads no pair. A run that is given places admits every
+    /// key.
     filter: Filter,
 }
 
@@ -82,7 +83,7 @@ impl Run {
         ensures pairs { SetsOnly self.old.pairs self.new.pairs key place }
         ensures room { self.old.spare ≤ self.new.spare + 1 }
     {
-        self.filter.add(key);
+        self.filter = Filter::new(*self.pairs.allocator());
         match self.search(key) {
             Ok(at) => {
                 self.pairs[at] = (key, place);
