@@ -16,7 +16,7 @@ use Rattle.segment_dict.specs.Dictionaries.{HasCell, cell_of, codes_of}
 use Rattle.segment_dict.specs.Texts.{texts_in}
 use Rattle.segment_dict.proofs.Orders.{text_order}
 use Rattle.segment_dict.proofs.TextLemmas.{length-texts_from}
-use Rattle.column_segment.specs.Cells.{number_of, number_cell, text_of, text_cell, HasNoText, HasNoNumber, IsLeastCell, IsGreatestCell}
+use Rattle.column_segment.specs.Cells.{number_of, number_cell, text_of, text_cell, HasText, HasNoText, HasNoNumber, IsLeastCell, IsGreatestCell}
 use Rattle.column_segment.specs.Layouts.{IsLeastWidth, MatchNeighbours}
 use Rattle.column_segment.specs.Dicts.{IsDictFor, IsDictCode, AreDictCodes, HasEntry, HasNumbers, AreNumberCodes, dict_cell, dict_codes, dict_nulls}
 use Rattle.column_segment.proofs.Entries.{AreCells, code-injective, has-cell, code-exists, last-cell, bound-cell, no-cell}
@@ -48,7 +48,7 @@ own-text cells none v has = go v (at v has)
     go (Number n) h = cc
     go (Text t) h = refl
 
-number-back : (o : Option ℤ) → number_of (number_cell o) ≡ o
+pub number-back : (o : Option ℤ) → number_of (number_cell o) ≡ o
 number-back None = refl
 number-back (Some n) = refl
 
@@ -78,16 +78,18 @@ no_texts-twice : (o : Option (List ℕ)) → IsNone o → IsSome o → ⊥
 no_texts-twice None is_none is_some = cc
 no_texts-twice (Some t) is_none is_some = cc
 
+pub not-both : (cells : List Value) → HasNoText cells → HasText cells → ⊥
+not-both cells none (k, v, l, e, some) =
+    let P : Value → Type 0 = λ w. IsNone (text_of w) in
+    no_texts-twice (text_of v) (subst P e (none k v l)) some
+
 -- the dictionary of cells of which none is a text has their numbers
 pub has-numbers : (cells : List Value) (dict : Dict) → HasNoText cells → IsDictFor cells dict → HasNumbers dict (map number_of cells)
 has-numbers cells (Numbers dict) none is = λ k d l.
     let low : k < length cells = omega (arith, l, length-map cells number_of) in
     let P : Option ℤ → Type 0 = λ n. HasCell dict.entries dict.nulls n in
     subst P (sym (get_or-map number_of cells k Null d low)) (has-entries cells (Numbers dict) is k Null low).1
-has-numbers cells (Texts dict) none is =
-    let (k, v, l, e, some) = is.0 in
-    let P : Value → Type 0 = λ w. IsNone (text_of w) in
-    absurd (no_texts-twice (text_of v) (subst P e (none k v l)) some)
+has-numbers cells (Texts dict) none is = absurd (not-both cells none is.0)
 
 -- the codes of their numbers are those of the cells
 own-codes : (cells : List Value) (dict : Dict) (codes : List ℕ) → HasNoText cells → AreNumberCodes dict (map number_of cells) codes → AreDictCodes dict cells codes

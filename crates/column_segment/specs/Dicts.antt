@@ -1,5 +1,5 @@
 -- The dictionary of a column's cells, and its codes.
-use Rattle.std.specs.Prelude.{◌≡◌, ◌+◌, ◌<◌, ◌/◌, ℕ, ℤ, Bool, List, Option, All, map, length, slice_index, slice_get, Some, IsNone}
+use Rattle.std.specs.Prelude.{◌≡◌, ◌+◌, ◌<◌, ◌/◌, ℕ, ℤ, Bool, List, Option, All, map, length, slice_index, slice_index_or, slice_get, Some, IsNone}
 use Rattle.std.specs.Ordering.{nat_cmp, int_cmp}
 use Rattle.std.specs.Cmp.Lexicographic.{slice_cmp}
 use Rattle.segment_dict.specs.declared.Dict.{Dict}
@@ -42,6 +42,12 @@ abbrev pub AreDictCodes : Dict → List Value → List ℕ → Type 0
 AreDictCodes dict cells codes =
     (length codes ≡ length cells)
     × ((i : ℕ) (cell : Value) → slice_get cells i ≡ Some cell → IsDictCode dict cell (slice_index codes i))
+
+-- the numbers that the cells of all codes are, in the order of the codes
+abbrev pub AreCodeNumbers : Dict → List (Option ℤ) → Type 0
+AreCodeNumbers dict numbers =
+    (length numbers ≡ dict_codes dict)
+    × ((code : ℕ) (d : Option ℤ) → code < dict_codes dict → slice_index_or numbers code d ≡ number_of (dict_cell dict code))
 
 -- the dictionary has the cell
 abbrev pub HasEntry : Dict → Value → Type 0

@@ -27,3 +27,9 @@ abbrev pub text_in : Value → List ℕ
 text_in Null = []
 text_in (Number n) = []
 text_in (Text t) = t
+
+-- values in another order
+abbrev pub ArePicked : {X : Type 0} → List X → List ℕ → List X → Type 0
+ArePicked {X} values order all =
+    (length all ≡ length order)
+    × ((i : ℕ) (d : X) → i < length order → slice_index_or all i d ≡ slice_index_or values (slice_index order i) d)

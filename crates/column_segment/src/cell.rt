@@ -11,8 +11,9 @@ use cs_types::{ColumnType, Value, compare};
 use std::alloc::Global;
 use std::cmp::Ordering;
 
-/// A cell of a segment, as a reference into it.
-#[derive(Debug, Clone, Copy, PartialEq, Eq)]
+/// A cell of a segment, as a reference into it. The derived order is that of values: NULL first, then numbers, then texts
+/// byte by byte.
+#[derive(Debug, Clone, Copy, PartialEq, Eq, PartialOrd, Ord, Hash)]
 pub enum CellRef<'a> {
     /// NULL.
     Null,
@@ -64,7 +65,7 @@ impl CellRef<'_> {
     }
 
     /// The number that the cell is, None where it is none.
-    fn number(self) -> Option<i64>
+    pub fn number(self) -> Option<i64>
         ensures { result ≡ number_of (seen self.entry) }
     {
         match self {

@@ -1,18 +1,21 @@
-ghost use Rattle.std.specs.Prelude.{◌≡◌, ◌+◌, ◌<◌, ◌≤◌, ℕ, List, All, map, length, min, IfOk, IsTrue, Some, slice_get};
+ghost use Rattle.std.specs.Prelude.{◌≡◌, ◌+◌, ◌<◌, ◌≤◌, ℕ, List, All, length, min, slice_index, IfOk, IsTrue, Some, slice_get};
 ghost use Rattle.bit_pack.specs.Codes.{packed};
 ghost use Rattle.cs_types.specs.Kinds.{is_of_type};
 ghost use Rattle.cs_types.specs.declared.Value.{Value as Cell};
 ghost use Rattle.std.specs.Bool.{OnTrue, OnFalse};
-ghost use Rattle.column_segment.specs.Cells.{number_cell, HasText, HasNoText, HasNoNumber};
+ghost use Rattle.column_segment.specs.Cells.{HasText, HasNoText, HasNoNumber};
 ghost use Rattle.column_segment.specs.Layouts.{IsLeastWidth};
 ghost use Rattle.column_segment.specs.Dicts.{IsCoded};
 ghost use Rattle.column_segment.specs.Bodies.{HasNoScale, IsBest, cell_in};
 ghost use Rattle.column_segment.specs.Segments.{IsSegmentOf};
 ghost use Rattle.column_segment.specs.Choices.{AreCosts, IsValueBody, IsDictBody};
+ghost use Rattle.column_segment.specs.Ranks.{ArePicked};
 
 use crate::body::SegmentBody;
 use crate::cell::{has_text, numbers_in, texts_in};
-use crate::dict::{codes_in, greatest_in, has_null, least_in, number_codes, width_in, words_of};
+use crate::dict::{
+    code_numbers, codes_in, greatest_in, has_null, least_in, number_codes, width_in, words_of,
+};
 use crate::layout::{runs_in, width_of};
 use crate::segment::Segment;
 use bit_pack::pack_width;
@@ -123,25 +126,69 @@ fn unscaled_body(alloc: Global, dict: Dict, codes: &[u64]) -> Result<SegmentBody
     dict_body(alloc, dict, codes, costs)
 }
 
-/// The best way to keep numbers, whose dictionary and codes in it these are.
-fn number_body(
-    alloc: Global,
-    numbers: &[Option<i64>],
-    dict: Dict,
-    dict_codes: &[u64],
-) -> Result<SegmentBody, Memory>
-    requires { IsCoded (map number_cell numbers.now) dict dict_codes.now }
-    ensures { IfOk result (IsBest (map number_cell numbers.now)) }
+/// Whether a table has at each place the place.
+fn counts_up(table: &[u64]) -> bool
+    ensures { OnTrue result ((i : ℕ) → i < length table.now → slice_index table.now i ≡ i) }
 {
+    for place in 0..table.len() {
+        if table[place] != place as u64 {
+            return false;
+        }
+    }
+    true
+}
+
+/// The codes that a table of a scale has at some places, in their cheaper layout. Of numbers with no gap between them the
+/// places are the codes, and so nothing is read from the table.
+fn table_body(
+    alloc: Global,
+    scale: Scale,
+    table: &[u64],
+    places: &[u64],
+    costs: Costs,
+) -> Result<SegmentBody, Memory>
+    requires width { costs.width ≤ 64 }
+    requires within { All (λ place. place < length table.now) places.now }
+    requires room { (codes : List ℕ) → ArePicked table.now places.now codes → IsLeastWidth codes costs.width }
+    ensures { IfOk result (λ body. (codes : List ℕ) → ArePicked table.now places.now codes → IsValueBody scale codes costs body) }
+{
+    if counts_up(table) {
+        return value_body(alloc, scale, places, costs);
+    }
+    let codes = looked_up(alloc, table, places)?;
+    value_body(alloc, scale, codes.as_slice(), costs)
+}
+
+/// The code that a table has at each of some places.
+fn looked_up(alloc: Global, table: &[u64], places: &[u64]) -> Result<Vec<u64>, Memory>
+    requires { All (λ place. place < length table.now) places.now }
+    ensures { IfOk result (λ codes. ArePicked table.now places.now codes.items) }
+{
+    let mut codes = Vec::with_capacity(alloc, places.len())?;
+    for place in places {
+        codes.push(table[*place as usize])?;
+    }
+    Ok(codes)
+}
+
+/// The best way to keep numbers, whose dictionary and codes in it these are. Its entries alone tell the scale, so no other
+/// number is divided.
+fn number_body(alloc: Global, dict: Dict, dict_codes: &[u64]) -> Result<SegmentBody, Memory>
+    requires { (cells : List Cell) × IsCoded cells dict dict_codes.now × HasNoText cells }
+    ensures { IfOk result (λ body. (cells : List Cell) → IsCoded cells dict dict_codes.now → HasNoText cells → IsBest cells body) }
+{
+    let entries = code_numbers(alloc, &dict)?;
+    let numbers = entries.as_slice();
     let Some(scale) = scale_of(numbers) else {
         return unscaled_body(alloc, dict, dict_codes);
     };
-    let codes = shrink_all(alloc, scale, numbers)?;
+    let scaled = shrink_all(alloc, scale, numbers)?;
+    let table = scaled.as_slice();
     let runs = runs_in(dict_codes);
-    let by_dict = costs_of(words_of(&dict), numbers.len(), width_in(&dict), runs);
-    let by_scale = costs_of(2, numbers.len(), width_of(codes.as_slice()), runs);
+    let by_dict = costs_of(words_of(&dict), dict_codes.len(), width_in(&dict), runs);
+    let by_scale = costs_of(2, dict_codes.len(), width_of(table), runs);
     if fewest(by_scale) <= fewest(by_dict) {
-        return value_body(alloc, scale, codes.as_slice(), by_scale);
+        return table_body(alloc, scale, table, dict_codes, by_scale);
     }
     dict_body(alloc, dict, dict_codes, by_dict)
 }
@@ -155,25 +202,20 @@ fn number_segment(alloc: Global, cells: &[Value]) -> Result<Segment, Memory>
     let numbers = numbers_in(alloc, cells)?;
     let dict = Dict::Numbers(numbers_of(alloc, numbers.as_slice())?);
     let codes = number_codes(alloc, &dict, numbers.as_slice())?;
-    bare_segment(alloc, numbers.as_slice(), dict, codes.as_slice())
+    bare_segment(alloc, dict, codes.as_slice())
 }
 
 /// The segment of numbers, whose dictionary and codes in it these are.
-pub fn bare_segment(
-    alloc: Global,
-    numbers: &[Option<i64>],
-    dict: Dict,
-    codes: &[u64],
-) -> Result<Segment, Memory>
-    requires { IsCoded (map number_cell numbers.now) dict codes.now }
-    ensures { IfOk result (λ segment. IsSegmentOf (map number_cell numbers.now) segment.length segment.body segment.least segment.greatest segment.nulls) }
+pub fn bare_segment(alloc: Global, dict: Dict, codes: &[u64]) -> Result<Segment, Memory>
+    requires { (cells : List Cell) × IsCoded cells dict codes.now × HasNoText cells }
+    ensures { IfOk result (λ segment. (cells : List Cell) → IsCoded cells dict codes.now → HasNoText cells → IsSegmentOf cells segment.length segment.body segment.least segment.greatest segment.nulls) }
 {
     let least = least_in(alloc, &dict)?;
     let greatest = greatest_in(alloc, &dict)?;
     let nulls = has_null(&dict);
-    let body = number_body(alloc, numbers, dict, codes)?;
+    let body = number_body(alloc, dict, codes)?;
     Ok(Segment {
-        length: numbers.len(),
+        length: codes.len(),
         body,
         least,
         greatest,

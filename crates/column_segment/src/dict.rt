@@ -4,7 +4,7 @@ ghost use Rattle.cs_types.specs.declared.Value.TheVariants.{Null};
 ghost use Rattle.cs_types.specs.Rows.{number_in};
 ghost use Rattle.column_segment.specs.Cells.{seen, IsLeastCell, IsGreatestCell};
 ghost use Rattle.column_segment.specs.Layouts.{IsLeastWidth};
-ghost use Rattle.column_segment.specs.Dicts.{dict_cell, dict_codes, dict_nulls, dict_words, HasEntry, IsDictFor, IsDictCode, AreDictCodes, HasNumbers, AreNumberCodes};
+ghost use Rattle.column_segment.specs.Dicts.{dict_cell, dict_codes, dict_nulls, dict_words, HasEntry, IsDictFor, IsDictCode, AreDictCodes, HasNumbers, AreNumberCodes, AreCodeNumbers};
 
 use crate::cell::{CellRef, as_number, as_text, number_shown};
 use crate::layout::bits_of;
@@ -83,6 +83,18 @@ pub fn codes_of(dict: &Dict) -> u64
             + u64::from(numbers.nulls),
         Dict::Texts(texts) => texts.ends.as_slice().len() as u64 + u64::from(texts.nulls),
     }
+}
+
+/// The numbers that the cells of all codes are, in the order of the codes.
+pub fn code_numbers(alloc: Global, dict: &Dict) -> Result<Vec<Option<i64>>, Memory>
+    ensures { IfOk result (λ numbers. AreCodeNumbers dict.now numbers.items) }
+{
+    let count = codes_of(dict) as usize;
+    let mut numbers = Vec::with_capacity(alloc, count)?;
+    for code in 0..count {
+        numbers.push(entry_shown(dict, code as u64).number())?;
+    }
+    Ok(numbers)
 }
 
 /// What a dictionary costs in words: one for each number, or for each text one and its bytes, joined, 8 to a word.

@@ -21,5 +21,5 @@ pub use body::SegmentBody;
 pub use cell::{CellRef, number_shown, shown};
 pub use choice::encode;
 pub use laws::codes_in_order;
-pub use ranked::{encode_numbers, encode_ranked};
+pub use ranked::{encode_numbers, encode_ranked, picked};
 pub use segment::{Batch, Segment};

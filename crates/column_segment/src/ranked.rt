@@ -1,11 +1,12 @@
-ghost use Rattle.std.specs.Prelude.{◌≡◌, ◌<◌, ℕ, All, map, length, IfOk, IsTrue, ◌↔◌, slice_get, slice_index, slice_index_or, Some};
+ghost use Rattle.std.specs.Prelude.{◌≡◌, ◌<◌, ℕ, All, map, length, IfOk, IsTrue, IsPermutation, ◌↔◌, slice_get, slice_index, slice_index_or, Some};
+ghost use Rattle.std.specs.List.{range_with_len};
 ghost use Rattle.cs_types.specs.declared.Value.TheVariants.{Null};
 ghost use Rattle.cs_types.specs.Kinds.{is_of_type};
 ghost use Rattle.cs_types.specs.Rows.{cell_at, number_in};
 ghost use Rattle.column_segment.specs.Bodies.{cell_in};
 ghost use Rattle.column_segment.specs.Cells.{seen, number_cell, HasText, HasNoNumber};
 ghost use Rattle.column_segment.specs.Dicts.{IsDictFor, AreDictCodes};
-ghost use Rattle.column_segment.specs.Ranks.{AreAllBelow, AreCellRanks, AreRankPlaces, text_in};
+ghost use Rattle.column_segment.specs.Ranks.{AreAllBelow, AreCellRanks, AreRankPlaces, ArePicked, text_in};
 ghost use Rattle.column_segment.specs.Segments.{IsSegmentOf};
 
 use crate::cell::{CellRef, numbers_shown, shows_text};
@@ -16,27 +17,29 @@ use cs_types::ColumnType;
 use segment_dict::{Dict, NumberDict, joined_texts};
 use std::alloc::Global;
 
-/// What `encode` gives, where the ranks of the cells are known already: the cells stand to each other as their ranks do,
-/// which are the numbers below `count`, none left out. These are the codes of the cells in their dictionary, so it neither
-/// sorts cells nor looks for one.
+/// What `encode` gives of cells in another order, where the ranks of the cells are known already: the cells stand to each
+/// other as their ranks do, which are the numbers below `count`, none left out. These are the codes of the cells in their
+/// dictionary, so it neither sorts cells nor looks for one, and it moves codes alone.
 pub fn encode_ranked(
     alloc: Global,
     kind: ColumnType,
     cells: &[CellRef<'_>],
     ranks: &[u64],
     count: u64,
+    order: &[usize],
 ) -> Result<Segment, Memory>
-    requires some { 0 < length cells.now }
+    requires some { 0 < length order.now }
     requires of_type { All (λ cell. IsTrue (is_of_type kind cell)) (map seen cells.now) }
     requires ranks { AreCellRanks (map seen cells.now) ranks.now count }
-    ensures segment { IfOk result (λ segment. IsSegmentOf (map seen cells.now) segment.length segment.body segment.least segment.greatest segment.nulls) }
-    ensures cells { IfOk result (λ segment. (i : ℕ) → i < length (map seen cells.now) → slice_get (map seen cells.now) i ≡ Some (cell_in segment.body i)) }
+    requires all { IsPermutation (range_with_len 0 (length (map seen cells.now))) order.now }
+    ensures segment { IfOk result (λ segment. IsSegmentOf (map (cell_at (map seen cells.now)) order.now) segment.length segment.body segment.least segment.greatest segment.nulls) }
+    ensures cells { IfOk result (λ segment. (i : ℕ) → i < length (map (cell_at (map seen cells.now)) order.now) → slice_get (map (cell_at (map seen cells.now)) order.now) i ≡ Some (cell_in segment.body i)) }
 {
     if shows_text(kind, cells) {
-        ranked_texts(alloc, cells, ranks, count)
+        ranked_texts(alloc, cells, ranks, count, order)
     } else {
         let numbers = numbers_shown(alloc, cells)?;
-        ranked_numbers(alloc, numbers.as_slice(), ranks, count)
+        ranked_numbers(alloc, numbers.as_slice(), ranks, count, order)
     }
 }
 
@@ -46,45 +49,65 @@ pub fn encode_numbers(
     numbers: &[Option<i64>],
     ranks: &[u64],
     count: u64,
+    order: &[usize],
 ) -> Result<Segment, Memory>
-    requires some { 0 < length numbers.now }
+    requires some { 0 < length order.now }
     requires ranks { AreCellRanks (map number_cell numbers.now) ranks.now count }
-    ensures segment { IfOk result (λ segment. IsSegmentOf (map number_cell numbers.now) segment.length segment.body segment.least segment.greatest segment.nulls) }
-    ensures cells { IfOk result (λ segment. (i : ℕ) → i < length (map number_cell numbers.now) → slice_get (map number_cell numbers.now) i ≡ Some (cell_in segment.body i)) }
+    requires all { IsPermutation (range_with_len 0 (length (map number_cell numbers.now))) order.now }
+    ensures segment { IfOk result (λ segment. IsSegmentOf (map (cell_at (map number_cell numbers.now)) order.now) segment.length segment.body segment.least segment.greatest segment.nulls) }
+    ensures cells { IfOk result (λ segment. (i : ℕ) → i < length (map (cell_at (map number_cell numbers.now)) order.now) → slice_get (map (cell_at (map number_cell numbers.now)) order.now) i ≡ Some (cell_in segment.body i)) }
 {
-    ranked_numbers(alloc, numbers, ranks, count)
+    ranked_numbers(alloc, numbers, ranks, count, order)
 }
 
-/// The segment of numbers whose ranks these are.
+/// The segment of numbers in an order, where their ranks are these.
 fn ranked_numbers(
     alloc: Global,
     numbers: &[Option<i64>],
     ranks: &[u64],
     count: u64,
+    order: &[usize],
 ) -> Result<Segment, Memory>
-    requires some { 0 < length numbers.now }
+    requires some { 0 < length order.now }
     requires ranks { AreCellRanks (map number_cell numbers.now) ranks.now count }
-    ensures { IfOk result (λ segment. IsSegmentOf (map number_cell numbers.now) segment.length segment.body segment.least segment.greatest segment.nulls) }
+    requires all { IsPermutation (range_with_len 0 (length (map number_cell numbers.now))) order.now }
+    ensures { IfOk result (λ segment. IsSegmentOf (map (cell_at (map number_cell numbers.now)) order.now) segment.length segment.body segment.least segment.greatest segment.nulls) }
 {
     let dict = number_dict(alloc, numbers, ranks, count)?;
-    bare_segment(alloc, numbers, dict, ranks)
+    let codes = picked(alloc, ranks, order)?;
+    bare_segment(alloc, dict, &codes)
 }
 
-/// The segment of texts whose ranks these are.
+/// The segment of texts in an order, where their ranks are these.
 fn ranked_texts(
     alloc: Global,
     cells: &[CellRef<'_>],
     ranks: &[u64],
     count: u64,
+    order: &[usize],
 ) -> Result<Segment, Memory>
-    requires some { 0 < length cells.now }
+    requires some { 0 < length order.now }
     requires text { HasText (map seen cells.now) }
     requires no_number { HasNoNumber (map seen cells.now) }
     requires ranks { AreCellRanks (map seen cells.now) ranks.now count }
-    ensures { IfOk result (λ segment. IsSegmentOf (map seen cells.now) segment.length segment.body segment.least segment.greatest segment.nulls) }
+    requires all { IsPermutation (range_with_len 0 (length (map seen cells.now))) order.now }
+    ensures { IfOk result (λ segment. IsSegmentOf (map (cell_at (map seen cells.now)) order.now) segment.length segment.body segment.least segment.greatest segment.nulls) }
 {
     let dict = text_dict(alloc, cells, ranks, count)?;
-    dict_segment(alloc, dict, ranks)
+    let codes = picked(alloc, ranks, order)?;
+    dict_segment(alloc, dict, &codes)
+}
+
+/// Codes in another order.
+pub fn picked(alloc: Global, codes: &[u64], order: &[usize]) -> Result<Vec<u64>, Memory>
+    requires { All (λ place. place < length codes.now) order.now }
+    ensures { IfOk result (λ all. ArePicked codes.now order.now all.items) }
+{
+    let mut all = Vec::with_capacity(alloc, order.len())?;
+    for place in order {
+        all.push(codes[*place])?;
+    }
+    Ok(all)
 }
 
 /// The dictionary of numbers whose ranks these are. The ranks are its codes.

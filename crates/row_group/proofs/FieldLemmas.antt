@@ -24,7 +24,8 @@ use Rattle.cs_types.specs.Keys.{key_cmp}
 use Rattle.row_group.specs.Groups.{keys_of, key_of_cell}
 use Rattle.row_group.specs.Fields.{cells_in, shown_row, shown_rows, AreFields, AreStamps}
 use Rattle.row_group.specs.Packings.{source_row}
-use Rattle.row_group.specs.Arranged.{IsColumnSegment, AreSegmentsOf, ArePicked, AreKeyCodes, AreNumbers}
+use Rattle.column_segment.specs.Ranks.{ArePicked}
+use Rattle.row_group.specs.Arranged.{IsColumnSegment, AreSegmentsOf, AreKeyCodes, AreNumbers}
 use Rattle.row_group.proofs.ArrangeLemmas.{slice_get-push}
 use Rattle.row_group.proofs.RankLemmas.{within-order}
 use Rattle.row_group.proofs.ShownLemmas.{cell_at-get_or, cell_at-map}
@@ -53,16 +54,6 @@ segments-more done cells order segments segment are one = (
         (subst (λ (column : List Value). IsColumnSegment (map (cell_at column) order) segment) (sym (get_or_push done cells [] c at)) one)
   ],
 )
-
--- cells that are moved are kept as they were
-pub kept-moved : (kind : ColumnType) (cells : List Value) (order : List ℕ) → All (λ cell. IsTrue (is_of_type kind cell)) cells → All (λ cell. IsTrue (is_of_type kind cell)) (map (cell_at cells) order)
-kept-moved kind cells order all = All-map (λ cell. IsTrue (is_of_type kind cell)) (cell_at cells) order (λ k d l. go (get_or order k d))
-  where
-    go : (i : ℕ) → IsTrue (is_of_type kind (cell_at cells i))
-    go i = subst (λ cell. IsTrue (is_of_type kind cell)) (sym (cell_at-get_or cells i)) (elim (cases_lt i (length cells)) [
-      | inl l ↦ all i Null l
-      | inr n ↦ subst (λ cell. IsTrue (is_of_type kind cell)) (sym (get_or_past cells i Null n)) refl
-    ])
 
 -- a segment's cells are those that it is of
 cells-same : (cells : List Value) (segment : Segment) → IsColumnSegment cells segment → cells_in segment ≡ cells

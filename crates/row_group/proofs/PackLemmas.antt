@@ -25,7 +25,8 @@ use Rattle.row_group.proofs.ArrangeLemmas.{by_rank-same}
 use Rattle.row_group.proofs.FieldLemmas.{cell_of-source}
 use Rattle.row_group.proofs.ColumnLemmas.{row_of-source, map-within, rows-raised}
 use Rattle.row_group.proofs.ShownLemmas.{cell_at-get_or, map-map}
-use Rattle.row_group.proofs.OrderLemmas.{range-apart, range-within, length-range}
+use Rattle.column_segment.proofs.Moved.{range-within}
+use Rattle.row_group.proofs.OrderLemmas.{range-apart, length-range}
 
 held-kept : (column : Column) (v : Value) → IsTrue (may_hold column v) → IsTrue (is_of_type column.kind v)
 held-kept column Null held = refl

@@ -7,7 +7,7 @@ use Rattle.std.proofs.lemmas.List.{length_push, get_or_append_left, get_or_push,
 use Rattle.std.proofs.lemmas.List.Elements.{All-push}
 use Rattle.std.proofs.lemmas.List.Quantifiers.{all_pairs_push}
 use Rattle.row_group.specs.Fields.{stamp_in, begin_in, AreStamps}
-use Rattle.row_group.specs.Arranged.{ArePicked}
+use Rattle.column_segment.specs.Ranks.{ArePicked}
 use Rattle.row_group.proofs.ShownLemmas.{stamp-none}
 
 stamp-other : (late : List (ℕ × ℕ)) (entry : ℕ × ℕ) (position : ℕ) → entry.0 ≢ position → stamp_in (late ++ entry ∷ []) position ≡ stamp_in late position

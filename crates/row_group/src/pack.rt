@@ -8,12 +8,12 @@ ghost use Rattle.row_group.specs.Fields.{AreStamps};
 ghost use Rattle.row_group.specs.Orders.{AreRanks};
 ghost use Rattle.row_group.specs.Arranged.{AreSegmentsOf, IsColumnSegment, KeepColumns, AreColumnRanks, AreNumbers, IsArranged};
 
-use crate::arrange::{cells_arranged, numbers_arranged, picked};
+use crate::arrange::shown_cells;
 use crate::cells::Cells;
 use crate::order::code_order;
 use crate::packed::Packed;
 use crate::ranks::Ranks;
-use column_segment::{Segment, encode_numbers, encode_ranked};
+use column_segment::{Segment, encode_numbers, encode_ranked, picked};
 use cs_base::{Items, Memory};
 use cs_types::{ColumnType, Schema};
 use std::alloc::Global;
@@ -90,13 +90,11 @@ fn segment_of(
     requires some { 0 < length order.now }
     ensures { IfOk result (λ segment. IsColumnSegment (map (cell_at cells) order.now) segment) }
 {
-    let codes = picked(alloc, &ranks.codes, order)?;
     if let Some(numbers) = cells.numbers() {
-        let moved = numbers_arranged(alloc, numbers, order)?;
-        return encode_numbers(alloc, &moved, &codes, ranks.count);
+        return encode_numbers(alloc, numbers, &ranks.codes, ranks.count, order);
     }
-    let moved = cells_arranged(alloc, &cells, order)?;
-    encode_ranked(alloc, kind, &moved, &codes, ranks.count)
+    let shown = shown_cells(alloc, &cells)?;
+    encode_ranked(alloc, kind, &shown, &ranks.codes, ranks.count, order)
 }
 
 /// The begins that are not the floor, with their positions in an order. Where all are the floor the order is not read.

@@ -7,7 +7,7 @@ use Rattle.row_group.specs.Groups.{keys_of}
 use Rattle.row_group.specs.Packings.{source_row}
 use Rattle.row_group.proofs.FieldLemmas.{fields-made, codes-order, rows-arranged}
 use Rattle.row_group.proofs.ArrangeLemmas.{codes-picked, length-codes}
-use Rattle.row_group.proofs.OrderLemmas.{range-within}
+use Rattle.column_segment.proofs.Moved.{range-within}
 use Rattle.row_group.proofs.SegmentLemmas.{columns-permuted}
 use Rattle.row_group.proofs.StampLemmas.{picked-map}
 use Rattle.row_group.proofs.pack.packed_by.Goals as goal
