@@ -1,4 +1,5 @@
 pub mod Laid
+pub mod Moved
 pub mod Orders
 pub mod PartOrders
 pub mod PartWrites

@@ -7,7 +7,7 @@ use crate::chunk::search;
 use crate::merge::lay_all;
 use crate::order::{in_order, is_in_order};
 use crate::part::Part;
-use crate::parts::{copies_of, part_at, part_for, put_among, share_each};
+use crate::parts::{copies_of, part_at, part_for, parts_of, put_among, share_each};
 use crate::write::Write;
 use cs_base::Memory;
 use cs_types::Key;
@@ -35,14 +35,14 @@ impl Model for Writes {
 }
 
 impl Writes {
-    /// No writes. It takes no memory.
-    pub fn new(alloc: Global) -> Writes
-        ensures { result ≡ [] }
+    /// The writes of a list whose keys ascend strictly. They are moved.
+    pub fn from_ascending(writes: Vec<Write>) -> Result<Writes, Memory>
+        requires { Ascend writes.items }
+        ensures { IfOk result (λ list. list ≡ writes.items) }
     {
-        Writes {
-            parts: Vec::new(alloc),
-            len: 0,
-        }
+        let len = writes.len();
+        let parts = parts_of(writes)?;
+        Ok(Writes { parts, len })
     }
 
     /// The number of writes.
@@ -136,7 +136,7 @@ impl Writes {
         let own = self.copies(alloc)?;
         let mut all = Vec::with_capacity(alloc, own.len() + writes.len())?;
         lay_all(&mut all, own, writes);
-        laid(Writes::new(alloc), all)
+        Writes::from_ascending(all)
     }
 }
 
@@ -144,7 +144,7 @@ impl Writes {
 const FEW: usize = 32;
 
 /// Puts each write in its place, in turn.
-pub fn laid(list: Writes, writes: Vec<Write>) -> Result<Writes, Memory>
+fn laid(list: Writes, writes: Vec<Write>) -> Result<Writes, Memory>
     ensures { IfOk result (λ laid. laid ≡ staged list writes.items) }
 {
     let alloc = *writes.allocator();

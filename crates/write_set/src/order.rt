@@ -1,9 +1,10 @@
 // Writes brought into the order of their keys.
-ghost use Rattle.std.specs.Prelude.{◌≡◌, List, [], IfOk, OnOk};
+ghost use Rattle.std.specs.Prelude.{◌≡◌, List, [], IsTrue, IfOk, OnOk};
+ghost use Rattle.std.specs.Ordering.{is_lt};
 ghost use Rattle.std.specs.BTreeMap.{insert_entry};
 ghost use Rattle.write_set.specs.declared.write.Write.{Write};
 ghost use Rattle.cs_types.specs.Keys.{key_cmp};
-ghost use Rattle.write_set.specs.Writes.{keyed, staged};
+ghost use Rattle.write_set.specs.Writes.{Ascend, keyed, staged};
 
 use crate::write::Write;
 use cs_base::Memory;
@@ -12,8 +13,14 @@ use std::alloc::Global;
 use std::collections::BTreeMap;
 
 /// Whether the keys ascend strictly.
-pub fn is_in_order(writes: &[Write]) -> bool {
-    writes.iter().is_sorted_by(|a, b| a.key < b.key)
+pub fn is_in_order(writes: &[Write]) -> bool
+    ensures { IsTrue result → Ascend writes.now }
+{
+    writes.is_sorted_by(
+        |a: &Write, b: &Write| -> bool
+            ensures { result ≡ is_lt (key_cmp a.now.key b.now.key) }
+        { a.key < b.key },
+    )
 }
 
 fn add(by_key: &mut BTreeMap<Key, Write>, write: Write) -> Result<(), Memory>
@@ -50,7 +57,8 @@ fn sorted(writes: Vec<Write>) -> Result<Vec<Write>, Memory>
 /// Writes that do to any list what these do. Where their keys do not ascend already, they come in the order of the keys, the
 /// last for a key standing.
 pub fn in_order(writes: Vec<Write>) -> Result<Vec<Write>, Memory>
-    ensures { IfOk result (λ ordered. (own : List Write) → staged own ordered.items ≡ staged own writes.items) }
+    ensures alike { IfOk result (λ ordered. (own : List Write) → staged own ordered.items ≡ staged own writes.items) }
+    ensures order { IfOk result (λ ordered. Ascend ordered.items) }
 {
     if is_in_order(&writes) {
         Ok(writes)

@@ -1,7 +1,8 @@
 ghost use Rattle.std.specs.Prelude.{◌≡◌, ◌<◌, ◌↔◌, [], ◌∷◌, length, slice_get, IsTrue, IfOk, IfErr, OnOk, OnErr, Some};
 ghost use Rattle.write_set.specs.Writes.{Ascend, IsPlaceOf, put, staged};
 
-use crate::list::{Writes, laid};
+use crate::list::Writes;
+use crate::order::in_order;
 use crate::write::Write;
 use cs_base::Memory;
 use cs_types::Key;
@@ -41,7 +42,7 @@ impl Own {
         requires { Ascend writes.items }
         ensures { IfOk result (λ own. own ≡ writes.items) }
     {
-        let writes = laid(Writes::new(alloc), writes)?;
+        let writes = Writes::from_ascending(writes)?;
         Ok(Own {
             shared: Some(Arc::new(alloc, writes)?),
         })
@@ -132,7 +133,8 @@ fn first_staged(writes: Vec<Write>) -> Result<Arc<Writes>, Memory>
     ensures { IfOk result (λ own. own.value ≡ staged [] writes.items) }
 {
     let alloc = *writes.allocator();
-    let own = Writes::new(alloc).with(writes)?;
+    let ordered = in_order(writes)?;
+    let own = Writes::from_ascending(ordered)?;
     Ok(Arc::new(alloc, own)?)
 }
 

@@ -183,3 +183,22 @@ pub fn copies_of(alloc: Global, parts: &[Part], room: usize) -> Result<Vec<Write
     }
     Ok(copied)
 }
+
+/// The parts of writes whose keys ascend, whole ones behind the first. The writes are moved, the last ones first.
+pub fn parts_of(writes: Vec<Write>) -> Result<Vec<Part>, Memory>
+    requires { Ascend writes.items }
+    ensures stand { IfOk result (λ parts. StandFrom 0 parts.items) }
+    ensures writes { IfOk result (λ parts. joined parts.items ≡ writes.items) }
+{
+    let alloc = *writes.allocator();
+    let mut left = writes;
+    let mut parts = Vec::with_capacity(alloc, left.len() / CHUNK + 1)?;
+    while !left.is_empty() {
+        let from = left.len().saturating_sub(CHUNK);
+        let items = left.split_off(from)?;
+        let part = Part::new(alloc, from, items)?;
+        parts.push(part)?;
+    }
+    parts.reverse();
+    Ok(parts)
+}
