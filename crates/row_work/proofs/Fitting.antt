@@ -50,10 +50,6 @@ held_key schema row is held =
 abbrev pub IsRow : Schema → List Value → Type 0
 IsRow schema row = IsRowAt schema (key_in schema.key row) row
 
--- each of the rows has a key
-pub are_numbers : (schema : Schema) (rows : List (List Value)) → IsSchema schema → All (IsRow schema) rows → All (λ row. IsNumber (cell_at row schema.key)) rows
-are_numbers schema rows is all = λ k d lt. (held_key schema _ is (all k d lt).held).0
-
 -- ---- rows
 
 -- the rows of a table

@@ -76,17 +76,6 @@ module _ (width : ℕ) (pinned : Pinned) where
       let found = stands_at list rows k d is inside in
       some_there (row_of width pinned (get_or list k d).source) found.0.1 (ap (λ (edit : Edit). edit.1) found.3)
 
--- ---- rows at their keys
-
--- a row more at its key
-pub keyed_more : (schema : Schema) (keyed new : Table) (key : Key) (row : List Value) (rest left : List (List Value)) → left ≡ row ∷ rest → key ≡ key_in schema.key row → new ≡ keyed ++ (key, row) ∷ []
-    → rows_as_edits new ++ spec.edits_of schema rest ≡ rows_as_edits keyed ++ spec.edits_of schema left
-keyed_more schema keyed new key row rest left is own pushed =
-    let as_edit : Key × List Value → Edit = λ entry. (entry.0, Some entry.1) in
-    ap (λ list. rows_as_edits list ++ spec.edits_of schema rest) pushed ∙ ap (λ list. list ++ spec.edits_of schema rest) (map-append as_edit keyed ((key, row) ∷ []))
-    ∙ append_assoc (rows_as_edits keyed) ((key, Some row) ∷ []) (spec.edits_of schema rest)
-    ∙ ap (λ k. rows_as_edits keyed ++ (k, Some row) ∷ spec.edits_of schema rest) own ∙ ap (λ rows. rows_as_edits keyed ++ spec.edits_of schema rows) (sym is)
-
 -- ---- keys that a DELETE takes away
 
 abbrev pub without_rows : Table → List Edit

@@ -19,6 +19,7 @@ pub mod Places
 pub mod Positions
 pub mod Puts
 pub mod Ranges
+pub mod RowWrites
 pub mod Scanned
 pub mod ShownRange
 pub mod Sieved

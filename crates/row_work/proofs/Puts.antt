@@ -1,13 +1,12 @@
 -- Rows that are put one by one at keys that do not fall.
-use Rattle.std.proofs.Common.{◌≡◌, ◌≢◌, ℕ, zero, suc, ◌+◌, ◌-◌, ◌<◌, ◌≤◌, Bool, true, false, ltb, cond, List, [], ◌∷◌, ◌++◌, length, get_or, set, refl, sym, ap, ◌∙◌, subst, arith, true≢false}
-use Rattle.std.specs.Prelude.{Option, None, Some, slice_get}
+use Rattle.std.proofs.Common.{◌≡◌, ◌≢◌, ℕ, zero, suc, ◌+◌, ◌-◌, ◌<◌, ◌≤◌, Bool, true, false, ltb, cond, List, [], ◌∷◌, ◌++◌, length, filter, get_or, refl, sym, ap, ◌∙◌, subst, arith, true≢false}
+use Rattle.std.specs.Prelude.{Option, slice_get}
 use Rattle.std.specs.declared.cmp.Ordering.{Ordering}
 use Rattle.std.specs.declared.cmp.Ordering.TheVariants.{Less, Equal, Greater}
 use Rattle.std.specs.Ordering.{is_eq, is_lt, ordering_reverse}
 use Rattle.std.specs.List.{All, AllByRecursion, Contains}
 use Rattle.std.specs.List.Sorted.{IsPermutation, IsSortedByKey, IsStrictlySortedBy}
 use Rattle.std.proofs.lemmas.Bool.{lt-ltb}
-use Rattle.std.proofs.lemmas.Option.{get_or_from_slice_get, same_Some}
 use Rattle.std.proofs.lemmas.List.{get_or_append_left, get_or_at, length-append, map-append}
 use Rattle.std.proofs.lemmas.List.Elements.{All-append, All-cons, All-from_recursion, All-nil, Contains-append_left, Contains-append_right, recursion_from_All}
 use Rattle.std.proofs.lemmas.List.Sorted.{All-permutation, Contains-permutation, IsPermutation-map, ranks_by, sorted_far}
@@ -15,16 +14,17 @@ use Rattle.cs_types.specs.declared.Key.{Key}
 use Rattle.cs_types.specs.declared.Value.{Value}
 use Rattle.cs_types.specs.Keys.{key_cmp, same_key}
 use Rattle.cs_types.proofs.KeyLemmas.{key_total, one_key}
-use Rattle.cs_model.specs.Changes.{Edit}
+use Rattle.cs_model.specs.Changes.{Edit, Table}
 use Rattle.cs_model.specs.Obstacles.{keys_of, stands_twice}
+use Rattle.edit_laws.specs.Edits.{edits_of}
+use Rattle.write_set.specs.declared.write.Write.{Write}
 use Rattle.write_set.proofs.Puts.{less}
 use Rattle.group_book.specs.Book.{how_many}
 use Rattle.group_book.proofs.Keys.{key_itself}
 use Rattle.group_book.proofs.Lists.{all-append, how_many-append, how_many-none, counted}
 use Rattle.group_book.proofs.Move.{count_by-how_many, how_many-permutation}
-use Rattle.row_work.specs.declared.insert.Put.{Put}
-use Rattle.row_work.specs.Inserts.{is_of, put_keys, puts_as_edits, ArePuts}
-use Rattle.row_work.specs.Sources.{rows_as_edits}
+use Rattle.row_work.specs.Inserts.{Put, is_double, is_key, is_of, noted, put_keys, puts_as_edits, ArePuts}
+use Rattle.row_work.specs.Keyed.{write_keys}
 
 -- ---- keys in order
 
@@ -37,7 +37,7 @@ push_up [] key up all = (tt, tt)
 push_up (k ∷ keys) key up all = (all-append (λ x. key_cmp k x ≡ Less) keys (key ∷ []) up.0 (all.0, tt), push_up keys key up.1 all.1)
 
 -- the last key is this one
-abbrev ends_with : Key → List Key → Bool
+abbrev pub ends_with : Key → List Key → Bool
 ends_with key [] = false
 ends_with key (k ∷ []) = same_key k key
 ends_with key (k ∷ other ∷ keys) = ends_with key (other ∷ keys)
@@ -114,31 +114,31 @@ marked_keys [] = refl
 marked_keys (p ∷ []) = refl
 marked_keys (p ∷ other ∷ puts) = ap (λ (keys : List Key). p.key ∷ keys) (marked_keys (other ∷ puts))
 
-marked_edits : (puts : List Put) → puts_as_edits (mark_last puts) ≡ puts_as_edits puts
+pub marked_edits : (puts : List Put) → puts_as_edits (mark_last puts) ≡ puts_as_edits puts
 marked_edits [] = refl
 marked_edits (p ∷ []) = refl
-marked_edits (p ∷ other ∷ puts) = ap (λ (edits : List Edit). (p.key, Some p.row) ∷ edits) (marked_edits (other ∷ puts))
+marked_edits (p ∷ other ∷ puts) = ap (λ (edits : List Edit). (p.key, p.row) ∷ edits) (marked_edits (other ∷ puts))
 
 -- ---- a row of a greater key
 
-module _ (edits : List Edit) (puts : List Put) (key : Key) (row : List Value) (are : ArePuts edits puts) (above : All (λ (edit : Edit). key_cmp key edit.0 ≢ Less) edits) where
+module _ (edits : List Edit) (puts : List Put) (key : Key) (row : Option (List Value)) (are : ArePuts edits puts) (above : All (λ (edit : Edit). key_cmp key edit.0 ≢ Less) edits) where
   abbrev more : List Edit
-  more = edits ++ (key, Some row) ∷ []
+  more = edits ++ (key, row) ∷ []
 
   keys_low : (list : List Put) → AllByRecursion (Contains edits) (puts_as_edits list) → AllByRecursion (λ k. key_cmp key k ≡ Less → ⊥) (put_keys list)
   keys_low [] all = tt
-  keys_low (put ∷ list) all = (λ low. above all.0.0 (put.key, Some put.row) all.0.1 (ap (λ (edit : Edit). key_cmp key edit.0) all.0.2 ∙ low), keys_low list all.1)
+  keys_low (put ∷ list) all = (λ low. above all.0.0 (put.key, put.row) all.0.1 (ap (λ (edit : Edit). key_cmp key edit.0) all.0.2 ∙ low), keys_low list all.1)
 
   low : AllByRecursion (λ k. key_cmp key k ≡ Less → ⊥) (put_keys puts)
   low = keys_low puts (recursion_from_All (Contains edits) (puts_as_edits puts) are.each)
 
   edit_of : (list : List Put) → AllByRecursion (Contains edits) (puts_as_edits list) → Contains (put_keys list) key → (r : Option (List Value)) × Contains edits (key, r)
   edit_of [] all inside = absurd (omega (arith, inside.1))
-  edit_of (p ∷ list) all (zero, there, at) = (Some p.row, subst (λ (k : Key). Contains edits (k, Some p.row)) at all.0)
+  edit_of (p ∷ list) all (zero, there, at) = (p.row, subst (λ (k : Key). Contains edits (k, p.row)) at all.0)
   edit_of (p ∷ list) all (suc i, there, at) = edit_of list all.1 (i, omega (arith, there), at)
 
   wider : All (Contains more) (puts_as_edits puts)
-  wider = λ i d there. Contains-append_left edits ((key, Some row) ∷ []) _ (are.each i d there)
+  wider = λ i d there. Contains-append_left edits ((key, row) ∷ []) _ (are.each i d there)
 
   module _ (apart : ends_with key (put_keys puts) ≡ false) where
     abbrev put : Put
@@ -161,27 +161,27 @@ module _ (edits : List Edit) (puts : List Put) (key : Key) (row : List Value) (a
     new_twice =
         let one : Bool → ℕ = λ t. cond t 1 0 in
         let none = how_many-none (λ other. same_key key other) (keys_of edits) (none_here edits (recursion_from_All (λ (edit : Edit). Contains (put_keys puts) edit.0) edits are.every)) in
-        let once : often key (keys_of more) ≡ 1 = omega (arith, often_more key key edits (Some row), ap one (key_itself key), none) in
+        let once : often key (keys_of more) ≡ 1 = omega (arith, often_more key key edits row, ap one (key_itself key), none) in
         sym (twice_is (keys_of more) key ∙ ap (ltb 1) once)
 
     still_twice : (list : List Put) → AllByRecursion (λ k. key_cmp k key ≡ Less) (put_keys list) → AllByRecursion (λ (p : Put). p.twice ≡ stands_twice (keys_of edits) p.key) list
         → AllByRecursion (λ (p : Put). p.twice ≡ stands_twice (keys_of more) p.key) list
     still_twice [] lower all = tt
-    still_twice (p ∷ list) lower all = (all.0 ∙ twice_stays p.key key edits (Some row) (apart_by p.key key lower.0), still_twice list lower.1 all.1)
+    still_twice (p ∷ list) lower all = (all.0 ∙ twice_stays p.key key edits row (apart_by p.key key lower.0), still_twice list lower.1 all.1)
 
     -- it is put after the others
     pub put_behind : ArePuts more (puts ++ put ∷ [])
     put_behind = record {
       order = subst Up (sym keys_pushed) (push_up (put_keys puts) key are.order all_below);
       each =
-          subst (All (Contains more)) (sym (map-append (λ (p : Put). (p.key, Some p.row)) puts (put ∷ [])))
-          (All-append (Contains more) (puts_as_edits puts) ((key, Some row) ∷ []) wider
-          (All-cons (Contains more) (key, Some row) [] (Contains-append_right edits ((key, Some row) ∷ []) (key, Some row) (zero, omega arith, refl)) (All-nil (Contains more))));
+          subst (All (Contains more)) (sym (map-append (λ (p : Put). (p.key, p.row)) puts (put ∷ [])))
+          (All-append (Contains more) (puts_as_edits puts) ((key, row) ∷ []) wider
+          (All-cons (Contains more) (key, row) [] (Contains-append_right edits ((key, row) ∷ []) (key, row) (zero, omega arith, refl)) (All-nil (Contains more))));
       every =
           subst (λ (keys : List Key). All (λ (edit : Edit). Contains keys edit.0) more) (sym keys_pushed)
-          (All-append (λ (edit : Edit). Contains (put_keys puts ++ key ∷ []) edit.0) edits ((key, Some row) ∷ [])
+          (All-append (λ (edit : Edit). Contains (put_keys puts ++ key ∷ []) edit.0) edits ((key, row) ∷ [])
           (λ i d there. Contains-append_left (put_keys puts) (key ∷ []) _ (are.every i d there))
-          (All-cons (λ (edit : Edit). Contains (put_keys puts ++ key ∷ []) edit.0) (key, Some row) [] (Contains-append_right (put_keys puts) (key ∷ []) key (zero, omega arith, refl)) (All-nil (λ (edit : Edit). Contains (put_keys puts ++ key ∷ []) edit.0))));
+          (All-cons (λ (edit : Edit). Contains (put_keys puts ++ key ∷ []) edit.0) (key, row) [] (Contains-append_right (put_keys puts) (key ∷ []) key (zero, omega arith, refl)) (All-nil (λ (edit : Edit). Contains (put_keys puts ++ key ∷ []) edit.0))));
       twice =
           All-append (λ (p : Put). p.twice ≡ stands_twice (keys_of more) p.key) puts (put ∷ [])
           (All-from_recursion (λ (p : Put). p.twice ≡ stands_twice (keys_of more) p.key) puts
@@ -200,7 +200,7 @@ module _ (edits : List Edit) (puts : List Put) (key : Key) (row : List Value) (a
     mark_twice : true ≡ stands_twice (keys_of more) key
     mark_twice =
         let one : Bool → ℕ = λ t. cond t 1 0 in
-        let many : 1 < often key (keys_of more) = omega (arith, often_more key key edits (Some row), ap one (key_itself key), here) in
+        let many : 1 < often key (keys_of more) = omega (arith, often_more key key edits row, ap one (key_itself key), here) in
         sym (twice_is (keys_of more) key ∙ lt-ltb 1 (often key (keys_of more)) many)
 
     marked_twice : (list : List Put) → Up (put_keys list) → ends_with key (put_keys list) ≡ true → AllByRecursion (λ (p : Put). p.twice ≡ stands_twice (keys_of edits) p.key) list
@@ -209,7 +209,7 @@ module _ (edits : List Edit) (puts : List Put) (key : Key) (row : List Value) (a
     marked_twice [] up ends all = tt
     marked_twice (p ∷ []) up ends all = (mark_twice ∙ ap (stands_twice (keys_of more)) (sym (one_key p.key key ends)), tt)
     marked_twice (p ∷ other ∷ list) up ends all =
-        (all.0 ∙ twice_stays p.key key edits (Some row) (apart_by p.key key (before_last p.key other.key (put_keys list) key up ends)), marked_twice (other ∷ list) up.1 ends all.1)
+        (all.0 ∙ twice_stays p.key key edits row (apart_by p.key key (before_last p.key other.key (put_keys list) key up ends)), marked_twice (other ∷ list) up.1 ends all.1)
 
     -- the last one says so, and stays
     pub put_again : ArePuts more (mark_last puts)
@@ -218,8 +218,8 @@ module _ (edits : List Edit) (puts : List Put) (key : Key) (row : List Value) (a
       each = subst (All (Contains more)) (sym (marked_edits puts)) wider;
       every =
           subst (λ (keys : List Key). All (λ (edit : Edit). Contains keys edit.0) more) (sym (marked_keys puts))
-          (All-append (λ (edit : Edit). Contains (put_keys puts) edit.0) edits ((key, Some row) ∷ []) are.every
-          (All-cons (λ (edit : Edit). Contains (put_keys puts) edit.0) (key, Some row) [] (last_within (put_keys puts) key last) (All-nil (λ (edit : Edit). Contains (put_keys puts) edit.0))));
+          (All-append (λ (edit : Edit). Contains (put_keys puts) edit.0) edits ((key, row) ∷ []) are.every
+          (All-cons (λ (edit : Edit). Contains (put_keys puts) edit.0) (key, row) [] (last_within (put_keys puts) key last) (All-nil (λ (edit : Edit). Contains (put_keys puts) edit.0))));
       twice =
           All-from_recursion (λ (p : Put). p.twice ≡ stands_twice (keys_of more) p.key) (mark_last puts)
           (marked_twice puts are.order last (recursion_from_All (λ (p : Put). p.twice ≡ stands_twice (keys_of edits) p.key) puts are.twice));
@@ -241,36 +241,62 @@ permuted edits others puts moved are = record {
         ∙ ap (ltb 1) (sym (how_many-permutation (λ other. same_key key other) (keys_of edits) (keys_of others) (IsPermutation-map (λ (edit : Edit). edit.0) edits others moved)))
         ∙ sym (twice_is (keys_of others) key)
 
--- ---- the last row
+-- ---- the last write, and the last key
 
 -- whether it is of the key, by its place
-pub ends_at : (key : Key) (puts : List Put) → is_of key (slice_get puts (length puts - 1)) ≡ ends_with key (put_keys puts)
+pub ends_at : (key : Key) (writes : List Write) → is_of key (slice_get writes (length writes - 1)) ≡ ends_with key (write_keys writes)
 ends_at key [] = refl
-ends_at key (p ∷ []) = refl
-ends_at key (p ∷ other ∷ puts) =
-    let at : length (p ∷ other ∷ puts) - 1 ≡ suc (length (other ∷ puts) - 1) = omega arith in
-    ap (λ i. is_of key (slice_get (p ∷ other ∷ puts) i)) at ∙ ends_at key (other ∷ puts)
+ends_at key (w ∷ []) = refl
+ends_at key (w ∷ other ∷ writes) =
+    let at : length (w ∷ other ∷ writes) - 1 ≡ suc (length (other ∷ writes) - 1) = omega arith in
+    ap (λ i. is_of key (slice_get (w ∷ other ∷ writes) i)) at ∙ ends_at key (other ∷ writes)
 
--- the last row, marked in its place
-pub marked_at : (puts : List Put) (last : Put) → slice_get puts (length puts - 1) ≡ Some last → set puts (length puts - 1) (record { key = last.key; row = last.row; twice = true }) ≡ mark_last puts
-marked_at [] last at = cc
-marked_at (p ∷ []) last at = ap (λ (q : Put). record { key = q.key; row = q.row; twice = true } ∷ []) (sym (same_Some p last at))
-marked_at (p ∷ other ∷ puts) last at =
-    let is : length (p ∷ other ∷ puts) - 1 ≡ suc (length (other ∷ puts) - 1) = omega arith in
-    let mark : Put = record { key = last.key; row = last.row; twice = true } in
-    ap (λ i. set (p ∷ other ∷ puts) i mark) is
-    ∙ ap (λ (l : List Put). p ∷ l) (marked_at (other ∷ puts) last (sym (ap (slice_get (p ∷ other ∷ puts)) is) ∙ at))
+ends_in : (key : Key) (keys : List Key) → is_key key (slice_get keys (length keys - 1)) ≡ ends_with key keys
+ends_in key [] = refl
+ends_in key (k ∷ []) = refl
+ends_in key (k ∷ other ∷ keys) =
+    let at : length (k ∷ other ∷ keys) - 1 ≡ suc (length (other ∷ keys) - 1) = omega arith in
+    ap (λ i. is_key key (slice_get (k ∷ other ∷ keys) i)) at ∙ ends_in key (other ∷ keys)
 
--- the same, by what is read there
-pub marked_by : (key : Key) (puts : List Put) (i : ℕ) (now : Put) → i ≡ length puts - 1 → is_of key (slice_get puts (length puts - 1)) ≡ true → now ≡ get_or puts i now → set puts i (record { key = now.key; row = now.row; twice = true }) ≡ mark_last puts
-marked_by key puts i now at last read = step (slice_get puts (length puts - 1)) refl
+-- ---- the last row, of which the key stands twice, noted
+
+noted_by : (key : Key) (keys : List Key) → cond (ends_with key keys) keys (keys ++ key ∷ []) ≡ noted key keys
+noted_by key keys = ap (λ t. cond t keys (keys ++ key ∷ [])) (sym (ends_in key keys))
+
+abbrev closed : Key → List Key → List Key
+closed key keys = cond (ends_with key keys) keys (keys ++ key ∷ [])
+
+noted_behind : (k key : Key) (keys : List Key) → same_key k key ≡ false → k ∷ closed key keys ≡ closed key (k ∷ keys)
+noted_behind k key [] apart = ap (λ t. cond t (k ∷ []) (k ∷ key ∷ [])) (sym apart)
+noted_behind k key (other ∷ keys) apart = go (ends_with key (other ∷ keys))
   where
-    step : (o : Option Put) → slice_get puts (length puts - 1) ≡ o → set puts i (record { key = now.key; row = now.row; twice = true }) ≡ mark_last puts
-    step None is = absurd (true≢false (sym last ∙ ap (is_of key) is))
-    step (Some put) is =
-        let same : now ≡ put = read ∙ ap (λ k. get_or puts k now) at ∙ get_or_from_slice_get puts (length puts - 1) put now is in
-        ap (λ k. set puts k (record { key = now.key; row = now.row; twice = true })) at
-        ∙ ap (λ (p : Put). set puts (length puts - 1) (record { key = p.key; row = p.row; twice = true })) same ∙ marked_at puts put is
+    go : (t : Bool) → k ∷ cond t (other ∷ keys) (other ∷ (keys ++ key ∷ [])) ≡ cond t (k ∷ other ∷ keys) (k ∷ other ∷ (keys ++ key ∷ []))
+    go true = refl
+    go false = refl
+
+closed_last : (table : Table) (key : Key) (puts : List Put) → Up (put_keys puts) → ends_with key (put_keys puts) ≡ true
+    → put_keys (filter (is_double table) (mark_last puts)) ≡ closed key (put_keys (filter (is_double table) puts))
+unfolding IsStrictlySortedBy
+closed_last table key [] up last = absurd (true≢false (sym last))
+closed_last table key (p ∷ []) up last = go (is_double table p)
+  where
+    go : (t : Bool) → p.key ∷ [] ≡ closed key (put_keys (cond t (p ∷ []) []))
+    go true = ap (λ t. cond t (p.key ∷ []) (p.key ∷ key ∷ [])) (sym last)
+    go false = ap (λ (k : Key). k ∷ []) (one_key p.key key last)
+closed_last table key (p ∷ other ∷ puts) up last = go (is_double table p) (closed_last table key (other ∷ puts) up.1 last)
+  where
+    apart : same_key p.key key ≡ false
+    apart = apart_by p.key key (before_last p.key other.key (put_keys puts) key up last)
+
+    go : (t : Bool) → put_keys (filter (is_double table) (mark_last (other ∷ puts))) ≡ closed key (put_keys (filter (is_double table) (other ∷ puts)))
+        → put_keys (cond t (p ∷ filter (is_double table) (mark_last (other ∷ puts))) (filter (is_double table) (mark_last (other ∷ puts))))
+        ≡ closed key (put_keys (cond t (p ∷ filter (is_double table) (other ∷ puts)) (filter (is_double table) (other ∷ puts))))
+    go true rest = ap (λ (keys : List Key). p.key ∷ keys) rest ∙ noted_behind p.key key (put_keys (filter (is_double table) (other ∷ puts))) apart
+    go false rest = rest
+
+pub noted_last : (table : Table) (key : Key) (puts : List Put) → Up (put_keys puts) → ends_with key (put_keys puts) ≡ true
+    → put_keys (filter (is_double table) (mark_last puts)) ≡ noted key (put_keys (filter (is_double table) puts))
+noted_last table key puts up last = closed_last table key puts up last ∙ noted_by key (put_keys (filter (is_double table) puts))
 
 pub no_puts : ArePuts [] []
 unfolding IsStrictlySortedBy
@@ -285,19 +311,18 @@ no_puts = record {
 not_less : (o : Ordering) → is_lt o ≡ false → o ≢ Less
 not_less o none is = true≢false (sym (ap is_lt is) ∙ none)
 
-none_of_them : (key : Key) (row : List Value) (list : List (Key × List Value)) → ((k : ℕ) → k < length list → is_lt (key_cmp key (get_or list k (key, row)).0) ≡ false) → All (λ (edit : Edit). key_cmp key edit.0 ≢ Less) (rows_as_edits list)
-none_of_them key row [] none = All-nil (λ (edit : Edit). key_cmp key edit.0 ≢ Less)
-none_of_them key row (one ∷ list) none =
-    All-cons (λ (edit : Edit). key_cmp key edit.0 ≢ Less) (one.0, Some one.1) (rows_as_edits list) (not_less (key_cmp key one.0) (none 0 (omega arith)))
-    (none_of_them key row list (λ k below. none (suc k) (omega (arith, below))))
+none_of_them : (write : Write) (list : List Write) → ((k : ℕ) → k < length list → is_lt (key_cmp write.key (get_or list k write).key) ≡ false) → All (λ (edit : Edit). key_cmp write.key edit.0 ≢ Less) (edits_of list)
+none_of_them write [] none = All-nil (λ (edit : Edit). key_cmp write.key edit.0 ≢ Less)
+none_of_them write (one ∷ list) none =
+    All-cons (λ (edit : Edit). key_cmp write.key edit.0 ≢ Less) (one.key, one.row) (edits_of list) (not_less (key_cmp write.key one.key) (none 0 (omega arith)))
+    (none_of_them write list (λ k below. none (suc k) (omega (arith, below))))
 
-pub none_above : (done : List (Key × List Value)) (key : Key) (row : List Value) (rest all : List (Key × List Value)) → done ++ (key, row) ∷ rest ≡ all → IsSortedByKey (λ (one : Key × List Value). one.0) key_cmp all
-    → All (λ (edit : Edit). key_cmp key edit.0 ≢ Less) (rows_as_edits done)
-none_above done key row rest all is up =
-    let x : Key × List Value = (key, row) in
-    let whole : List (Key × List Value) = done ++ x ∷ rest in
-    let sorted : IsSortedByKey (λ (one : Key × List Value). one.0) key_cmp whole = subst (IsSortedByKey (λ (one : Key × List Value). one.0) key_cmp) (sym is) up in
-    none_of_them key row done (λ k below.
-    let far = sorted_far (λ (a b : Key × List Value). is_lt (key_cmp a.0 b.0)) (ranks_by key_total (λ (one : Key × List Value). one.0)) whole sorted k (length done) x (omega (arith, below)) (omega (arith, length-append done (x ∷ rest))) in
-    ap (λ (a : Key × List Value). is_lt (key_cmp a.0 (get_or done k x).0)) (sym (get_or_at done x rest x (length done) refl))
-    ∙ ap (λ (b : Key × List Value). is_lt (key_cmp (get_or whole (length done) x).0 b.0)) (sym (get_or_append_left done (x ∷ rest) x k below)) ∙ far)
+pub none_above : (done : List Write) (write : Write) (rest all : List Write) → done ++ write ∷ rest ≡ all → IsSortedByKey (λ (one : Write). one.key) key_cmp all
+    → All (λ (edit : Edit). key_cmp write.key edit.0 ≢ Less) (edits_of done)
+none_above done write rest all is up =
+    let whole : List Write = done ++ write ∷ rest in
+    let sorted : IsSortedByKey (λ (one : Write). one.key) key_cmp whole = subst (IsSortedByKey (λ (one : Write). one.key) key_cmp) (sym is) up in
+    none_of_them write done (λ k below.
+    let far = sorted_far (λ (a b : Write). is_lt (key_cmp a.key b.key)) (ranks_by key_total (λ (one : Write). one.key)) whole sorted k (length done) write (omega (arith, below)) (omega (arith, length-append done (write ∷ rest))) in
+    ap (λ (a : Write). is_lt (key_cmp a.key (get_or done k write).key)) (sym (get_or_at done write rest write (length done) refl))
+    ∙ ap (λ (b : Write). is_lt (key_cmp (get_or whole (length done) write).key b.key)) (sym (get_or_append_left done (write ∷ rest) write k below)) ∙ far)

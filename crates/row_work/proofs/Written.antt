@@ -1,6 +1,6 @@
 -- Cells and rows that are written one by one.
 use Rattle.std.proofs.Common.{◌≡◌, ◌≢◌, ℕ, ℤ, pos, ◌+ℤ◌, ◌==◌, zero, suc, ◌+◌, ◌<◌, ◌≤◌, List, [], ◌∷◌, ◌++◌, length, drop, get_or, refl, sym, ap, subst, ◌∙◌, append_assoc, arith, cond, Bool, true, false, IsTrue, All}
-use Rattle.std.specs.Prelude.{Result, Ok, Err, Some, None, Option, slice_get, IfOk}
+use Rattle.std.specs.Prelude.{Result, Ok, Err, Some, None, Option, slice_get}
 use Rattle.std.specs.List.{AllByRecursion, find}
 use Rattle.std.proofs.lemmas.Bool.Decides.{nat_tests}
 use Rattle.std.proofs.lemmas.List.Elements.{All-nil, All-cons, All-head, All-tail}
@@ -26,7 +26,7 @@ use Rattle.cs_model.specs.Answers.{numbered, kept, computed_of, given, cell_onto
 use Rattle.row_work.specs.declared.refusal.WriteRefusal.{WriteRefusal}
 use Rattle.row_work.specs.declared.refusal.WriteRefusal.TheVariants as refusal
 use Rattle.cs_model.specs.Held.{IsHeld, IsRowAt}
-use Rattle.row_work.specs.Gives.{RefusesCell, RefusesRow, RefusesRows, GivesRows}
+use Rattle.row_work.specs.Gives.{RefusesCell, RefusesRow, RefusesRows}
 
 -- what stands after a prefix, or its refusal
 abbrev pub behind : {X E : Type 0} → List X → Result (List X) E → Result (List X) E
@@ -236,17 +236,9 @@ pub each : {X : Type 0} (xs : List X) → AllByRecursion (λ _. Unit {0}) xs
 each [] = tt
 each (x ∷ xs) = (tt, each xs)
 
-pub rows_all : {X : Type 0} (P : List Value → Type 0) (row_of : X → Result (List Value) (ℕ × ℕ)) (n : ℕ) (plan : List X) (rows : List (List Value)) → ((x : X) (cells : List Value) → row_of x ≡ Ok cells → P cells)
-    → rows_from row_of n plan ≡ Ok rows → All P rows
-rows_all P row_of n plan rows one is = rows_each P (λ _. Unit {0}) row_of n plan rows (λ x cells here. one x cells) (each plan) is
-
-pub gives_all : (P : List Value → Type 0) (wanted : Result (List (List Value)) Refusal) (r : Result (List (List Value)) WriteRefusal) → ((rows : List (List Value)) → wanted ≡ Ok rows → All P rows) → GivesRows wanted r → IfOk r (All P)
-gives_all P wanted (Ok rows) all is = all rows is
-gives_all P wanted (Err e) all is = tt
-
 -- ---- rows over the numbers of a series
 
-module _ (row_of : ℤ → Result (List Value) (ℕ × ℕ)) (start stop : ℤ) (count : ℕ) (is : count ≡ series_len start stop) where
+module _ {Y : Type 0} (row_of : ℤ → Result Y (ℕ × ℕ)) (start stop : ℤ) (count : ℕ) (is : count ≡ series_len start stop) where
   abbrev at : ℕ → ℤ
   at i = start +ℤ pos i
 
@@ -257,19 +249,19 @@ module _ (row_of : ℤ → Result (List Value) (ℕ × ℕ)) (start stop : ℤ) 
   number_is i x within e = let there : i < series_len start stop = omega (arith, within, is) in let same : 0 + i ≡ i = omega arith in
       e ∙ sym (get_or-map-range_with_len at 0 (series_len start stop) i i x there same)
 
-  pub series_more : (rows new : List (List Value)) (i : ℕ) (x : ℤ) (row : List Value) → i < count → x ≡ start +ℤ pos i → row_of x ≡ Ok row → new ≡ rows ++ row ∷ []
+  pub series_more : (rows new : List Y) (i : ℕ) (x : ℤ) (row : Y) → i < count → x ≡ start +ℤ pos i → row_of x ≡ Ok row → new ≡ rows ++ row ∷ []
       → rows_with row_of (series (start, stop)) rows i ≡ all_rows row_of (series (start, stop)) → rows_with row_of (series (start, stop)) new (i + 1) ≡ all_rows row_of (series (start, stop))
   series_more rows new i x row within e gives pushed before =
       let there : i < length (series (start, stop)) = omega (arith, within, numbers) in
       rows_more row_of (series (start, stop)) rows new i x row there (number_is i x within e) gives pushed before
 
-  pub series_refused : (rows : List (List Value)) (i : ℕ) (x : ℤ) (e : WriteRefusal) → i < count → x ≡ start +ℤ pos i → RefusesRow (i + 1) (row_of x) e
+  pub series_refused : (rows : List Y) (i : ℕ) (x : ℤ) (e : WriteRefusal) → i < count → x ≡ start +ℤ pos i → RefusesRow (i + 1) (row_of x) e
       → rows_with row_of (series (start, stop)) rows i ≡ all_rows row_of (series (start, stop)) → RefusesRows (all_rows row_of (series (start, stop))) e
   series_refused rows i x e within is_x h before =
       let there : i < length (series (start, stop)) = omega (arith, within, numbers) in
       rows_refused row_of (series (start, stop)) rows i x e there (number_is i x within is_x) h before
 
-  pub series_done : (rows : List (List Value)) (i : ℕ) → count ≤ i → rows_with row_of (series (start, stop)) rows i ≡ all_rows row_of (series (start, stop)) → all_rows row_of (series (start, stop)) ≡ Ok rows
+  pub series_done : (rows : List Y) (i : ℕ) → count ≤ i → rows_with row_of (series (start, stop)) rows i ≡ all_rows row_of (series (start, stop)) → all_rows row_of (series (start, stop)) ≡ Ok rows
   series_done rows i end before =
       let there : length (series (start, stop)) ≤ i = omega (arith, end, numbers) in
       rows_done row_of (series (start, stop)) rows i there before

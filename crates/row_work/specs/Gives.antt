@@ -24,9 +24,9 @@ abbrev pub RefusesRow : {Y : Type 0} → ℕ → Result Y (ℕ × ℕ) → Write
 RefusesRow row wanted (refusal.Value number r column) = (wanted ≡ Err (number, column)) × (r ≡ row)
 RefusesRow row wanted refusal.Memory = Unit {0}
 
--- the cells of a row
-abbrev pub GivesRow : ℕ → Result (List Value) (ℕ × ℕ) → Result (List Value) WriteRefusal → Type 0
-GivesRow row wanted (Ok cells) = wanted ≡ Ok cells
+-- a row, by its cells or as the write that it is
+abbrev pub GivesRow : {Y : Type 0} → ℕ → Result Y (ℕ × ℕ) → Result Y WriteRefusal → Type 0
+GivesRow row wanted (Ok one) = wanted ≡ Ok one
 GivesRow row wanted (Err e) = RefusesRow row wanted e
 
 abbrev pub RefusesRows : {Y : Type 0} → Result (List Y) Refusal → WriteRefusal → Type 0
@@ -39,6 +39,10 @@ GivesRows wanted (Ok rows) = wanted ≡ Ok rows
 GivesRows wanted (Err e) = RefusesRows wanted e
 
 -- writes, as the edits that they are
+abbrev pub GivesEdits : Result (List Edit) Refusal → Result (List Write) WriteRefusal → Type 0
+GivesEdits wanted (Ok writes) = wanted ≡ Ok (edits_of writes)
+GivesEdits wanted (Err e) = RefusesRows wanted e
+
 abbrev pub GivesWrites : Result (List Edit) Refusal → Result (Vec Write Global) WriteRefusal → Type 0
 GivesWrites wanted (Ok writes) = wanted ≡ Ok (edits_of writes.items)
 GivesWrites wanted (Err e) = RefusesRows wanted e

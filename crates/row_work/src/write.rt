@@ -1,23 +1,23 @@
 //! The rows that an INSERT writes.
 
-ghost use Rattle.std.specs.Prelude.{◌≡◌, ◌<◌, ◌==◌, pos, ◌+◌, ◌+ℤ◌, length, [], ◌∷◌, slice_get, unwrap_or, All, IfOk};
+ghost use Rattle.std.specs.Prelude.{◌≡◌, ◌<◌, ◌==◌, pos, ◌+◌, ◌+ℤ◌, length, [], ◌∷◌, slice_get, unwrap_or};
 ghost use Rattle.std.specs.List.{position_from};
 ghost use Rattle.std.specs.Option.{option_copied};
 ghost use Rattle.cs_types.specs.Kinds.{IsColumnType};
 ghost use Rattle.cs_types.specs.Schemas.{IsSchema};
 ghost use Rattle.cs_model.specs.Expressions.{Computed, Gives};
-ghost use Rattle.cs_types.specs.Rows.{key_in};
-ghost use Rattle.cs_model.specs.Held.{IsRowAt};
-ghost use Rattle.cs_model.specs.Answers.{kept, computed_of, given, inserted_row, rows_from, series_len, series, inserted};
+ghost use Rattle.cs_model.specs.Answers.{kept, computed_of, given, inserted_row, edits_by, rows_from, series_len, series, inserted};
 ghost use Rattle.cs_model.specs.Series.{series_schema};
-ghost use Rattle.row_work.specs.Gives.{GivesCell, GivesRow, GivesRows};
+ghost use Rattle.row_work.specs.Gives.{GivesCell, GivesEdits, GivesRow, GivesRows};
+ghost use Rattle.row_work.specs.Inserts.{inserted_write};
 
 use crate::refusal::WriteRefusal;
 use cs_base::{Items, Memory};
 use cs_model::{Expr, ExprRefusal, InsertPlan, series_schema};
 use cs_predicate::compute;
-use cs_types::{Column, Loose, Row, Schema, Value, fits};
+use cs_types::{Column, Loose, Row, Schema, Value, fits, key_of};
 use std::alloc::Global;
+use write_set::Write;
 
 /// The place of a column in the list of columns.
 fn place_of(columns: &[usize], column: usize) -> Option<usize>
@@ -94,41 +94,64 @@ fn inserted_row(
     Ok(cells)
 }
 
-/// A row of VALUES, which reads nothing.
-fn values_row(
+/// The write of the row of these expressions at its key. Whether it replaces a row is not known yet.
+fn inserted_write(
+    alloc: Global,
+    schema: &Schema,
+    source: &Schema,
+    columns: &[usize],
+    read: &Row,
+    row: u64,
+    exprs: &[Expr],
+) -> Result<Write, WriteRefusal>
+    requires { IsSchema schema.now }
+    ensures { GivesRow row (inserted_write schema.now source.now columns.now read.now exprs.now) result }
+{
+    let cells = inserted_row(alloc, schema, source, columns, read, row, exprs)?;
+    let key = key_of(schema, &cells);
+    Ok(Write {
+        key,
+        row: Some(cells),
+        replaces: false,
+    })
+}
+
+/// The write of a row of VALUES, which reads nothing.
+fn values_write(
     alloc: Global,
     schema: &Schema,
     columns: &[usize],
     row: u64,
     exprs: &[Expr],
-) -> Result<Row, WriteRefusal>
+) -> Result<Write, WriteRefusal>
     requires { IsSchema schema.now }
-    ensures { GivesRow row (inserted_row schema.now schema.now columns.now [] exprs.now) result }
+    ensures { GivesRow row (inserted_write schema.now schema.now columns.now [] exprs.now) result }
 {
     let none = Row::new(alloc);
-    inserted_row(alloc, schema, schema, columns, &none, row, exprs)
+    inserted_write(alloc, schema, schema, columns, &none, row, exprs)
 }
 
-/// The rows of VALUES.
-fn values_rows(
+/// The writes of the rows of VALUES.
+fn values_writes(
     alloc: Global,
     schema: &Schema,
     columns: &[usize],
     rows: &[Items<Expr>],
-) -> Result<Items<Row>, WriteRefusal>
+) -> Result<Items<Write>, WriteRefusal>
     requires { IsSchema schema.now }
-    ensures { GivesRows (rows_from (inserted_row schema.now schema.now columns.now []) 1 rows.now) result }
+    ensures { GivesRows (rows_from (inserted_write schema.now schema.now columns.now []) 1 rows.now) result }
 {
     let mut written = Items::new(alloc);
+    written.reserve(rows.len())?;
     for (i, exprs) in rows.iter().enumerate() {
-        let row = values_row(alloc, schema, columns, i as u64 + 1, exprs.as_slice())?;
-        written.push(row)?;
+        let write = values_write(alloc, schema, columns, i as u64 + 1, exprs.as_slice())?;
+        written.push(write)?;
     }
     Ok(written)
 }
 
-/// A row over a number of a series.
-fn series_row(
+/// The write of a row over a number of a series.
+fn series_write(
     alloc: Global,
     schema: &Schema,
     source: &Schema,
@@ -136,13 +159,13 @@ fn series_row(
     number: i64,
     row: u64,
     exprs: &[Expr],
-) -> Result<Row, WriteRefusal>
+) -> Result<Write, WriteRefusal>
     requires { IsSchema schema.now }
-    ensures { GivesRow row (inserted_row schema.now source.now columns.now (Value.Number number ∷ []) exprs.now) result }
+    ensures { GivesRow row (inserted_write schema.now source.now columns.now (Value.Number number ∷ []) exprs.now) result }
 {
     let mut read = Row::new(alloc);
     read.push(Value::Number(number))?;
-    inserted_row(alloc, schema, source, columns, &read, row, exprs)
+    inserted_write(alloc, schema, source, columns, &read, row, exprs)
 }
 
 /// How many numbers a series has: at most 2^64.
@@ -167,31 +190,40 @@ fn number_at(start: i64, stop: i64, i: u128) -> i64
 }
 
 /// The number of the row after these, counted from 1.
-fn next_row(rows: &[Row]) -> u64
-    ensures { result ≡ length rows.now + 1 }
+fn next_row(writes: &[Write]) -> u64
+    ensures { result ≡ length writes.now + 1 }
 {
-    rows.len() as u64 + 1
+    writes.len() as u64 + 1
 }
 
-/// The rows over the numbers of a series.
-fn series_rows(
+/// For so many rows of a series room is made at once. A longer one may end at a refusal before it needs more.
+const ROOM: u128 = 1 << 20;
+
+/// For how many rows of a series room is made at once.
+fn room_of(count: u128) -> usize {
+    count.min(ROOM) as usize
+}
+
+/// The writes of the rows over the numbers of a series.
+fn series_writes(
     alloc: Global,
     schema: &Schema,
     columns: &[usize],
     start: i64,
     stop: i64,
     exprs: &[Expr],
-) -> Result<Items<Row>, WriteRefusal>
+) -> Result<Items<Write>, WriteRefusal>
     requires { IsSchema schema.now }
-    ensures { GivesRows (rows_from (λ number. inserted_row schema.now series_schema columns.now (Value.Number number ∷ []) exprs.now) 1 (series (start, stop))) result }
+    ensures { GivesRows (rows_from (λ number. inserted_write schema.now series_schema columns.now (Value.Number number ∷ []) exprs.now) 1 (series (start, stop))) result }
 {
     let source = series_schema(alloc)?;
     let count = series_len(start, stop);
     let mut written = Items::new(alloc);
+    written.reserve(room_of(count))?;
     for i in 0..count {
         let number = number_at(start, stop, i);
         let place = next_row(written.as_slice());
-        let row = series_row(alloc, schema, &source, columns, number, place, exprs)?;
+        let row = series_write(alloc, schema, &source, columns, number, place, exprs)?;
         written.push(row)?;
     }
     Ok(written)
@@ -207,24 +239,23 @@ fn first_row(rows: &[Items<Expr>]) -> &[Expr]
     }
 }
 
-/// The rows that an INSERT writes: each value computed and fitted, row by row and column by column, and NULL in the columns
-/// that are not named. `Value` with the first refusal by row and then by column: 515 where NULL may not stand, 2628 for a
-/// text over its column's bytes, 220 for a number out of the range of tinyint or smallint and 8115 for one out of another
-/// type's, 8115 and 8134 as `compute` has them. `Memory` where there is no room for the rows.
-pub fn written_rows(
+/// The writes of the rows of an INSERT, each at the row's key, in the order of the rows: each value computed and fitted, row by row
+/// and column by column, and NULL in the columns that are not named. Whether they replace rows is not known yet. `Value` with the
+/// first refusal by row and then by column: 515 where NULL may not stand, 2628 for a text over its column's bytes, 220 for a number
+/// out of the range of tinyint or smallint and 8115 for one out of another type's, 8115 and 8134 as `compute` has them. `Memory`
+/// where there is no room for the rows.
+pub fn written(
     alloc: Global,
     schema: &Schema,
     plan: &InsertPlan,
-) -> Result<Items<Row>, WriteRefusal>
+) -> Result<Items<Write>, WriteRefusal>
     requires { IsSchema schema.now }
-    ensures gives { GivesRows (inserted schema.now plan.now) result }
-    // Each is a row of the table under its own key.
-    ensures under { IfOk result (λ rows. All (λ row. IsRowAt schema.now (key_in schema.now.key row) row) rows) }
+    ensures { GivesEdits (edits_by schema.now (inserted schema.now plan.now)) result }
 {
     let columns = plan.columns.as_slice();
     let rows = plan.rows.as_slice();
     match plan.series {
-        Some((start, stop)) => series_rows(alloc, schema, columns, start, stop, first_row(rows)),
-        None => values_rows(alloc, schema, columns, rows),
+        Some((start, stop)) => series_writes(alloc, schema, columns, start, stop, first_row(rows)),
+        None => values_writes(alloc, schema, columns, rows),
     }
 }

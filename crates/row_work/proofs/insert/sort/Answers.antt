@@ -3,4 +3,4 @@ use Rattle.std.proofs.lemmas.Fn.{always_returns_same}
 use Rattle.row_work.proofs.insert.sort.Goals as goal
 
 pub returns-clause-sorted : goal.returns-clause-sorted
-returns-clause-sorted c = c.sort_unstable_by_key.ensures.sorted (λ one. one.0) (always_returns_same _ _ _ (λ a r f k. search rules))
+returns-clause-sorted c = c.sort_unstable_by_key.ensures.sorted (λ write. write.key) (always_returns_same _ _ _ (λ a r f k. search rules))
