@@ -164,16 +164,17 @@ batch_within xs from count start there i starts counts = ⊎_elim
 pub narrowed_at_alike : (from count : ℕ) (test other : ℕ → Bool) (old new : List Bool) → ((i : ℕ) → i < count → test i ≡ other i) → IsNarrowedAt from count test old new → IsNarrowedAt from count other old new
 narrowed_at_alike from count test other old new alike is = (is.0, (λ i l. is.1 i l ∙ ap (λ b. slice_index_or old (from + i) false && b) (alike i l)), is.2)
 
+-- one place more
+places_more : (mask : List Bool) (n : ℕ) (b : Bool) → slice_index_or mask n false ≡ b → length (places mask (suc n)) ≡ length (places mask n) + cond b 1 0
+places_more mask n b is = ap (λ m. length (places mask m)) (sym (add-one n)) ∙ count-more (λ j. slice_index_or mask j false) n ∙ ap (λ t. length (places mask n) + cond t 1 0) is
+
 -- where as many places are chosen as there are, each is
 chosen_last : (mask : List Bool) (n : ℕ) → length (places mask (suc n)) ≡ suc n → (length (places mask n) ≡ n) × (slice_index_or mask n false ≡ true)
 chosen_last mask n counted = last (slice_index_or mask n false) refl
   where
-    more : (b : Bool) → slice_index_or mask n false ≡ b → length (places mask (suc n)) ≡ length (places mask n) + cond b 1 0
-    more b is = ap (λ m. length (places mask m)) (sym (add-one n)) ∙ count-more (λ j. slice_index_or mask j false) n ∙ ap (λ t. length (places mask n) + cond t 1 0) is
-
     last : (b : Bool) → slice_index_or mask n false ≡ b → (length (places mask n) ≡ n) × (slice_index_or mask n false ≡ true)
-    last true is = (omega (arith, counted, more true is), is)
-    last false is = absurd (omega (arith, counted, more false is, count-most (λ j. slice_index_or mask j false) n))
+    last true is = (omega (arith, counted, places_more mask n true is), is)
+    last false is = absurd (omega (arith, counted, places_more mask n false is, count-most (λ j. slice_index_or mask j false) n))
 
 pub all_chosen : (mask : List Bool) (n : ℕ) → length (places mask n) ≡ n → (i : ℕ) → i < n → slice_index_or mask i false ≡ true
 all_chosen mask zero counted i below = absurd (omega (arith, below))
@@ -181,3 +182,8 @@ all_chosen mask (suc n) counted i below = elim (cases_lt i n) [
   | inl less ↦ all_chosen mask n (chosen_last mask n counted).0 i less
   | inr past ↦ ap (λ j. slice_index_or mask j false) (omega (arith, below, past)) ∙ (chosen_last mask n counted).1
 ]
+
+-- and where each is, as many are chosen
+pub chosen_all : (mask : List Bool) (n : ℕ) → ((i : ℕ) → i < n → slice_index_or mask i false ≡ true) → length (places mask n) ≡ n
+chosen_all mask zero each = refl
+chosen_all mask (suc n) each = omega (arith, places_more mask n true (each n (omega arith)), chosen_all mask n (λ i below. each i (omega (arith, below))))

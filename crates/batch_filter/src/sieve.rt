@@ -1,5 +1,4 @@
 ghost use Rattle.std.specs.Prelude.{◌≡◌, ◌+◌, ◌<◌, ℕ, length, slice_index_or, nat_lt, ◌&&◌, not, true, false, IfOk, [], ◌↔◌, IsTrue};
-ghost use Rattle.std.specs.Bool.{OnTrue};
 ghost use Rattle.std.specs.List.{list_any};
 ghost use Rattle.batch_filter.specs.Sieves.{verdicts};
 
@@ -62,7 +61,7 @@ impl Sieve {
 
     /// Whether the predicate is True of every row.
     pub fn is_everywhere(&self) -> bool
-        ensures { OnTrue result ((i : ℕ) → i < length self.now → slice_index_or self.now i false ≡ true) }
+        ensures { IsTrue result ↔ ((i : ℕ) → i < length self.now → slice_index_or self.now i false ≡ true) }
     {
         let count = self.len();
         chosen(self.verdicts.as_slice(), count) == count as u64

@@ -184,7 +184,7 @@ pub fn copies_of(alloc: Global, parts: &[Part], room: usize) -> Result<Vec<Write
     Ok(copied)
 }
 
-/// The parts of writes whose keys ascend, whole ones behind the first. The writes are moved, the last ones first.
+/// The parts of writes whose keys ascend, whole ones after the first. The writes are moved, the last ones first.
 pub fn parts_of(writes: Vec<Write>) -> Result<Vec<Part>, Memory>
     requires { Ascend writes.items }
     ensures stand { IfOk result (λ parts. StandFrom 0 parts.items) }
