@@ -1,5 +1,6 @@
 -- The ranks of a column's cells: numbers that stand to each other as the cells do, with none left out.
-use Rattle.std.specs.Prelude.{◌≡◌, ◌<◌, ℕ, List, [], All, length, slice_index, slice_index_or}
+use Rattle.std.specs.Prelude.{◌≡◌, ◌<◌, ℕ, List, [], All, length, slice_index, slice_index_or, IsPermutation}
+use Rattle.std.specs.List.{range_with_len}
 use Rattle.std.specs.Ordering.{nat_cmp}
 use Rattle.cs_types.specs.declared.Value.{Value}
 use Rattle.cs_types.specs.declared.Value.TheVariants.{Null, Number, Text}
@@ -33,3 +34,9 @@ abbrev pub ArePicked : {X : Type 0} → List X → List ℕ → List X → Type 
 ArePicked {X} values order all =
     (length all ≡ length order)
     × ((i : ℕ) (d : X) → i < length order → slice_index_or all i d ≡ slice_index_or values (slice_index order i) d)
+
+-- the ranks of some cells in an order that has each cell once
+pub record AreMovedRanks (cells : List Value) (ranks order codes : List ℕ) : Type 0 where
+  pub some : 0 < length order
+  pub all : IsPermutation (range_with_len 0 (length cells)) order
+  pub picked : ArePicked ranks order codes

@@ -1,12 +1,11 @@
-ghost use Rattle.std.specs.Prelude.{◌≡◌, ◌<◌, ℕ, All, map, length, IfOk, IsTrue, IsPermutation, ◌↔◌, slice_get, slice_index, slice_index_or, Some};
-ghost use Rattle.std.specs.List.{range_with_len};
+ghost use Rattle.std.specs.Prelude.{◌≡◌, ◌<◌, ℕ, List, All, map, length, IfOk, IsTrue, ◌↔◌, slice_get, slice_index, slice_index_or, Some};
 ghost use Rattle.cs_types.specs.declared.Value.TheVariants.{Null};
 ghost use Rattle.cs_types.specs.Kinds.{is_of_type};
 ghost use Rattle.cs_types.specs.Rows.{cell_at, number_in};
 ghost use Rattle.column_segment.specs.Bodies.{cell_in};
 ghost use Rattle.column_segment.specs.Cells.{seen, number_cell, HasText, HasNoNumber};
 ghost use Rattle.column_segment.specs.Dicts.{IsDictFor, AreDictCodes};
-ghost use Rattle.column_segment.specs.Ranks.{AreAllBelow, AreCellRanks, AreRankPlaces, ArePicked, text_in};
+ghost use Rattle.column_segment.specs.Ranks.{AreAllBelow, AreCellRanks, AreMovedRanks, AreRankPlaces, ArePicked, text_in};
 ghost use Rattle.column_segment.specs.Segments.{IsSegmentOf};
 
 use crate::cell::{CellRef, numbers_shown, shows_text};
@@ -19,27 +18,26 @@ use std::alloc::Global;
 
 /// What `encode` gives of cells in another order, where the ranks of the cells are known already: the cells stand to each
 /// other as their ranks do, which are the numbers below `count`, none left out. These are the codes of the cells in their
-/// dictionary, so it neither sorts cells nor looks for one, and it moves codes alone.
+/// dictionary, and `codes` has them in that order. So it neither sorts cells nor looks for one, and it moves none.
 pub fn encode_ranked(
     alloc: Global,
     kind: ColumnType,
     cells: &[CellRef<'_>],
     ranks: &[u64],
     count: u64,
-    order: &[usize],
+    codes: &[u64],
 ) -> Result<Segment, Memory>
-    requires some { 0 < length order.now }
     requires of_type { All (λ cell. IsTrue (is_of_type kind cell)) (map seen cells.now) }
     requires ranks { AreCellRanks (map seen cells.now) ranks.now count }
-    requires all { IsPermutation (range_with_len 0 (length (map seen cells.now))) order.now }
-    ensures segment { IfOk result (λ segment. IsSegmentOf (map (cell_at (map seen cells.now)) order.now) segment.length segment.body segment.least segment.greatest segment.nulls) }
-    ensures cells { IfOk result (λ segment. (i : ℕ) → i < length (map (cell_at (map seen cells.now)) order.now) → slice_get (map (cell_at (map seen cells.now)) order.now) i ≡ Some (cell_in segment.body i)) }
+    requires picked { (order : List ℕ) × AreMovedRanks (map seen cells.now) ranks.now order codes.now }
+    ensures segment { IfOk result (λ segment. (order : List ℕ) → AreMovedRanks (map seen cells.now) ranks.now order codes.now → IsSegmentOf (map (cell_at (map seen cells.now)) order) segment.length segment.body segment.least segment.greatest segment.nulls) }
+    ensures cells { IfOk result (λ segment. (order : List ℕ) → AreMovedRanks (map seen cells.now) ranks.now order codes.now → ((i : ℕ) → i < length (map (cell_at (map seen cells.now)) order) → slice_get (map (cell_at (map seen cells.now)) order) i ≡ Some (cell_in segment.body i))) }
 {
     if shows_text(kind, cells) {
-        ranked_texts(alloc, cells, ranks, count, order)
+        ranked_texts(alloc, cells, ranks, count, codes)
     } else {
         let numbers = numbers_shown(alloc, cells)?;
-        ranked_numbers(alloc, numbers.as_slice(), ranks, count, order)
+        ranked_numbers(alloc, numbers.as_slice(), ranks, count, codes)
     }
 }
 
@@ -49,53 +47,48 @@ pub fn encode_numbers(
     numbers: &[Option<i64>],
     ranks: &[u64],
     count: u64,
-    order: &[usize],
+    codes: &[u64],
 ) -> Result<Segment, Memory>
-    requires some { 0 < length order.now }
     requires ranks { AreCellRanks (map number_cell numbers.now) ranks.now count }
-    requires all { IsPermutation (range_with_len 0 (length (map number_cell numbers.now))) order.now }
-    ensures segment { IfOk result (λ segment. IsSegmentOf (map (cell_at (map number_cell numbers.now)) order.now) segment.length segment.body segment.least segment.greatest segment.nulls) }
-    ensures cells { IfOk result (λ segment. (i : ℕ) → i < length (map (cell_at (map number_cell numbers.now)) order.now) → slice_get (map (cell_at (map number_cell numbers.now)) order.now) i ≡ Some (cell_in segment.body i)) }
+    requires picked { (order : List ℕ) × AreMovedRanks (map number_cell numbers.now) ranks.now order codes.now }
+    ensures segment { IfOk result (λ segment. (order : List ℕ) → AreMovedRanks (map number_cell numbers.now) ranks.now order codes.now → IsSegmentOf (map (cell_at (map number_cell numbers.now)) order) segment.length segment.body segment.least segment.greatest segment.nulls) }
+    ensures cells { IfOk result (λ segment. (order : List ℕ) → AreMovedRanks (map number_cell numbers.now) ranks.now order codes.now → ((i : ℕ) → i < length (map (cell_at (map number_cell numbers.now)) order) → slice_get (map (cell_at (map number_cell numbers.now)) order) i ≡ Some (cell_in segment.body i))) }
 {
-    ranked_numbers(alloc, numbers, ranks, count, order)
+    ranked_numbers(alloc, numbers, ranks, count, codes)
 }
 
-/// The segment of numbers in an order, where their ranks are these.
+/// The segment of numbers in an order, where these are their ranks, and the ranks in the order.
 fn ranked_numbers(
     alloc: Global,
     numbers: &[Option<i64>],
     ranks: &[u64],
     count: u64,
-    order: &[usize],
+    codes: &[u64],
 ) -> Result<Segment, Memory>
-    requires some { 0 < length order.now }
     requires ranks { AreCellRanks (map number_cell numbers.now) ranks.now count }
-    requires all { IsPermutation (range_with_len 0 (length (map number_cell numbers.now))) order.now }
-    ensures { IfOk result (λ segment. IsSegmentOf (map (cell_at (map number_cell numbers.now)) order.now) segment.length segment.body segment.least segment.greatest segment.nulls) }
+    requires picked { (order : List ℕ) × AreMovedRanks (map number_cell numbers.now) ranks.now order codes.now }
+    ensures { IfOk result (λ segment. (order : List ℕ) → AreMovedRanks (map number_cell numbers.now) ranks.now order codes.now → IsSegmentOf (map (cell_at (map number_cell numbers.now)) order) segment.length segment.body segment.least segment.greatest segment.nulls) }
 {
     let dict = number_dict(alloc, numbers, ranks, count)?;
-    let codes = picked(alloc, ranks, order)?;
-    bare_segment(alloc, dict, &codes)
+    bare_segment(alloc, dict, codes)
 }
 
-/// The segment of texts in an order, where their ranks are these.
+/// The segment of texts in an order, where these are their ranks, and the ranks in the order.
 fn ranked_texts(
     alloc: Global,
     cells: &[CellRef<'_>],
     ranks: &[u64],
     count: u64,
-    order: &[usize],
+    codes: &[u64],
 ) -> Result<Segment, Memory>
-    requires some { 0 < length order.now }
     requires text { HasText (map seen cells.now) }
     requires no_number { HasNoNumber (map seen cells.now) }
     requires ranks { AreCellRanks (map seen cells.now) ranks.now count }
-    requires all { IsPermutation (range_with_len 0 (length (map seen cells.now))) order.now }
-    ensures { IfOk result (λ segment. IsSegmentOf (map (cell_at (map seen cells.now)) order.now) segment.length segment.body segment.least segment.greatest segment.nulls) }
+    requires picked { (order : List ℕ) × AreMovedRanks (map seen cells.now) ranks.now order codes.now }
+    ensures { IfOk result (λ segment. (order : List ℕ) → AreMovedRanks (map seen cells.now) ranks.now order codes.now → IsSegmentOf (map (cell_at (map seen cells.now)) order) segment.length segment.body segment.least segment.greatest segment.nulls) }
 {
     let dict = text_dict(alloc, cells, ranks, count)?;
-    let codes = picked(alloc, ranks, order)?;
-    dict_segment(alloc, dict, &codes)
+    dict_segment(alloc, dict, codes)
 }
 
 /// Codes in another order.

@@ -1,12 +1,14 @@
-ghost use Rattle.std.specs.Prelude.{◌≡◌, ◌<◌, [], All, length, map, slice_index, slice_index_or, IfOk, IsTrue, IsPermutation};
+ghost use Rattle.std.specs.Prelude.{◌≡◌, ◌<◌, ℕ, List, [], All, length, map, slice_index, slice_index_or, slice_get, Some, IfOk, IsTrue, IsPermutation};
 ghost use Rattle.std.specs.Bool.{OnTrue};
 ghost use Rattle.std.specs.List.{range_with_len};
+ghost use Rattle.cs_types.specs.declared.Column.{Column};
 ghost use Rattle.cs_types.specs.Kinds.{is_of_type};
 ghost use Rattle.cs_types.specs.Rows.{cell_at};
 ghost use Rattle.cs_types.specs.Values.{value_cmp};
+ghost use Rattle.column_segment.specs.Ranks.{ArePicked, AreMovedRanks};
 ghost use Rattle.row_group.specs.Fields.{AreStamps};
 ghost use Rattle.row_group.specs.Orders.{AreRanks};
-ghost use Rattle.row_group.specs.Arranged.{AreSegmentsOf, IsColumnSegment, KeepColumns, AreColumnRanks, AreNumbers, IsArranged};
+ghost use Rattle.row_group.specs.Arranged.{AreSegmentsOf, IsColumnSegment, KeepColumns, AreColumnRanks, AreNumbers, IsArranged, codes_of};
 
 use crate::arrange::shown_cells;
 use crate::cells::Cells;
@@ -41,7 +43,7 @@ pub fn packed_by(
     let key_codes = picked(alloc, &ranks[schema.key].codes, order)?;
     let places = code_order(alloc, &key_codes)?;
     let late = late_of(alloc, begins, order, floor)?;
-    let segments = segments_of(alloc, schema, columns, ranks, order)?;
+    let segments = segments_of(alloc, schema, columns, ranks, order, &key_codes)?;
     Ok(Packed {
         segments,
         key: schema.key,
@@ -52,49 +54,77 @@ pub fn packed_by(
     })
 }
 
-/// The segments of columns whose cells are put in order.
+/// The segments of columns whose cells are put in order. The codes of the key's column are there in that order.
 fn segments_of(
     alloc: Global,
     schema: &Schema,
     columns: Vec<Cells>,
     ranks: &[Ranks],
     order: &[usize],
+    key_codes: &[u64],
 ) -> Result<Items<Segment>, Memory>
     requires counted { length columns.items ≡ length schema.now.columns }
     requires kept { KeepColumns schema.now columns.items }
     requires ranks { AreColumnRanks columns.items ranks.now }
     requires all { All (λ cells. IsPermutation (range_with_len 0 (length cells)) order.now) columns.items }
     requires some { 0 < length order.now }
+    requires key { ArePicked (codes_of (slice_get ranks.now schema.now.key)) order.now key_codes.now }
     ensures { IfOk result (λ segments. AreSegmentsOf columns.items order.now segments) }
 {
     let mut segments = Items::new(alloc);
     for cells in columns {
         let place = segments.len();
-        let kind = schema.columns.at(place).kind;
-        segments.push(segment_of(alloc, kind, cells, &ranks[place], order)?)?;
+        let column = &ranks[place];
+        let segment = segment_at(alloc, schema, place, cells, column, order, key_codes)?;
+        segments.push(segment)?;
     }
     Ok(segments)
 }
 
-/// The segment of a column whose cells are put in order, by their codes.
+/// The segment of the column at a place. Its codes are put in order first, but those of the key's column are already.
+fn segment_at(
+    alloc: Global,
+    schema: &Schema,
+    place: usize,
+    cells: Cells,
+    ranks: &Ranks,
+    order: &[usize],
+    key_codes: &[u64],
+) -> Result<Segment, Memory>
+    requires within { place < length schema.now.columns }
+    requires kept { (column : Column) → slice_get schema.now.columns place ≡ Some column → All (λ cell. IsTrue (is_of_type column.kind cell)) cells }
+    requires ranks { AreRanks value_cmp cells ranks.now.codes.items ranks.now.count }
+    requires all { IsPermutation (range_with_len 0 (length cells)) order.now }
+    requires some { 0 < length order.now }
+    requires key { place ≡ schema.now.key → ArePicked ranks.now.codes.items order.now key_codes.now }
+    ensures { IfOk result (λ segment. IsColumnSegment (map (cell_at cells) order.now) segment) }
+{
+    let kind = schema.columns.at(place).kind;
+    if place == schema.key {
+        return segment_of(alloc, kind, cells, ranks, key_codes);
+    }
+    let codes = picked(alloc, &ranks.codes, order)?;
+    segment_of(alloc, kind, cells, ranks, &codes)
+}
+
+/// The segment of a column whose cells are put in order, by their codes and the codes in that order.
 fn segment_of(
     alloc: Global,
     kind: ColumnType,
     cells: Cells,
     ranks: &Ranks,
-    order: &[usize],
+    codes: &[u64],
 ) -> Result<Segment, Memory>
     requires of_type { All (λ cell. IsTrue (is_of_type kind cell)) cells }
     requires ranks { AreRanks value_cmp cells ranks.now.codes.items ranks.now.count }
-    requires all { IsPermutation (range_with_len 0 (length cells)) order.now }
-    requires some { 0 < length order.now }
-    ensures { IfOk result (λ segment. IsColumnSegment (map (cell_at cells) order.now) segment) }
+    requires picked { (order : List ℕ) × AreMovedRanks cells ranks.now.codes.items order codes.now }
+    ensures { IfOk result (λ segment. (order : List ℕ) → AreMovedRanks cells ranks.now.codes.items order codes.now → IsColumnSegment (map (cell_at cells) order) segment) }
 {
     if let Some(numbers) = cells.numbers() {
-        return encode_numbers(alloc, numbers, &ranks.codes, ranks.count, order);
+        return encode_numbers(alloc, numbers, &ranks.codes, ranks.count, codes);
     }
     let shown = shown_cells(alloc, &cells)?;
-    encode_ranked(alloc, kind, &shown, &ranks.codes, ranks.count, order)
+    encode_ranked(alloc, kind, &shown, &ranks.codes, ranks.count, codes)
 }
 
 /// The begins that are not the floor, with their positions in an order. Where all are the floor the order is not read.

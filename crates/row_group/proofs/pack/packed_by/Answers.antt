@@ -1,4 +1,5 @@
-use Rattle.std.proofs.Common.{refl, List, length, map, slice_index, sym, ap, subst, arith}
+use Rattle.std.proofs.Common.{◌<◌, ◌∙◌, refl, ℕ, List, length, map, slice_index, sym, ap, subst, arith}
+use Rattle.column_segment.specs.Ranks.{ArePicked}
 use Rattle.row_group.specs.declared.ranks.Ranks.{Ranks}
 use Rattle.row_group.specs.Orders.{IsOrderOf}
 use Rattle.row_group.specs.Rows.{PackedRow}
@@ -8,7 +9,7 @@ use Rattle.row_group.specs.Packings.{source_row}
 use Rattle.row_group.proofs.FieldLemmas.{fields-made, codes-order, rows-arranged}
 use Rattle.row_group.proofs.ArrangeLemmas.{codes-picked, length-codes}
 use Rattle.column_segment.proofs.Moved.{range-within}
-use Rattle.row_group.proofs.SegmentLemmas.{columns-permuted}
+use Rattle.row_group.proofs.SegmentLemmas.{columns-permuted, codes-read}
 use Rattle.row_group.proofs.StampLemmas.{picked-map}
 use Rattle.row_group.proofs.pack.packed_by.Goals as goal
 
@@ -23,6 +24,14 @@ late_of-requires c = range-within (length c.args.begins.now) c.args.order.now c.
 
 pub segments_of-requires-clause-all : goal.segments_of-requires-clause-all
 segments_of-requires-clause-all c = columns-permuted c.args.columns.items (length c.args.begins.now) c.args.order.now c.requires.even c.requires.all
+
+pub segments_of-requires-clause-key : goal.segments_of-requires-clause-key
+segments_of-requires-clause-key c =
+    let order = c.args.order.now in
+    let there : c.args.schema.now.key < length c.args.ranks.now = omega (arith, c.requires.key, c.requires.ranks.0) in
+    let read = codes-read c.args.ranks.now c.args.schema.now.key c.index-ranks-schema.result there c.index-ranks-schema.is in
+    subst (λ (all : List ℕ). ArePicked all order c.deref-3.result.now) (c.deref.ensures.value ∙ ap (λ (ranks : Ranks). ranks.codes.items) (sym c.index-ranks-schema.is) ∙ sym read)
+    (subst (ArePicked c.deref.result.now order) (sym c.deref-3.ensures.value) c.in_ok-key_codes.ensures)
 
 pub invariant_of-result : goal.invariant_of-result
 invariant_of-result c =
