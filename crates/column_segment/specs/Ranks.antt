@@ -29,7 +29,7 @@ text_in Null = []
 text_in (Number n) = []
 text_in (Text t) = t
 
--- values in another order
+-- the value at each of some places
 abbrev pub ArePicked : {X : Type 0} → List X → List ℕ → List X → Type 0
 ArePicked {X} values order all =
     (length all ≡ length order)

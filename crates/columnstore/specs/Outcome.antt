@@ -128,7 +128,7 @@ abbrev pub IsAddedOf : ℕ → ℕ → List ℕ → List ℕ → Type 0
 IsAddedOf before now added whole = (added ≡ whole) ⊎ (Rose before now × IsFront added whole)
 
 -- what a status says of the bytes that were read for an order and of those that were added to the output, while the count of writes
--- that failed went from before to now. A write fault leaves a prefix of the text of a whole run, of a drawn script or of a refusal. Where memory gives out
+-- that failed went from before to now. A write fault leaves a prefix of the text of a whole run, of a drawn script, of a summary or of a refusal. Where memory gives out
 -- nothing was added; or a run on threads stopped for that, and the text of the log of what was done until then was added, or a prefix of
 -- it where a write of it failed too
 abbrev pub EndsFor : Order → List ℕ → Option (List ℕ) → List ℕ → ℕ → ℕ → Status → Type 0

@@ -60,7 +60,7 @@ shown_table width view s = laid [] (map (shown_edit width) (shown view s))
 abbrev pub padded_table : ℕ → Table → Table
 padded_table width rows = map (λ (entry : Key × List Value). (entry.0, padded width entry.1)) rows
 
--- what any view keeps: a bitmap fits its group; and from the floor to the clock no key has two visible versions
+-- what any view keeps: a bitmap fits its group; its floor is at most its clock; and from the floor to the clock no key has two visible versions
 pub record IsView (view : GroupView) : Type 0 where
   pub fitting : All (λ (group : ℕ × _). IsFitting group.1) view.groups
   pub within : view.floor ≤ view.clock

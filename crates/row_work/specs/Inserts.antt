@@ -45,7 +45,7 @@ put_keys puts = map (λ (put : Put). put.key) puts
 abbrev pub puts_as_edits : List Put → List Edit
 puts_as_edits puts = map (λ (put : Put). (put.key, put.row)) puts
 
--- the last write is of the key; the last key is this one
+-- the write, if there is one, is of the key; the key, if there is one, is this one
 abbrev pub is_of : Key → Option Write → Bool
 is_of key None = false
 is_of key (Some write) = same_key write.key key
@@ -69,7 +69,7 @@ pub record ArePuts (edits : List Edit) (puts : List Put) : Type 0 where
 abbrev pub is_double : Table → Put → Bool
 is_double table put = put.twice || has_row table put.key
 
--- writes of edits whose keys do not fall, one for each key, with the keys that would stand twice
+-- writes of the edits by key, one for each key, with the keys that would stand twice
 pub record AreJudged (pinned : Pinned) (edits : List Edit) (writes : List Write) (keys : List Key) : Type 0 where
   pub puts : List Put
   pub are : ArePuts edits puts

@@ -28,7 +28,7 @@ pub struct InsertedRows {
     pub writes: Vec<Write>,
     /// The keys that would stand twice, by key.
     pub present: Vec<Key>,
-    /// How many rows were written, a key that stands twice counted twice.
+    /// How many rows the INSERT has, each counted, also where several have one key.
     pub affected: u64,
 }
 
@@ -84,7 +84,8 @@ fn note_where(present: &mut Vec<Key>, key: Key, here: bool) -> Result<(), Memory
     Ok(())
 }
 
-/// Adds the write of a row more, whose key is not below the others. Of the rows of one key the first stays.
+/// Adds the write of a row more, whose key is not below the others. Of the rows of one key one stays, which decides nothing: the
+/// INSERT is refused.
 fn add(
     pinned: &Pinned,
     writes: &mut Vec<Write>,
