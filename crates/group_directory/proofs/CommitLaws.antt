@@ -25,6 +25,7 @@ use Rattle.write_set.specs.declared.write.Write.{Write}
 use Rattle.write_set.specs.Writes as writes
 use Rattle.txn_table.specs.declared.txn.Txn.{Txn}
 use Rattle.txn_table.specs.Txns.{Table, txn_of, with, own_of}
+use Rattle.version_store.specs.declared.NewestChange.{NewestChange}
 use Rattle.version_store.specs.Newest.{Newest, Changes}
 use Rattle.group_book.specs.Book.{Book, opened}
 use Rattle.group_book.specs.Commits.{Sizes, is_in_table, is_one_of, has_live, replaced_by, inserted_by, direct_parts, after_ends, after_loads, after_rest}
@@ -232,6 +233,10 @@ module _ (directory : Directory) (cs : List Change) (j : Stands directory cs) wh
 
 pub stands_none : (directory : Directory) (cs : List Change) (c number : ℕ) (own : List Write) → own ≡ [] → Stands directory cs → Stands directory (cs ++ numbered c number (edits_of own))
 stands_none directory cs c number own none j = subst (λ (o : List Write). Stands directory (cs ++ numbered c number (edits_of o))) (sym none) (subst (Stands directory) (sym (append-nil cs)) j)
+
+-- the same keys noted in the same changes
+pub noted_alike : (note : NewestChange) (was now : Changes) (keys own : List Key) → now ≡ was → keys ≡ own → noted_by note now keys ≡ noted_by note was own
+noted_alike note was now keys own changes_are keys_are = ap (λ (m : Changes). noted_by note m keys) changes_are ∙ ap (noted_by note was) keys_are
 
 -- one transaction under two names
 pub retold : (directory : Directory) (cs : List Change) (c : ℕ) (own : List Write) (code txn : Txn) → own ≡ code.own → (let here : Option Txn = Some code in here) ≡ Some txn → Stands directory (cs ++ numbered c code.number (edits_of own))

@@ -80,6 +80,18 @@ module _ (c txn : ℕ) (key : Key) where
       above_alike (Some x) (Some y) None is = refl
       above_alike (Some x) (Some y) (Some s) is = let same : note_of x ≡ note_of y = cc is in ap (λ (n : NewestChange). ltb s n.commit) same
 
+-- what holds of each change holds of a key's newest one
+newest_holds : (P : Change → Type 0) (key : Key) (acc : Option Change) (xs : List Change) → IfSome acc P → AllByRecursion P xs → IfSome (fold (taken key) acc xs) P
+newest_holds P key acc [] h all = h
+newest_holds P key acc (x ∷ xs) h all = newest_holds P key (taken key acc x) xs (step (same_key key x.edit.0)) all.1
+  where
+    step : (t : Bool) → IfSome (cond t (Some x) acc) P
+    step true = all.0
+    step false = h
+
+newest_low : (clock : ℕ) (cs : List Change) (key : Key) → AreChanges cs clock → IfSome (newest key cs) (λ change. change.commit ≤ clock)
+newest_low clock cs key a = newest_holds (λ change. change.commit ≤ clock) key None cs tt (below_of cs clock a)
+
 -- ---- a commit
 
 -- a change whose note is this one
@@ -173,18 +185,10 @@ module _ (pruned : ℕ) (noted : Changes) (cs : List Change) (j : IsRecent prune
 
   -- ---- their numbers
 
-  newest_holds : (P : Change → Type 0) (key : Key) (acc : Option Change) (xs : List Change) → IfSome acc P → AllByRecursion P xs → IfSome (fold (taken key) acc xs) P
-  newest_holds P key acc [] h all = h
-  newest_holds P key acc (x ∷ xs) h all = newest_holds P key (taken key acc x) xs (step (same_key key x.edit.0)) all.1
-    where
-      step : (t : Bool) → IfSome (cond t (Some x) acc) P
-      step true = all.0
-      step false = h
-
   pub noted_low : (clock : ℕ) → AreChanges cs clock → (key : Key) → ForSome (finite.get noted key) (λ note. note.commit ≤ clock)
   noted_low clock a key note is =
       let found = from_note (newest key cs) note (j.known key note is) in
-      let low : found.0.commit ≤ clock = subst (λ (o : Option Change). IfSome o (λ change. change.commit ≤ clock)) found.1 (newest_holds (λ change. change.commit ≤ clock) key None cs tt (below_of cs clock a)) in
+      let low : found.0.commit ≤ clock = subst (λ (o : Option Change). IfSome o (λ change. change.commit ≤ clock)) found.1 (newest_low clock cs key a) in
       subst (λ (n : NewestChange). n.commit ≤ clock) found.2 low
 
   pub noted_newer : (clock : ℕ) (note : NewestChange) (keys : List Key) (key : Key) → AreChanges cs clock → is_one_of keys key ≡ false → ForSome (finite.get (noted_by note noted keys) key) (λ other. other.commit < clock + 1)
@@ -196,4 +200,13 @@ pub recent_none : (pruned : ℕ) → IsRecent pruned finite.empty []
 recent_none pruned = record {
   known = λ key note is. absurd (cc (finite.get-empty {X = NewestChange} key_cmp key));
   above = λ key change is lt. absurd (cc);
+}
+
+-- nothing has to be noted of changes up to the clock
+pub recent_clear : (clock : ℕ) (cs : List Change) → AreChanges cs clock → IsRecent clock finite.empty cs
+recent_clear clock cs a = record {
+  known = λ key note is. absurd (cc (finite.get-empty {X = NewestChange} key_cmp key));
+  above = λ key change is lt.
+      let low : change.commit ≤ clock = subst (λ (o : Option Change). IfSome o (λ change. change.commit ≤ clock)) is (newest_low clock cs key a) in
+      absurd (omega (arith, low, lt));
 }

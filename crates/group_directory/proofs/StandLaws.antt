@@ -1,6 +1,7 @@
 -- A directory stands for the changes after each event.
 use Rattle.std.proofs.Common.{◌≡◌, ℕ, ◌≤◌, ◌+◌, ◌-◌, List, [], ◌∷◌, ◌++◌, length, Option, Some, None, refl, sym, ap, subst, ◌∙◌, inr, arith}
 use Rattle.std.specs.List.{All}
+use Rattle.std.specs.FinMap as finite
 use Rattle.std.specs.Prelude.{Result, Ok, Err, OnOk, OnErr}
 use Rattle.std.specs.List.Sorted.{IsNonDecreasingBy}
 use Rattle.std.proofs.lemmas.List.{append-nil, append_assoc}
@@ -30,7 +31,7 @@ use Rattle.group_view.specs.Laws.{IsRowOf}
 use Rattle.group_directory.specs.declared.directory.Directory.{Directory}
 use Rattle.group_directory.specs.Stands.{width_in, rows_in, IsLoanOf, IsRecent, AreTxns, Stands}
 use Rattle.group_directory.specs.Laws.{noted_by, MayStage, MayBeList, IsNew}
-use Rattle.group_directory.proofs.RecentLaws.{recent_none, recent_new, recent_pruned}
+use Rattle.group_directory.proofs.RecentLaws.{recent_none, recent_new, recent_pruned, recent_clear}
 use Rattle.group_directory.proofs.FloorLaws.{floor_there, floor_same, snapshots_same, snapshot-deepened, snapshot-widened, floor_fixed, floor_ended}
 use Rattle.group_directory.proofs.TxnLaws.{txns_none, txns_opened, txns_deepened, txns_fixed, txns_removed, txns_staged, txns_committed}
 
@@ -179,6 +180,25 @@ module _ (directory : Directory) (cs : List Change) (j : Stands directory cs) wh
     loans = j.loans;
     lent = j.lent;
     recent = recent_pruned directory.pruned directory.recent.changes cs j.recent floor recent.changes (let low = j.pruned in let same = floor_given floor is in omega (arith, low, same)) keeps;
+    pruned = let same = floor_given floor is in omega (arith, same);
+    txns = j.txns;
+  }
+
+  -- where no snapshot lies below the clock, nothing has to be noted
+  pub stands_clear : (recent : Newest) (floor kept : ℕ) → IsFloor (snapshots_in was) directory.clock floor → floor ≡ directory.clock → recent.changes ≡ finite.empty
+      → Stands (record directory { recent = recent; pruned = floor; kept = kept }) cs
+  stands_clear recent floor kept is at none = record {
+    sizes = j.sizes;
+    held = j.held;
+    numbered = j.numbered;
+    floor = j.floor;
+    is_floor = j.is_floor;
+    book = j.book;
+    rows = j.rows;
+    packed = j.packed;
+    loans = j.loans;
+    lent = j.lent;
+    recent = subst (λ (m : Changes). IsRecent floor m cs) (sym none) (subst (λ (n : ℕ). IsRecent n finite.empty cs) (sym at) (recent_clear directory.clock cs j.numbered));
     pruned = let same = floor_given floor is in omega (arith, same);
     txns = j.txns;
   }

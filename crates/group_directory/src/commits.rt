@@ -9,6 +9,7 @@ ghost use Rattle.delete_buffer.specs.Entries as buffer;
 ghost use Rattle.write_set.specs.Writes.{Ascend};
 ghost use Rattle.txn_table.specs.declared.txn.Txn.{Txn};
 ghost use Rattle.txn_table.specs.Txns.{txn_of, with, own_of, IsSession};
+ghost use Rattle.version_store.specs.Newest.{Newest};
 ghost use Rattle.group_book.specs.Book.{opened};
 ghost use Rattle.group_book.specs.Commits.{is_one_of, has_live, draws_past};
 ghost use Rattle.group_view.specs.Books.{book_of};
@@ -30,7 +31,8 @@ use std::alloc::Global;
 use version_store::{NewestChange, Recent};
 use write_set::{Own, Write};
 
-/// Newest changes are dropped when they are more than twice as many as were left last time, and this many.
+/// Newest changes are dropped when they are more than twice as many as were left last time, and this many. Room for more keys than
+/// this is not kept where nothing is noted.
 const UNPRUNED: usize = 1_024;
 
 /// The keys of writes, in their order.
@@ -87,7 +89,17 @@ fn is_full(list: &GroupList, group_rows: u64, parcel: &Parcel) -> bool
     is_past(list.next, parcel.groups.len(), stores)
 }
 
-/// Commits own writes with the number of the change: to the groups, and to what is noted of their keys. After a refusal
+/// Lets all newest changes go. Their room goes with them where there were any, or where it was made for many keys; else it stays
+/// for the next commit.
+fn forget(alloc: Global, recent: &mut Recent, keys: &[Key])
+    ensures { recent.new.changes ≡ finite.empty }
+{
+    if 0 < recent.len() || UNPRUNED < keys.len() {
+        *recent = Recent::new(alloc);
+    }
+}
+
+/// Commits own writes to the groups with this number, and makes room to note their keys, which it gives back. After a refusal
 /// nothing has changed.
 fn commit_own(
     alloc: Global,
@@ -96,28 +108,27 @@ fn commit_own(
     group_rows: u64,
     own: &Own,
     parcel: Parcel,
-    change: NewestChange,
-) -> Result<(), CommitRefusal>
+    c: u64,
+) -> Result<Vec<Key>, CommitRefusal>
     requires rows { 1 ≤ group_rows }
     requires held { IsHeld list.old }
-    requires written { buffer.Ascend (written_in own.now) }
     requires replaced { buffer.Ascend (replaced_in own.now) }
-    requires later { All (λ entry. entry.1 < change.commit) list.old.buffer.entries }
+    requires later { All (λ entry. entry.1 < c) list.old.buffer.entries }
     requires rest { buffer.Ascend (keys_in parcel.rest) }
     requires live { All (λ key. has_live key (opened (book_of list.old).groups) ≡ true → is_one_of (replaced_in own.now) key ≡ true) (keys_in parcel.rest) }
     requires begun { All HasOneBegin parcel.groups }
-    requires older { (key : Key) → ForSome (finite.get recent.old.changes key) (λ other. other.commit < change.commit) }
-    ensures book { OnOk result (book_of list.new ≡ after_parcel group_rows change.commit (replaced_in own.now) parcel (book_of list.old)) }
+    ensures book { OnOk result (book_of list.new ≡ after_parcel group_rows c (replaced_in own.now) parcel (book_of list.old)) }
     ensures held { IsHeld list.new }
     ensures claims { list.new.claims ≡ list.old.claims }
-    ensures origins { OnOk result (IsPermutation (origins list.old.groups.items ++ map (new_origin change.commit) (parcel_rows parcel)) (origins list.new.groups.items)) }
-    ensures packed { OnOk result (packed_groups list.new.groups.items ≡ packed_groups list.old.groups.items ++ map (rebased change.commit) parcel.groups) }
-    ensures noted { OnOk result (recent.new.changes ≡ noted_by change recent.old.changes (written_in own.now)) }
-    ensures full { (result ≡ Err refusal.Full) ↔ (draws_past (book_of list.old) (after_parcel group_rows change.commit (replaced_in own.now) parcel (book_of list.old)) ≡ true) }
+    ensures origins { OnOk result (IsPermutation (origins list.old.groups.items ++ map (new_origin c) (parcel_rows parcel)) (origins list.new.groups.items)) }
+    ensures packed { OnOk result (packed_groups list.new.groups.items ≡ packed_groups list.old.groups.items ++ map (rebased c) parcel.groups) }
+    ensures written { IfOk result (λ keys. keys.items ≡ written_in own.now) }
+    ensures room { IfOk result (λ keys. length keys.items ≤ recent.new.spare) }
+    ensures full { (result ≡ Err refusal.Full) ↔ (draws_past (book_of list.old) (after_parcel group_rows c (replaced_in own.now) parcel (book_of list.old)) ≡ true) }
     ensures same { OnErr result (book_of list.new ≡ book_of list.old) }
     ensures listed { OnErr result (listed list.new.groups.items ≡ listed list.old.groups.items) }
     ensures same_packed { OnErr result (packed_in list.new.groups.items ≡ packed_in list.old.groups.items) }
-    ensures kept { OnErr result (recent.new.changes ≡ recent.old.changes) }
+    ensures noted { recent.new.changes ≡ recent.old.changes }
 {
     if is_full(list, group_rows, &parcel) {
         return Err(CommitRefusal::Full);
@@ -125,9 +136,8 @@ fn commit_own(
     let keys = written_keys(alloc, own)?;
     let replaced = replaced_keys(alloc, own)?;
     recent.reserve(keys.len())?;
-    commit(alloc, list, group_rows, &replaced, parcel, change.commit)?;
-    note_all(recent, &keys, change);
-    Ok(())
+    commit(alloc, list, group_rows, &replaced, parcel, c)?;
+    Ok(keys)
 }
 
 impl Directory {
@@ -147,6 +157,27 @@ impl Directory {
         self.recent.prune(floor);
         self.pruned = floor;
         self.kept = self.recent.len();
+    }
+
+    /// Notes the change as the newest one of each of the keys, and prunes. Where no open snapshot lies below the clock, none ever
+    /// will: then nothing has to be noted, and all newest changes go. Either way it stands for whatever it stands for with the keys
+    /// noted.
+    fn note(&mut self, keys: &[Key], change: NewestChange)
+        requires ascending { buffer.Ascend keys.now }
+        requires room { length keys.now ≤ self.old.recent.spare }
+        requires older { (key : Key) → ForSome (finite.get self.old.recent.changes key) (λ other. other.commit < change.commit) }
+        ensures rest { self.new ≡ record self.old { recent = self.new.recent; pruned = self.new.pruned; kept = self.new.kept } }
+        ensures stands { (changes : List Change) → ((recent : Newest) → recent.changes ≡ noted_by change self.old.recent.changes keys.now → Stands (record self.old { recent = recent }) changes) → Stands self.new changes }
+    {
+        let floor = self.floor();
+        if floor == self.clock {
+            forget(self.alloc, &mut self.recent, keys);
+            self.pruned = floor;
+            self.kept = 0;
+        } else {
+            note_all(&mut self.recent, keys, change);
+            self.prune();
+        }
     }
 
     /// Commits the own writes of a session's transaction, with a parcel of the rows that they insert, and ends the
@@ -185,18 +216,18 @@ impl Directory {
             commit: self.clock + 1,
             txn: txn.number,
         };
-        commit_own(
+        let keys = commit_own(
             self.alloc,
             &mut self.list,
             &mut self.recent,
             self.sizes.group_rows,
             &txn.own,
             parcel,
-            change,
+            change.commit,
         )?;
         self.txns.remove(session);
         self.clock = change.commit;
-        self.prune();
+        self.note(&keys, change);
         Ok(Some(change.commit))
     }
 }

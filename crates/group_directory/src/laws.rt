@@ -120,12 +120,14 @@ pub fn loans_end_alike()
 {}
 
 /// What is noted of newest changes agrees with the changes: at first, after a commit, when its keys are noted with its number
-/// and its transaction, and after a prune. A commit's keys have no newer change noted before it, each being noted once.
+/// and its transaction, after a prune, and where nothing is noted of changes up to the clock. A commit's keys have no newer change
+/// noted before it, each being noted once.
 pub fn newest_changes_agree()
     ensures new { (pruned : ℕ) → IsRecent pruned finite.empty [] }
     ensures commit { (pruned clock txn : ℕ) (noted : Changes) (changes : List Change) (own : List Edit) → IsRecent pruned noted changes
         → IsRecent pruned (noted_by (record { commit = clock + 1; txn = txn }) noted (keys_of own)) (changes ++ numbered (clock + 1) txn own) }
     ensures prune { (pruned at : ℕ) (noted left : Changes) (changes : List Change) → IsRecent pruned noted changes → pruned ≤ at → KeepsAbove at noted left → IsRecent at left changes }
+    ensures clear { (clock : ℕ) (changes : List Change) → AreChanges changes clock → IsRecent clock finite.empty changes }
     ensures newer { (pruned clock : ℕ) (noted : Changes) (changes : List Change) (note : NewestChange) (keys : List Key) (key : Key) → IsRecent pruned noted changes → AreChanges changes clock
         → is_one_of keys key ≡ false → ForSome (finite.get (noted_by note noted keys) key) (λ other. other.commit < clock + 1) }
 {}

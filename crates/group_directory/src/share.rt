@@ -116,6 +116,7 @@ fn share_listed(alloc: Global, groups: &mut [Group]) -> Result<Items<(u64, Group
     ensures fitting { IfOk result (All (λ part. IsFitting part.1)) }
 {
     let mut parts = Items::new(alloc);
+    parts.reserve(groups.len())?;
     for group in groups.iter_mut() {
         add_share(alloc, group, &mut parts)?;
     }

@@ -1,4 +1,4 @@
-use Rattle.group_directory.proofs.RecentLaws.{recent_none, recent_new, recent_pruned, noted_newer}
+use Rattle.group_directory.proofs.RecentLaws.{recent_none, recent_new, recent_pruned, recent_clear, noted_newer}
 use Rattle.group_directory.proofs.laws.newest_changes_agree.Goals as goal
 
 pub returns-clause-new : goal.returns-clause-new
@@ -9,6 +9,9 @@ returns-clause-commit c = λ pruned clock txn noted changes own j. recent_new pr
 
 pub returns-clause-prune : goal.returns-clause-prune
 returns-clause-prune c = λ pruned at noted left changes j. recent_pruned pruned noted changes j at left
+
+pub returns-clause-clear : goal.returns-clause-clear
+returns-clause-clear c = recent_clear
 
 pub returns-clause-newer : goal.returns-clause-newer
 returns-clause-newer c = λ pruned clock noted changes note keys key j. noted_newer pruned noted changes j clock note keys key
