@@ -34,9 +34,11 @@ fn kept_number(column: &Column, number: i64) -> Option<i64>
     }
 }
 
-/// The cell that a column keeps over a number of a series, of an expression or of NULL where there is none. None where this way
-/// does not compute it, or the column does not keep it.
-fn kept_over(column: &Column, expr: Option<&Expr>, number: i64) -> Option<Option<i64>>
+/// The cell that a column keeps over a number of a series, of an expression or of NULL where there is none: a number, or NULL.
+///
+/// None says only that the cell is not found in this way: a part of the expression has no value that is a whole number of 64 bits, or
+/// the column refuses what was computed.
+pub fn series_cell(column: &Column, expr: Option<&Expr>, number: i64) -> Option<Option<i64>>
     requires { IsColumnType column.now.kind }
     ensures { IfSome result (λ cell. kept_over column.now (option_copied expr.entry) number ≡ Ok (number_cell cell)) }
 {
@@ -61,7 +63,7 @@ pub fn column_over(
 {
     let mut cells = Vec::with_capacity(alloc, numbers.len())?;
     for number in numbers {
-        match kept_over(column, expr, *number) {
+        match series_cell(column, expr, *number) {
             Some(cell) => cells.push(cell)?,
             None => return Ok(None),
         }

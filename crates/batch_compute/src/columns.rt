@@ -24,7 +24,7 @@ fn place_of(columns: &[usize], column: usize) -> Option<usize>
 }
 
 /// What the list of columns gives a column.
-fn given<'a>(columns: &[usize], exprs: &'a [Expr], column: usize) -> Option<&'a Expr>
+pub fn given<'a>(columns: &[usize], exprs: &'a [Expr], column: usize) -> Option<&'a Expr>
     ensures { option_copied result ≡ given columns.now exprs.now column }
 {
     match place_of(columns, column) {
@@ -34,7 +34,7 @@ fn given<'a>(columns: &[usize], exprs: &'a [Expr], column: usize) -> Option<&'a 
 }
 
 /// The expressions of the one row over a series.
-fn first_row(rows: &[Items<Expr>]) -> &[Expr]
+pub fn first_row(rows: &[Items<Expr>]) -> &[Expr]
     ensures { result.now ≡ unwrap_or (slice_get rows.now 0) [] }
 {
     match rows.first() {

@@ -7,25 +7,20 @@ use cs_base::Memory;
 use std::alloc::Global;
 
 /// How many numbers a series may have whose rows are made by columns.
-const MOST: u64 = 1 << 20;
+const MOST: u128 = 1 << 20;
 
-/// How many numbers a series has. None where they are more than `MOST`.
-fn series_len(start: i64, stop: i64) -> Option<usize>
-    ensures { IfSome result (λ count. count ≡ series_len start stop) }
+/// How many numbers a series has: at most 2^64.
+pub fn series_len(start: i64, stop: i64) -> u128
+    ensures { result ≡ series_len start stop }
 {
     if stop < start {
-        return Some(0);
+        return 0;
     }
-    let after = stop.abs_diff(start);
-    if after < MOST {
-        Some(after as usize + 1)
-    } else {
-        None
-    }
+    stop.abs_diff(start) as u128 + 1
 }
 
 /// The number of a series after i others.
-fn number_at(start: i64, stop: i64, i: usize) -> i64
+pub fn number_at(start: i64, stop: i64, i: u128) -> i64
     requires { i < series_len start stop }
     ensures { result ≡ start +ℤ pos i }
 {
@@ -39,11 +34,11 @@ fn number_at(start: i64, stop: i64, i: usize) -> i64
 pub fn series_numbers(alloc: Global, start: i64, stop: i64) -> Result<Option<Vec<i64>>, Memory>
     ensures { IfOk result (λ found. IfSome found (λ numbers. numbers.items ≡ series (start, stop))) }
 {
-    let count = match series_len(start, stop) {
-        Some(count) => count,
-        None => return Ok(None),
-    };
-    let mut numbers = Vec::with_capacity(alloc, count)?;
+    let count = series_len(start, stop);
+    if count > MOST {
+        return Ok(None);
+    }
+    let mut numbers = Vec::with_capacity(alloc, count as usize)?;
     for i in 0..count {
         numbers.push(number_at(start, stop, i))?;
     }

@@ -7,7 +7,8 @@
 //! are found by their keys, in delta stores and packed groups alike; and where it says no more than that, rows of a store and codes of a
 //! packed group are tallied without a verdict. No row of a delta store that has the table's columns is copied to be read. It depends on
 //! `group_view`, `delta_store` and `write_set` for what is read, on `batch_scan` and `batch_filter` for what of a packed group is
-//! read and kept, on `cs_predicate` for expressions, and on `batch_aggregate` and `code_tallies` for answers.
+//! read and kept, on `cs_predicate` for expressions and on `batch_compute` for those over a series that it has quickly, and on
+//! `batch_aggregate` and `code_tallies` for answers.
 #![tactic(auto)]
 
 mod adding;

@@ -1,40 +1,25 @@
 //! The rows that an INSERT writes.
 
-ghost use Rattle.std.specs.Prelude.{◌≡◌, ◌<◌, ◌==◌, pos, ◌+◌, ◌+ℤ◌, length, [], ◌∷◌, slice_get, unwrap_or};
-ghost use Rattle.std.specs.List.{position_from};
+ghost use Rattle.std.specs.Prelude.{◌≡◌, ◌<◌, ◌+◌, length, [], ◌∷◌};
 ghost use Rattle.std.specs.Option.{option_copied};
 ghost use Rattle.cs_types.specs.Kinds.{IsColumnType};
+ghost use Rattle.cs_types.specs.Rows.{cell_at, IsNumber};
 ghost use Rattle.cs_types.specs.Schemas.{IsSchema};
 ghost use Rattle.cs_model.specs.Expressions.{Computed, Gives};
-ghost use Rattle.cs_model.specs.Answers.{kept, computed_of, given, inserted_row, edits_by, rows_from, series_len, series, inserted};
+ghost use Rattle.cs_model.specs.Answers.{kept, computed_of, inserted_row, edits_by, rows_from, series, inserted};
 ghost use Rattle.cs_model.specs.Series.{series_schema};
+ghost use Rattle.batch_compute.specs.Columns.{kept_over};
 ghost use Rattle.row_work.specs.Gives.{GivesCell, GivesEdits, GivesRow, GivesRows};
-ghost use Rattle.row_work.specs.Inserts.{inserted_write};
+ghost use Rattle.row_work.specs.Inserts.{inserted_write, write_of};
 
 use crate::refusal::WriteRefusal;
-use cs_base::{Items, Memory};
+use batch_compute::{first_row, given, number_at, series_cell, series_len};
+use cs_base::Items;
 use cs_model::{Expr, ExprRefusal, InsertPlan, series_schema};
 use cs_predicate::compute;
 use cs_types::{Column, Loose, Row, Schema, Value, fits, key_of};
 use std::alloc::Global;
 use write_set::Write;
-
-/// The place of a column in the list of columns.
-fn place_of(columns: &[usize], column: usize) -> Option<usize>
-    ensures { result ≡ position_from (λ other. other == column) 0 columns.now }
-{
-    columns.iter().position(|other| *other == column)
-}
-
-/// What the list of columns gives a column.
-fn given<'a>(columns: &[usize], exprs: &'a [Expr], column: usize) -> Option<&'a Expr>
-    ensures { option_copied result ≡ given columns.now exprs.now column }
-{
-    match place_of(columns, column) {
-        Some(at) => exprs.get(at),
-        None => None,
-    }
-}
 
 /// What was computed for a column over a row of the source: NULL where it is given nothing.
 fn computed(source: &Schema, read: &Row, expr: Option<&Expr>) -> Result<Loose, ExprRefusal>
@@ -72,51 +57,40 @@ pub fn kept(
     })
 }
 
-/// The row of these expressions, column by column, over a row of the source.
-fn inserted_row(
+/// The write of a row at its key. Whether it replaces a row is not known yet.
+fn write_of(schema: &Schema, cells: Row) -> Write
+    requires { IsNumber (cell_at cells schema.now.key) }
+    ensures { result ≡ write_of schema.now cells }
+{
+    Write {
+        key: key_of(schema, &cells),
+        row: Some(cells),
+        replaces: false,
+    }
+}
+
+/// A row of VALUES, column by column, which reads nothing.
+fn values_row(
     alloc: Global,
     schema: &Schema,
-    source: &Schema,
     columns: &[usize],
-    read: &Row,
     row: u64,
     exprs: &[Expr],
 ) -> Result<Row, WriteRefusal>
     requires { IsSchema schema.now }
-    ensures { GivesRow row (inserted_row schema.now source.now columns.now read.now exprs.now) result }
+    ensures { GivesRow row (inserted_row schema.now schema.now columns.now [] exprs.now) result }
 {
+    let none = Row::new(alloc);
     let mut cells = Row::new(alloc);
     for (i, column) in schema.columns.as_slice().iter().enumerate() {
-        let computed = computed(source, read, given(columns, exprs, i));
+        let computed = computed(schema, &none, given(columns, exprs, i));
         let value = kept(column, row, i, computed)?;
         cells.push(value)?;
     }
     Ok(cells)
 }
 
-/// The write of the row of these expressions at its key. Whether it replaces a row is not known yet.
-fn inserted_write(
-    alloc: Global,
-    schema: &Schema,
-    source: &Schema,
-    columns: &[usize],
-    read: &Row,
-    row: u64,
-    exprs: &[Expr],
-) -> Result<Write, WriteRefusal>
-    requires { IsSchema schema.now }
-    ensures { GivesRow row (inserted_write schema.now source.now columns.now read.now exprs.now) result }
-{
-    let cells = inserted_row(alloc, schema, source, columns, read, row, exprs)?;
-    let key = key_of(schema, &cells);
-    Ok(Write {
-        key,
-        row: Some(cells),
-        replaces: false,
-    })
-}
-
-/// The write of a row of VALUES, which reads nothing.
+/// The write of a row of VALUES.
 fn values_write(
     alloc: Global,
     schema: &Schema,
@@ -127,8 +101,8 @@ fn values_write(
     requires { IsSchema schema.now }
     ensures { GivesRow row (inserted_write schema.now schema.now columns.now [] exprs.now) result }
 {
-    let none = Row::new(alloc);
-    inserted_write(alloc, schema, schema, columns, &none, row, exprs)
+    let cells = values_row(alloc, schema, columns, row, exprs)?;
+    Ok(write_of(schema, cells))
 }
 
 /// The writes of the rows of VALUES.
@@ -150,7 +124,57 @@ fn values_writes(
     Ok(written)
 }
 
-/// The write of a row over a number of a series.
+/// The value that a column keeps of what it is given over a number of a series. Where it is the quick arithmetic of whole numbers,
+/// no row is made of the number.
+fn series_value(
+    alloc: Global,
+    source: &Schema,
+    column: &Column,
+    number: i64,
+    row: u64,
+    i: usize,
+    expr: Option<&Expr>,
+) -> Result<Value, WriteRefusal>
+    requires kind { IsColumnType column.now.kind }
+    requires few { i < 32 }
+    requires source { source.now ≡ series_schema }
+    ensures { GivesCell row i (kept_over column.now (option_copied expr.entry) number) result }
+{
+    match series_cell(column, expr, number) {
+        Some(Some(value)) => Ok(Value::Number(value)),
+        Some(None) => Ok(Value::Null),
+        None => {
+            let mut read = Row::new(alloc);
+            read.push(Value::Number(number))?;
+            kept(column, row, i, computed(source, &read, expr))
+        }
+    }
+}
+
+/// The row over a number of a series, column by column.
+fn series_row(
+    alloc: Global,
+    schema: &Schema,
+    source: &Schema,
+    columns: &[usize],
+    number: i64,
+    row: u64,
+    exprs: &[Expr],
+) -> Result<Row, WriteRefusal>
+    requires schema { IsSchema schema.now }
+    requires source { source.now ≡ series_schema }
+    ensures { GivesRow row (inserted_row schema.now series_schema columns.now (Value.Number number ∷ []) exprs.now) result }
+{
+    let mut cells = Row::new(alloc);
+    for (i, column) in schema.columns.as_slice().iter().enumerate() {
+        let expr = given(columns, exprs, i);
+        let value = series_value(alloc, source, column, number, row, i, expr)?;
+        cells.push(value)?;
+    }
+    Ok(cells)
+}
+
+/// The write of the row over a number of a series.
 fn series_write(
     alloc: Global,
     schema: &Schema,
@@ -160,33 +184,12 @@ fn series_write(
     row: u64,
     exprs: &[Expr],
 ) -> Result<Write, WriteRefusal>
-    requires { IsSchema schema.now }
-    ensures { GivesRow row (inserted_write schema.now source.now columns.now (Value.Number number ∷ []) exprs.now) result }
+    requires schema { IsSchema schema.now }
+    requires source { source.now ≡ series_schema }
+    ensures { GivesRow row (inserted_write schema.now series_schema columns.now (Value.Number number ∷ []) exprs.now) result }
 {
-    let mut read = Row::new(alloc);
-    read.push(Value::Number(number))?;
-    inserted_write(alloc, schema, source, columns, &read, row, exprs)
-}
-
-/// How many numbers a series has: at most 2^64.
-fn series_len(start: i64, stop: i64) -> u128
-    ensures { result ≡ series_len start stop }
-{
-    if stop < start {
-        return 0;
-    }
-    stop.abs_diff(start) as u128 + 1
-}
-
-/// The number of a series after i others.
-fn number_at(start: i64, stop: i64, i: u128) -> i64
-    requires { i < series_len start stop }
-    ensures { result ≡ start +ℤ pos i }
-{
-    match i64::try_from(start as i128 + i as i128) {
-        Ok(number) => number,
-        Err(_) => unreachable!(),
-    }
+    let cells = series_row(alloc, schema, source, columns, number, row, exprs)?;
+    Ok(write_of(schema, cells))
 }
 
 /// The number of the row after these, counted from 1.
@@ -227,16 +230,6 @@ fn series_writes(
         written.push(row)?;
     }
     Ok(written)
-}
-
-/// The expressions of the one row over a series.
-fn first_row(rows: &[Items<Expr>]) -> &[Expr]
-    ensures { result.now ≡ unwrap_or (slice_get rows.now 0) [] }
-{
-    match rows.first() {
-        Some(exprs) => exprs.as_slice(),
-        None => &[],
-    }
 }
 
 /// The writes of the rows of an INSERT, each at the row's key, in the order of the rows: each value computed and fitted, row by row

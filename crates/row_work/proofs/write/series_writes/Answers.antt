@@ -1,4 +1,4 @@
-use Rattle.std.proofs.Common.{rules, ℤ, ◌≡◌, ◌∙◌, ◌+◌, [], ◌∷◌, length, subst, sym, ap, w64, to_z, of_z, FitsSigned}
+use Rattle.std.proofs.Common.{rules, ℤ, ◌≡◌, ◌∙◌, ◌+◌, [], ◌∷◌, length, subst, ap, w64, to_z, of_z, FitsSigned}
 use Rattle.std.specs.Prelude.{Ok, Err}
 use Rattle.std.proofs.lemmas.Int.{to_z-of_z}
 use Rattle.std.proofs.lemmas.List.{length_push}
@@ -24,8 +24,7 @@ returns-in_err-row c =
     let refusal = c.in_err-row.field-0.0 in
     let here : c.next_row-place.result ≡ c.loop-i.i + 1 = c.next_row-place.ensures ∙ ap (λ rows. length rows + 1) c.as_slice.ensures ∙ ap (λ n. n + 1) c.loop-i.invariant.count in
     let refuses : RefusesRow (c.loop-i.i + 1) (row x) refusal =
-    subst (λ n. RefusesRow n (row x) refusal) here
-    (subst (λ source. RefusesRow c.next_row-place.result (inserted_write schema source columns (Number x ∷ []) exprs) refusal) c.in_ok-source.ensures c.in_err-row.ensures) in
+    subst (λ n. RefusesRow n (row x) refusal) here c.in_err-row.ensures in
     let whole : GivesRows (rows_from row 1 (series (start, stop))) (Err refusal) =
     series_refused row start stop c.series_len-count.result c.series_len-count.ensures c.loop-i.written c.loop-i.i x refusal c.loop-i-test.true is refuses c.loop-i.invariant.gives in
     let gives : GivesRows (rows_from row 1 (series (c.args.start, c.args.stop))) (Err refusal) =
@@ -43,7 +42,7 @@ loop-i-preserved c =
     let fits : FitsSigned w64 c.number_at-number.result = search rules in
     let x = to_z w64 (of_z w64 c.number_at-number.result) in
     let is = to_z-of_z w64 c.number_at-number.result fits ∙ c.number_at-number.ensures in
-    let gives : row x ≡ Ok c.in_ok-row.row = ap (λ source. inserted_write schema source columns (Number x ∷ []) exprs) (sym c.in_ok-source.ensures) ∙ c.in_ok-row.ensures in
+    let gives : row x ≡ Ok c.in_ok-row.row = c.in_ok-row.ensures in
     record {
       gives = series_more row start stop c.series_len-count.result c.series_len-count.ensures c.loop-i.written _ c.loop-i.i x c.in_ok-row.row c.loop-i-test.true is gives c.in_ok-push.ensures.ok c.loop-i.invariant.gives;
       count = ap length c.in_ok-push.ensures.ok ∙ length_push c.loop-i.written c.in_ok-row.row ∙ ap (λ n. n + 1) c.loop-i.invariant.count;

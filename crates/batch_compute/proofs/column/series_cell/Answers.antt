@@ -8,7 +8,7 @@ use Rattle.cs_model.specs.Answers.{kept}
 use Rattle.cs_model.specs.Expressions.{compute}
 use Rattle.cs_model.specs.Series.{series_schema}
 use Rattle.batch_compute.specs.Columns.{kept_over}
-use Rattle.batch_compute.proofs.column.kept_over.Goals as goal
+use Rattle.batch_compute.proofs.column.series_cell.Goals as goal
 
 -- what is computed is kept
 kept_of : (column : Column) (expr : Expr) (number value cell : ℤ) → compute expr (Number number ∷ []) series_schema ≡ Ok (loose.Number value 0)
