@@ -18,7 +18,7 @@ use Rattle.cs_model.specs.declared.plan.Item.{Item}
 use Rattle.cs_model.specs.declared.plan.Item.TheVariants as item
 use Rattle.cs_model.specs.declared.plan.Query.{Query}
 use Rattle.cs_model.specs.Cells.{loose_in}
-use Rattle.cs_model.specs.Queries.{keeps, kept, row_order, group_order, group_row, values_from, rows_from, grouped_answer, plain_answer, answer}
+use Rattle.cs_model.specs.Queries.{keeps, kept, row_order, group_order, group_row, values_from, answer_rows, grouped_answer, plain_answer, answer}
 use Rattle.cs_model.specs.Groups.{Group, same_cells, each_once, gathered, groups_of, place_of}
 use Rattle.cs_model.specs.Items.{present, sum_of, count_of, of_sum_in, sum_in, average_in, group_item, row_item}
 use Rattle.cs_model.specs.Order.{row_cmp, comes_before, in_order}
@@ -131,18 +131,18 @@ module _ (schema : Schema) (query : Query) where
   abbrev told_before : List Value × Result (List Loose) ℕ → List Value × Result (List Loose) ℕ → Bool
   told_before s t = comes_before (group_order query) s.0 t.0
 
-  grouped_by_told : (rows : List (List Value)) → grouped_answer schema query rows ≡ rows_from 1 (map (λ t. t.1) (in_order told_before (rows_told rows)))
+  grouped_by_told : (rows : List (List Value)) → grouped_answer schema query rows ≡ answer_rows 1 (map (λ t. t.1) (in_order told_before (rows_told rows)))
   grouped_by_told rows =
       let groups_before : Group → Group → Bool = λ a b. comes_before (group_order query) a.0 b.0 in
       let groups = groups_of query.groups rows in
-      sym (ap (λ l. rows_from 1 (map (λ (t : List Value × Result (List Loose) ℕ). t.1) l)) (in_order-map (told shows) groups_before told_before (λ a b. refl) groups)
-      ∙ ap (rows_from 1) (map-map (λ (t : List Value × Result (List Loose) ℕ). t.1) (told shows) shows (λ g. refl) (in_order groups_before groups)))
+      sym (ap (λ l. answer_rows 1 (map (λ (t : List Value × Result (List Loose) ℕ). t.1) l)) (in_order-map (told shows) groups_before told_before (λ a b. refl) groups)
+      ∙ ap (answer_rows 1) (map-map (λ (t : List Value × Result (List Loose) ℕ). t.1) (told shows) shows (λ g. refl) (in_order groups_before groups)))
 
   -- a query that puts rows together asks nothing of its rows
   pub grouped_answer-moved : (xs ys : List (List Value)) → IsPermutation xs ys → grouped_answer schema query xs ≡ grouped_answer schema query ys
   grouped_answer-moved xs ys moved =
       grouped_by_told xs
-      ∙ ap (λ l. rows_from 1 (map (λ (t : List Value × Result (List Loose) ℕ). t.1) l))
+      ∙ ap (λ l. answer_rows 1 (map (λ (t : List Value × Result (List Loose) ℕ). t.1) l))
       (in_order-moved told_before (before_by (group_order query) (λ t. t.0)) (rows_told xs) (rows_told ys)
       (groups-moved shows (λ cells us vs m. ap (values_from 1) (group_items-moved schema query.groups cells us vs m query.items)) query.groups xs ys moved)
       (told_tied shows query.order query.groups xs))

@@ -9,7 +9,7 @@ use Rattle.cs_types.specs.declared.Schema.{Schema}
 use Rattle.cs_types.specs.declared.Value.{Value}
 use Rattle.cs_model.specs.declared.plan.Item.{Item}
 use Rattle.cs_model.specs.declared.plan.Query.{Query}
-use Rattle.cs_model.specs.Queries.{group_order, rows_from, grouped_answer}
+use Rattle.cs_model.specs.Queries.{group_order, answer_rows, grouped_answer}
 use Rattle.cs_model.specs.Groups.{Group, cells_of, same_cells, each_once, gathered, groups_of}
 use Rattle.cs_model.specs.Order.{comes_before}
 use Rattle.answer_laws.proofs.Answered.{told_tied, map-map}
@@ -35,7 +35,7 @@ entries-moved query = groups-moved (tallied query) (λ cells xs ys moved. tallie
 
 pub bag-shown : (schema : Schema) (query : Query) (rows : List (List Value)) (entries : List Entry) → IsPermutation (entries_of query rows) entries → answer_of schema query entries ≡ grouped_answer schema query rows
 bag-shown schema query rows entries moved =
-    ap (λ l. rows_from 1 (map (entry_row schema query) l))
+    ap (λ l. answer_rows 1 (map (entry_row schema query) l))
     (sym (in_order-moved (λ a b. comes_before (group_order query) a.0 b.0) (before_by (group_order query) (λ e. e.0)) (entries_of query rows) entries moved (told_tied (tallied query) query.order query.groups rows)))
     ∙ entries-shown schema query rows
 

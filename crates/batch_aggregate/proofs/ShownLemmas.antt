@@ -5,7 +5,7 @@ use Rattle.cs_types.specs.declared.Value.{Value}
 use Rattle.cs_model.specs.declared.plan.Item.{Item}
 use Rattle.cs_model.specs.declared.plan.Item.TheVariants as item
 use Rattle.cs_model.specs.declared.plan.Query.{Query}
-use Rattle.cs_model.specs.Queries.{group_order, group_row, rows_from, values_from, grouped_answer}
+use Rattle.cs_model.specs.Queries.{group_order, group_row, answer_rows, values_from, grouped_answer}
 use Rattle.cs_model.specs.Groups.{Group, groups_of}
 use Rattle.cs_model.specs.Items.{group_item}
 use Rattle.cs_model.specs.Order.{in_order, comes_before}
@@ -40,5 +40,5 @@ pub entries-shown : (schema : Schema) (query : Query) (rows : List (List Value))
 entries-shown schema query rows =
     let less : Group → Group → Bool = λ a b. comes_before (group_order query) a.0 b.0 in
     let below : Entry → Entry → Bool = λ a b. comes_before (group_order query) a.0 b.0 in
-    ap (λ es. rows_from 1 (map (entry_row schema query) es)) (in_order-map (entry_of query.items) less below (λ a b. refl) (groups_of query.groups rows))
-    ∙ ap (rows_from 1) (rows-shown schema query (in_order less (groups_of query.groups rows)))
+    ap (λ es. answer_rows 1 (map (entry_row schema query) es)) (in_order-map (entry_of query.items) less below (λ a b. refl) (groups_of query.groups rows))
+    ∙ ap (answer_rows 1) (rows-shown schema query (in_order less (groups_of query.groups rows)))

@@ -8,7 +8,7 @@ use Rattle.cs_model.specs.declared.plan.Query.{Query}
 use Rattle.cs_model.specs.declared.answer_refusal.AnswerRefusal.{AnswerRefusal}
 use Rattle.cs_model.specs.declared.answer_refusal.AnswerRefusal.TheVariants.{Overflow, Memory}
 use Rattle.cs_model.specs.Order.{comes_before, in_order}
-use Rattle.cs_model.specs.Queries.{kept, values_from, rows_from, group_order}
+use Rattle.cs_model.specs.Queries.{kept, values_from, answer_rows, group_order}
 use Rattle.cs_model.specs.Groups.{Group, groups_of, same_cells}
 use Rattle.batch_aggregate.specs.Tallies.{tally_of, all_joined, shown}
 use Rattle.batch_aggregate.specs.declared.tally.Tally.{Tally}
@@ -44,7 +44,7 @@ entry_row schema query entry = values_from 1 (map (λ pair. shown schema query.g
 
 -- the answer from entries
 abbrev pub answer_of : Schema → Query → List Entry → Result (List (List Loose)) (ℕ × ℕ)
-answer_of schema query entries = rows_from 1 (map (entry_row schema query) (in_order (λ a b. comes_before (group_order query) a.0 b.0) entries))
+answer_of schema query entries = answer_rows 1 (map (entry_row schema query) (in_order (λ a b. comes_before (group_order query) a.0 b.0) entries))
 
 -- what is there, and then what follows; a refusal stays
 abbrev pub with_front : {X E : Type 0} → List X → Result (List X) E → Result (List X) E

@@ -13,10 +13,10 @@ use Rattle.std.proofs.lemmas.Simd.{map-map}
 use Rattle.cs_types.specs.declared.Column.{Column}
 use Rattle.cs_types.specs.declared.Value.{Value}
 use Rattle.cs_types.specs.declared.Value.TheVariants.{Null}
-use Rattle.cs_types.specs.Rows.{cell_at}
+use Rattle.cs_types.specs.Rows.{cell_at, number_cell}
 use Rattle.cs_model.specs.declared.expr.Expr.{Expr}
 use Rattle.cs_model.specs.Answers.{cell_onto, cells_from, given, row_onto, rows_from}
-use Rattle.batch_compute.specs.Columns.{number_cell, kept_over, KeepsOver, GivesColumns}
+use Rattle.batch_compute.specs.Columns.{kept_over, KeepsOver, GivesColumns}
 
 -- ---- cells and rows, place by place
 

@@ -1,20 +1,15 @@
 -- The columns of rows whose cells are numbers and NULLs.
-use Rattle.std.specs.Prelude.{◌≡◌, ℕ, ℤ, List, [], ◌∷◌, length, map, slice_get, All, Option, None, Some, Result, Ok}
+use Rattle.std.specs.Prelude.{◌≡◌, ℕ, ℤ, List, [], ◌∷◌, length, map, slice_get, All, Option, Some, Result, Ok}
 use Rattle.std.specs.declared.alloc.Global.{Global}
 use Rattle.std.specs.declared.vec.Vec.{Vec}
 use Rattle.cs_types.specs.declared.Column.{Column}
 use Rattle.cs_types.specs.declared.Value.{Value}
-use Rattle.cs_types.specs.declared.Value.TheVariants.{Null, Number}
-use Rattle.cs_types.specs.Rows.{cell_at}
+use Rattle.cs_types.specs.declared.Value.TheVariants.{Number}
+use Rattle.cs_types.specs.Rows.{cell_at, number_cell}
 use Rattle.cs_model.specs.declared.entry.Refusal.{Refusal}
 use Rattle.cs_model.specs.declared.expr.Expr.{Expr}
 use Rattle.cs_model.specs.Answers.{computed_of, kept}
 use Rattle.cs_model.specs.Series.{series_schema}
-
--- the cell that a number or NULL is
-abbrev pub number_cell : Option ℤ → Value
-number_cell None = Null
-number_cell (Some number) = Number number
 
 -- what a column keeps of what it is given over a number of a series
 abbrev pub kept_over : Column → Option Expr → ℤ → Result Value ℕ

@@ -6,7 +6,8 @@ ghost use Rattle.cs_types.specs.Kinds.{IsColumnType};
 ghost use Rattle.cs_types.specs.declared.Loose.TheVariants as loose;
 ghost use Rattle.cs_types.specs.declared.Value.TheVariants as cells;
 ghost use Rattle.cs_model.specs.Answers.{kept};
-ghost use Rattle.batch_compute.specs.Columns.{kept_over, number_cell, KeepsOver};
+ghost use Rattle.batch_compute.specs.Columns.{kept_over, KeepsOver};
+ghost use Rattle.cs_types.specs.Rows.{number_cell};
 
 use crate::value::value;
 use cs_base::Memory;

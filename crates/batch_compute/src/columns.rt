@@ -67,6 +67,9 @@ fn columns_over(
 /// The columns of the rows that an INSERT writes over a series, in the order of the schema's columns: of each the numbers and NULLs,
 /// row by row. Of these rows no value is refused.
 ///
+/// The rows are those of `inserted` (Microsoft's page on INSERT: each value by its column's type, and NULL in a column that is not
+/// named).
+///
 /// None says only that the rows are not made in this way: the plan has no series, or one of more than 2^20 numbers, or not each value
 /// is a whole number of 64 bits, computed from such numbers, or NULL as it stands, and one that its column keeps. `Memory` where there
 /// is no room for the columns.

@@ -18,7 +18,8 @@ use Rattle.segment_dict.specs.declared.Dict.TheVariants.{Numbers, Texts}
 use Rattle.column_segment.specs.declared.body.SegmentBody.{SegmentBody}
 use Rattle.column_segment.specs.declared.body.SegmentBody.TheVariants.{ValuePacked, ValueRuns, DictPacked, DictRuns}
 use Rattle.column_segment.specs.Bodies.{IsKnown, cell_of_code}
-use Rattle.column_segment.specs.Cells.{number_cell, text_cell}
+use Rattle.column_segment.specs.Cells.{text_cell}
+use Rattle.cs_types.specs.Rows.{number_cell}
 use Rattle.column_segment.specs.Dicts.{dict_cell}
 use Rattle.batch_filter.specs.Codes.{AreCodes, IsEdge, is_past, order_at, place}
 use Rattle.batch_filter.proofs.OrderLemmas.{are_alike, rises, order_rises}

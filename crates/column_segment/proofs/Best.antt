@@ -14,7 +14,8 @@ use Rattle.cs_types.specs.declared.Value.TheVariants.{Null}
 use Rattle.column_segment.specs.declared.body.SegmentBody.{SegmentBody}
 use Rattle.column_segment.specs.declared.body.SegmentBody.TheVariants.{ValuePacked, ValueRuns, DictPacked, DictRuns}
 use Rattle.column_segment.specs.declared.choice.Costs.{Costs}
-use Rattle.column_segment.specs.Cells.{number_of, number_cell, HasNoText, HasText}
+use Rattle.column_segment.specs.Cells.{number_of, HasNoText, HasText}
+use Rattle.cs_types.specs.Rows.{number_cell}
 use Rattle.column_segment.specs.Layouts.{ArePacked, IsLeastWidth, MatchNeighbours, runs_below}
 use Rattle.column_segment.specs.Dicts.{IsDictFor, AreDictCodes, dict_words}
 use Rattle.column_segment.specs.Bodies.{Codings, Keeps, IsBest, words_in, rank_of}

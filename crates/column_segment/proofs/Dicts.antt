@@ -16,7 +16,8 @@ use Rattle.segment_dict.specs.Dictionaries.{HasCell, cell_of, codes_of}
 use Rattle.segment_dict.specs.Texts.{texts_in}
 use Rattle.segment_dict.proofs.Orders.{text_order}
 use Rattle.segment_dict.proofs.TextLemmas.{length-texts_from}
-use Rattle.column_segment.specs.Cells.{number_of, number_cell, text_of, text_cell, HasText, HasNoText, HasNoNumber, IsLeastCell, IsGreatestCell}
+use Rattle.column_segment.specs.Cells.{number_of, text_of, text_cell, HasText, HasNoText, HasNoNumber, IsLeastCell, IsGreatestCell}
+use Rattle.cs_types.specs.Rows.{number_cell}
 use Rattle.column_segment.specs.Layouts.{IsLeastWidth, MatchNeighbours}
 use Rattle.column_segment.specs.Dicts.{IsDictFor, IsDictCode, AreDictCodes, HasEntry, HasNumbers, AreNumberCodes, dict_cell, dict_codes, dict_nulls}
 use Rattle.column_segment.proofs.Entries.{AreCells, code-injective, has-cell, code-exists, last-cell, bound-cell, no-cell}

@@ -9,7 +9,7 @@ use Rattle.std.proofs.lemmas.List.{get_or_default}
 use Rattle.std.proofs.lemmas.List.Elements.{All-contains}
 use Rattle.cs_types.specs.declared.Value.{Value}
 use Rattle.cs_types.specs.declared.Value.TheVariants.{Null, Number, Text}
-use Rattle.cs_types.specs.Rows.{number_in}
+use Rattle.cs_types.specs.Rows.{number_in, number_cell}
 use Rattle.cs_types.specs.Values.{value_cmp}
 use Rattle.segment_value.specs.declared.Scale.{Scale}
 use Rattle.segment_value.specs.Scales.{numbers_in, Takes, IsCode, code_of}
@@ -17,7 +17,7 @@ use Rattle.segment_value.proofs.Codes.{base_fits, cell_of-code_of, IsCode-below}
 use Rattle.segment_value.proofs.Exponents.{IsExponent-most}
 use Rattle.column_segment.specs.declared.body.SegmentBody.{SegmentBody}
 use Rattle.column_segment.specs.declared.body.SegmentBody.TheVariants.{ValuePacked, ValueRuns, DictPacked, DictRuns}
-use Rattle.column_segment.specs.Cells.{number_of, number_cell, IsGreatestCell}
+use Rattle.column_segment.specs.Cells.{number_of, IsGreatestCell}
 use Rattle.segment_dict.specs.declared.Dict.{Dict}
 use Rattle.column_segment.specs.Dicts.{IsDictFor, dict_cell, dict_codes}
 use Rattle.column_segment.specs.Bodies.{Codings, Keeps, IsKnown, code_in, cell_of_code}

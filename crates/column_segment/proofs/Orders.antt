@@ -26,7 +26,8 @@ use Rattle.segment_dict.specs.Dictionaries.{Ascends, cell_of, codes_of}
 use Rattle.segment_dict.specs.Texts.{texts_in}
 use Rattle.column_segment.specs.declared.body.SegmentBody.{SegmentBody}
 use Rattle.column_segment.specs.declared.body.SegmentBody.TheVariants.{ValuePacked, ValueRuns, DictPacked, DictRuns}
-use Rattle.column_segment.specs.Cells.{number_cell, is_below}
+use Rattle.column_segment.specs.Cells.{is_below}
+use Rattle.cs_types.specs.Rows.{number_cell}
 use Rattle.column_segment.specs.Dicts.{dict_cell, dict_codes}
 use Rattle.column_segment.specs.Bodies.{IsKnown, cell_of_code}
 use Rattle.column_segment.proofs.Dicts.{are-numbers, are-texts}

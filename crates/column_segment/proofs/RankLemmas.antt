@@ -11,11 +11,11 @@ use Rattle.std.proofs.lemmas.List.{get_or_default, get_or-drop, get_or-map, leng
 use Rattle.std.proofs.lemmas.Option.{slice_get-get_or, slice_get_within, get_or_from_slice_get, unwrap_or-slice_get}
 use Rattle.cs_types.specs.declared.Value.{Value}
 use Rattle.cs_types.specs.declared.Value.TheVariants.{Null, Number, Text}
-use Rattle.cs_types.specs.Rows.{cell_at, number_in}
+use Rattle.cs_types.specs.Rows.{cell_at, number_in, number_cell}
 use Rattle.cs_types.specs.Values.{value_cmp}
 use Rattle.segment_dict.specs.Dictionaries.{IsDictOf, cell_of, codes_of}
 use Rattle.segment_dict.proofs.Orders.{same_int, same_text}
-use Rattle.column_segment.specs.Cells.{text_of, text_cell, number_of, number_cell, HasText}
+use Rattle.column_segment.specs.Cells.{text_of, text_cell, number_of, HasText}
 use Rattle.column_segment.specs.Ranks.{AreAllBelow, AreCellRanks, AreRankPlaces, text_in}
 use Rattle.column_segment.proofs.Entries.{cell_of-null, cell_of-entry, one_at_most, value_at}
 use Rattle.segment_dict.proofs.Entries.{Contains-place}

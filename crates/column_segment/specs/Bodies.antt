@@ -10,7 +10,8 @@ use Rattle.cs_types.specs.declared.Encoding.{Encoding}
 use Rattle.cs_types.specs.declared.Encoding.TheVariants as encoding
 use Rattle.column_segment.specs.declared.body.SegmentBody.{SegmentBody}
 use Rattle.column_segment.specs.declared.body.SegmentBody.TheVariants.{ValuePacked, ValueRuns, DictPacked, DictRuns}
-use Rattle.column_segment.specs.Cells.{number_of, number_cell, HasNoText, HasText}
+use Rattle.column_segment.specs.Cells.{number_of, HasNoText, HasText}
+use Rattle.cs_types.specs.Rows.{number_cell}
 use Rattle.column_segment.specs.Layouts.{ArePacked, code_in_runs}
 use Rattle.column_segment.specs.Dicts.{IsDictFor, AreDictCodes, dict_cell, dict_codes, dict_words}
 

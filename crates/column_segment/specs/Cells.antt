@@ -14,15 +14,11 @@ seen shown.Null = Null
 seen (shown.Number n) = Number n
 seen (shown.Text text) = Text text.now
 
--- a cell as a number, and back; a text is none
+-- a cell as a number; a text is none
 abbrev pub number_of : Value → Option ℤ
 number_of Null = None
 number_of (Number n) = Some n
 number_of (Text t) = None
-
-abbrev pub number_cell : Option ℤ → Value
-number_cell None = Null
-number_cell (Some n) = Number n
 
 -- a cell as a text, and back; a number is none
 abbrev pub text_of : Value → Option (List ℕ)

@@ -7,7 +7,8 @@ use Rattle.segment_dict.specs.declared.Dict.TheVariants.{Numbers, Texts}
 use Rattle.segment_dict.specs.Dictionaries.{IsDictOf, HasCell, AreCodesOf, codes_of, cell_of}
 use Rattle.segment_dict.specs.Texts.{texts_in}
 use Rattle.cs_types.specs.declared.Value.{Value}
-use Rattle.column_segment.specs.Cells.{number_of, number_cell, text_of, text_cell, HasNoText, HasNoNumber, HasText}
+use Rattle.column_segment.specs.Cells.{number_of, text_of, text_cell, HasNoText, HasNoNumber, HasText}
+use Rattle.cs_types.specs.Rows.{number_cell}
 
 -- the dictionary is that of the cells: of texts where a cell is one
 abbrev pub IsDictFor : List Value → Dict → Type 0

@@ -1,10 +1,10 @@
 ghost use Rattle.std.specs.Prelude.{◌≡◌, map, All, IfOk, IsTrue};
 ghost use Rattle.std.specs.Bool.{OnTrue, OnFalse};
 ghost use Rattle.std.specs.Option.{option_copied, is_some};
-ghost use Rattle.cs_types.specs.Rows.{number_in};
+ghost use Rattle.cs_types.specs.Rows.{number_in, number_cell};
 ghost use Rattle.cs_types.specs.Kinds.{is_of_type};
 ghost use Rattle.cs_types.specs.Values.{value_cmp};
-ghost use Rattle.column_segment.specs.Cells.{seen, is_below, number_of, number_cell, text_of, HasText, HasNoText, HasNoNumber};
+ghost use Rattle.column_segment.specs.Cells.{seen, is_below, number_of, text_of, HasText, HasNoText, HasNoNumber};
 
 use cs_base::{Items, Memory};
 use cs_types::{ColumnType, Value, compare};

@@ -1,9 +1,9 @@
 ghost use Rattle.std.specs.Prelude.{◌≡◌, ◌<◌, ℕ, List, All, map, length, IfOk, IsTrue, ◌↔◌, slice_get, slice_index, slice_index_or, Some};
 ghost use Rattle.cs_types.specs.declared.Value.TheVariants.{Null};
 ghost use Rattle.cs_types.specs.Kinds.{is_of_type};
-ghost use Rattle.cs_types.specs.Rows.{cell_at, number_in};
+ghost use Rattle.cs_types.specs.Rows.{cell_at, number_in, number_cell};
 ghost use Rattle.column_segment.specs.Bodies.{cell_in};
-ghost use Rattle.column_segment.specs.Cells.{seen, number_cell, HasText, HasNoNumber};
+ghost use Rattle.column_segment.specs.Cells.{seen, HasText, HasNoNumber};
 ghost use Rattle.column_segment.specs.Dicts.{IsDictFor, AreDictCodes};
 ghost use Rattle.column_segment.specs.Ranks.{AreAllBelow, AreCellRanks, AreMovedRanks, AreRankPlaces, ArePicked, text_in};
 ghost use Rattle.column_segment.specs.Segments.{IsSegmentOf};

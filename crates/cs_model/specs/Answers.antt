@@ -26,13 +26,14 @@ use Rattle.cs_model.specs.Changes.{Edit, Table}
 
 -- ---- cells and rows that are written
 
-abbrev pub numbered : Result Value ValueRefusal → Result Value ℕ
-numbered (Ok v) = Ok v
-numbered (Err refusal) = Err (refusal_number refusal)
+-- a value, or the number of the error for which it is refused
+abbrev pub with_number : Result Value ValueRefusal → Result Value ℕ
+with_number (Ok v) = Ok v
+with_number (Err refusal) = Err (refusal_number refusal)
 
 -- the value that a column keeps of what was computed, or the number of the error
 abbrev pub kept : Column → Computed → Result Value ℕ
-kept column (Ok x) = numbered (fit column.kind column.nullable x)
+kept column (Ok x) = with_number (fit column.kind column.nullable x)
 kept column (Err refusal) = Err (expr_number refusal)
 
 -- a cell before those after it, or its refusal with the column, counted from 1
@@ -82,7 +83,7 @@ series_len start stop = if int_lt stop start then 0 else unsigned_abs (stop -ℤ
 abbrev pub series : ℤ × ℤ → List ℤ
 series ends = map (λ i. ends.0 +ℤ pos i) (range_with_len 0 (series_len ends.0 ends.1))
 
--- the row of VALUES, which read nothing; and a row over each number of a series
+-- the rows of VALUES, which read nothing; and a row over each number of a series
 abbrev pub inserted_by : Schema → List ℕ → List (List Expr) → Option (ℤ × ℤ) → Result (List (List Value)) Refusal
 inserted_by schema columns rows None = rows_from (inserted_row schema schema columns []) 1 rows
 inserted_by schema columns rows (Some ends) =

@@ -53,15 +53,15 @@ abbrev pub group_row : Schema → Query → Group → Result (List Loose) ℕ
 group_row schema query group = values_from 1 (map (group_item schema query.groups group) query.items)
 
 -- the rows, or the first row that is refused, with its item. Rows are counted from n
-abbrev pub rows_from : ℕ → List (Result (List Loose) ℕ) → Result (List (List Loose)) (ℕ × ℕ)
-rows_from n [] = Ok []
-rows_from n (Err item ∷ rest) = Err (n, item)
-rows_from n (Ok row ∷ rest) = before row (rows_from (n + 1) rest)
+abbrev pub answer_rows : ℕ → List (Result (List Loose) ℕ) → Result (List (List Loose)) (ℕ × ℕ)
+answer_rows n [] = Ok []
+answer_rows n (Err item ∷ rest) = Err (n, item)
+answer_rows n (Ok row ∷ rest) = before row (answer_rows (n + 1) rest)
 
 -- the answer of a query that puts rows together
 abbrev pub grouped_answer : Schema → Query → List (List Value) → Result (List (List Loose)) (ℕ × ℕ)
 grouped_answer schema query rows =
-    rows_from 1 (map (group_row schema query) (in_order (λ a b. comes_before (group_order query) a.0 b.0) (groups_of query.groups rows)))
+    answer_rows 1 (map (group_row schema query) (in_order (λ a b. comes_before (group_order query) a.0 b.0) (groups_of query.groups rows)))
 
 -- the answer of a query that does not
 abbrev pub plain_answer : Schema → Query → List (List Value) → List (List Loose)

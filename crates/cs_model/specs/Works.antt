@@ -12,7 +12,17 @@ lacks_memory (work.ReleaseCompress source fresh) = true
 lacks_memory (work.ReleaseRebuild source fresh) = true
 lacks_memory (work.ReleaseMerge first second fresh) = true
 lacks_memory (work.ReleaseFlush entries) = true
-lacks_memory _ = false
+lacks_memory (work.ClaimCompress source fresh) = false
+lacks_memory (work.InstallCompress source fresh rows) = false
+lacks_memory (work.ClaimRebuild source fresh) = false
+lacks_memory (work.InstallRebuild source fresh rows) = false
+lacks_memory (work.ClaimMerge first second fresh) = false
+lacks_memory (work.InstallMerge first second fresh rows) = false
+lacks_memory (work.ClaimFlush entries) = false
+lacks_memory (work.InstallFlush entries) = false
+lacks_memory (work.Settle ends) = false
+lacks_memory (work.Clear groups) = false
+lacks_memory (work.Close group) = false
 
 -- `s<n>`
 abbrev pub session_text : ℕ → List ℕ

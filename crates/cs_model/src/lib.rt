@@ -3,7 +3,7 @@
 //! the text of a log.
 //!
 //! Its one contract: `print_log` gives exactly the text of a log. What a legal log is stands in specs/, and the laws of
-//! those definitions are proved here. It stands on `cs_types` alone: the crates that compute what is defined here stand
+//! those definitions are proved here. It stands on `cs_base` and `cs_types` alone: the crates that compute what is defined here stand
 //! above it.
 #![tactic(auto)]
 

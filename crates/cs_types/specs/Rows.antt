@@ -1,5 +1,5 @@
 -- Rows and their keys.
-use Rattle.std.specs.Prelude.{ℕ, ℤ, pos, List, slice_get, unwrap_or}
+use Rattle.std.specs.Prelude.{ℕ, ℤ, pos, List, slice_get, unwrap_or, Option, None, Some}
 use Rattle.cs_types.specs.declared.Value.{Value}
 use Rattle.cs_types.specs.declared.Value.TheVariants.{Null, Number, Text}
 use Rattle.cs_types.specs.declared.Key.{Key}
@@ -13,6 +13,11 @@ abbrev pub IsNumber : Value → Type 0
 IsNumber Null = ⊥
 IsNumber (Number n) = Unit {0}
 IsNumber (Text t) = ⊥
+
+-- the value that a number is, or NULL
+abbrev pub number_cell : Option ℤ → Value
+number_cell None = Null
+number_cell (Some n) = Number n
 
 -- the number that a value is, and 0 for one that is none
 abbrev pub number_in : Value → ℤ

@@ -1,4 +1,4 @@
-ghost use Rattle.std.specs.Prelude.{◌≡◌, ◌+◌, ℕ, [], ◌∷◌, ◌++◌, ◌<◌, ◌≤◌, ◌↔◌, length, slice_get, IfOk, OnOk, OnErr, IsTrue};
+ghost use Rattle.std.specs.Prelude.{◌≡◌, ◌+◌, ℕ, [], ◌∷◌, ◌++◌, ◌<◌, ◌≤◌, ◌↔◌, length, slice_get, slice_set, IfOk, OnOk, OnErr, IsTrue};
 ghost use Rattle.cs_types.specs.Rows.{cell_at, key_in, IsNumber};
 
 use crate::{Key, Schema, Value};
@@ -7,9 +7,9 @@ use smallvec::SmallVec;
 use std::alloc::{AllocError, Global};
 use std::cmp::Ordering;
 use std::default::MadeWith;
-use std::fmt;
 use std::hash::{Hash, Hasher};
 use std::marker::Model;
+use std::{fmt, mem};
 
 /// What stands in a row's inline places that no cell uses.
 impl MadeWith<Global> for Value {
@@ -105,6 +105,17 @@ impl Row {
     {
         self.cells.push(value)?;
         Ok(())
+    }
+
+    /// Takes out the cell of a column, in whose place NULL is left. It takes no memory.
+    pub fn take(&mut self, column: usize) -> Value
+        ensures taken { result ≡ cell_at self.old column }
+        ensures left { self.new ≡ slice_set self.old column Value.Null }
+    {
+        match self.cells.get_mut(column) {
+            Some(cell) => mem::replace(cell, Value::Null),
+            None => Value::Null,
+        }
     }
 
     /// A row equal to this one.

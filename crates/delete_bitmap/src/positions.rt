@@ -7,8 +7,8 @@ use cs_base::Memory;
 use std::alloc::Global;
 use std::marker::Model;
 
-/// A set of positions below a length. Contracts see the list of whether each position is in it. It takes no room until
-/// a position is put in, and keeps its allocator.
+/// A set of positions below a length. Contracts see the list of whether each position is in it. The empty set takes no room. It
+/// keeps its allocator.
 #[derive(Debug, Drop)]
 pub struct Positions {
     length: usize,

@@ -9,8 +9,8 @@ use delete_bitmap::Positions;
 use std::alloc::Global;
 use std::marker::Model;
 
-/// So many slots a key: where keys are scattered, one in four of those that were not added is taken for one that was.
-const SLOTS: usize = 4;
+/// So many slots a key: where keys are scattered, one in sixteen of those that were not added is taken for one that was.
+const SLOTS: usize = 16;
 
 /// A filter of keys: a slot for each key, shared with others, is marked where one of them is among those that it was made of. So
 /// a key whose slot has no mark is not, and is told so at one look. Without slots it admits every key. Contracts see the marks.

@@ -9,7 +9,7 @@ use cs_types::Key;
 use std::alloc::Global;
 use std::marker::Model;
 
-/// The most keys of a run that is searched without a filter.
+/// A run of at most so many keys is searched without a filter.
 const UNFILTERED: usize = 1024;
 
 /// A place for each key of some, in the order of keys. Contracts see the pairs of key and place, and beside them `spare`,
@@ -17,8 +17,8 @@ const UNFILTERED: usize = 1024;
 #[derive(Debug, Drop)]
 pub struct Run {
     pairs: Vec<(Key, usize)>,
-    /// The keys that it may have. A look-up of any other one ends here, and reads no pair. A run that is given places admits every
-    /// key.
+    /// The keys that it may have. A look-up of any other one ends here, and reads no pair. A run of few keys, and one that is
+    /// still given places, admits every key.
     filter: Filter,
 }
 
@@ -99,22 +99,19 @@ impl Run {
     pub fn merged(alloc: Global, newer: &Run, older: &Run) -> Result<Run, Memory>
         ensures { IfOk result (λ run. HaveSamePlaces (newer.now.pairs ++ older.now.pairs) run.pairs) }
     {
-        let run = Run::of_both(alloc, &newer.pairs, &older.pairs)?;
-        run.filtered(alloc)
+        let mut run = Run::of_both(alloc, &newer.pairs, &older.pairs)?;
+        run.add_filter(alloc)?;
+        Ok(run)
     }
 
-    /// The same pairs with a filter of their keys, where they are many.
-    fn filtered(self, alloc: Global) -> Result<Run, Memory>
-        ensures { IfOk result (λ run. run.pairs ≡ self.pairs) }
+    /// Gives a run of many keys, which is complete now, a filter of them.
+    pub fn add_filter(&mut self, alloc: Global) -> Result<(), Memory>
+        ensures { self.new.pairs ≡ self.old.pairs }
     {
-        if self.pairs.len() <= UNFILTERED {
-            return Ok(self);
+        if UNFILTERED < self.pairs.len() {
+            self.filter = Filter::of(alloc, &self.pairs)?;
         }
-        let filter = Filter::of(alloc, &self.pairs)?;
-        Ok(Run {
-            pairs: self.pairs,
-            filter,
-        })
+        Ok(())
     }
 
     /// The pairs of this run, which is a part of a newer index, with those of an older run of the keys from `least` to `greatest`.

@@ -45,8 +45,8 @@ pub fn between(
     Ok(cut)
 }
 
-/// Makes an own run the newest of the others, where it has a pair, and empty. No pair is copied. After `Memory` all is as
-/// before.
+/// Makes an own run, with its filter, the newest of the others, where it has a pair, and empty. No pair is copied. After `Memory`
+/// all pairs are as before.
 pub fn seal(runs: &mut Vec<Arc<Run>>, own: &mut Run, alloc: Global) -> Result<(), Memory>
     ensures pairs { own.new.pairs ++ pairs_of runs.new.items ≡ own.old.pairs ++ pairs_of runs.old.items }
     ensures own { OnOk result (own.new.pairs ≡ []) }
@@ -55,6 +55,7 @@ pub fn seal(runs: &mut Vec<Arc<Run>>, own: &mut Run, alloc: Global) -> Result<()
         return Ok(());
     }
     runs.reserve(1)?;
+    own.add_filter(alloc)?;
     match Arc::new(alloc, mem::replace(own, Run::new(alloc))) {
         Ok(run) => {
             runs.push_reserved(run);

@@ -26,7 +26,8 @@ use Rattle.group_book.specs.Book.End.{At}
 use Rattle.group_book.specs.Commits.{ending_cmp}
 use Rattle.group_book.specs.Turns.{is_number, holds}
 use Rattle.group_book.specs.Stocks.{AreChanges, stock_of, Stems, EndFits, next_change, is_after, is_end_of}
-use Rattle.group_book.specs.Invariant.{IsBookOf, has_key, IsSeenAt}
+use Rattle.group_book.specs.Invariant.{IsBookOf, IsSeenAt}
+use Rattle.cs_model.specs.Obstacles.{has_row}
 use Rattle.group_book.proofs.Keys.{key_is, key_itself}
 use Rattle.group_book.proofs.Lists.{All-in, both_true, how_many-append, how_many-map, how_many-none, how_many-same, weaker}
 use Rattle.group_book.proofs.Changes.{AreAscending, AreBelow, next-le}
@@ -102,11 +103,11 @@ apart_keys k x y x_is y_is less = cc (sym less ∙ ap (λ (q : Key). key_cmp x q
 
 -- ---- the table's keys
 
-key_any : (k : Key) (rows : Table) → has_key rows k ≡ list_any (same_key k) (keys_of rows)
+key_any : (k : Key) (rows : Table) → has_row rows k ≡ list_any (same_key k) (keys_of rows)
 key_any k [] = refl
 key_any k (row ∷ rows) = step (same_key k row.0) (key_any k rows)
   where
-    step : (t : Bool) → has_key rows k ≡ list_any (same_key k) (keys_of rows) → is_some (cond t (Some row.1) (lookup (is_at (key_cmp k)) rows)) ≡ (t || list_any (same_key k) (keys_of rows))
+    step : (t : Bool) → has_row rows k ≡ list_any (same_key k) (keys_of rows) → is_some (cond t (Some row.1) (lookup (is_at (key_cmp k)) rows)) ≡ (t || list_any (same_key k) (keys_of rows))
     step true rest = refl
     step false rest = rest
 
@@ -229,13 +230,13 @@ module _ (group_rows : ℕ) (book : Book) (cs : List Change) (clock floor : ℕ)
   row_one = weaker (λ (row : Key × List Value). list_any (same_key row.0) (keys_of rows) ≡ true) (λ (row : Key × List Value). how_many (shows_row row) (opened book.groups) + how_many (shows_row row) (frozen book.groups) ≡ 1) rows
       (λ row is. each_shown group_rows book cs clock floor a j clock reach row.0 ∙ ap (λ (t : Bool). cond t 1 0) (key_any row.0 rows ∙ is)) (self_any rows)
 
-  key_there : (v : Version) → IsSeenAt cs floor clock v → has_key rows v.key ≡ true
+  key_there : (v : Version) → IsSeenAt cs floor clock v → has_row rows v.key ≡ true
   key_there v seen = ap is_some (row_is cs clock v.key ∙ ap made seen.is_last) ∙ seen.row
 
   row_of : (v : Version) → (vis v ≡ true → IsSeenAt cs floor clock v) → how_many (λ (row : Key × List Value). shows_row row v) rows ≡ cond (vis v) 1 0
   row_of v seen = step (vis v) seen
     where
-      counted : how_many (λ (row : Key × List Value). same_key row.0 v.key) rows ≡ cond (has_key rows v.key) 1 0
+      counted : how_many (λ (row : Key × List Value). same_key row.0 v.key) rows ≡ cond (has_row rows v.key) 1 0
       counted =
           how_many-same (λ (row : Key × List Value). same_key row.0 v.key) (λ (row : Key × List Value). same_key v.key row.0) rows (every (λ (row : Key × List Value). same_key row.0 v.key ≡ same_key v.key row.0) (λ row. swap_key row.0 v.key) rows)
           ∙ sym (how_many-map (same_key v.key) (λ (row : Key × List Value). row.0) rows)

@@ -17,8 +17,8 @@ use Rattle.group_book.proofs.Lists.{both_true, All-in, how_many-same, how_many-n
 use Rattle.group_book.proofs.Changes.{last_at, AreAscending, last-same, last-is, last-ge, last-one, next-above, next-before}
 
 -- the change has a row
-abbrev pub has_row : Option Change → Bool
-has_row change = is_some (made change)
+abbrev pub makes_row : Option Change → Bool
+makes_row change = is_some (made change)
 
 -- the number that a test names
 pub at_is : (e : ℕ) (n : Option ℕ) → is_number e n ≡ true → n ≡ Some e
@@ -195,24 +195,24 @@ module _ (b : Stock) (cs : List Change) (floor : ℕ) (j : IsStockOf b cs floor)
       let le : v.begin ≤ s = grind (arith, nat_tests, inner.0) in
       ap (λ (q : Key). last_at cs q s) (sym key) ∙ last-same cs v.key v.begin s le inner.1 ∙ stems.is_origin
 
-  hidden_step : (k : Key) (v : Version) → Stems cs floor v → has_row (last_at cs k s) ≡ false → (t : Bool) → (same_key k v.key && (leb v.begin s && is_after s (next_change cs v.key v.begin))) ≡ t → t ≡ false
+  hidden_step : (k : Key) (v : Version) → Stems cs floor v → makes_row (last_at cs k s) ≡ false → (t : Bool) → (same_key k v.key && (leb v.begin s && is_after s (next_change cs v.key v.begin))) ≡ t → t ≡ false
   hidden_step k v stems none false is = refl
   hidden_step k v stems none true is =
       let row = rw (shown_last k v stems is, stems.row) at none in
       cc
 
-  frozen_hidden : (k : Key) → has_row (last_at cs k s) ≡ false → All (λ v. shows b.buffer k s v ≡ false) b.frozen
+  frozen_hidden : (k : Key) → makes_row (last_at cs k s) ≡ false → All (λ v. shows b.buffer k s v ≡ false) b.frozen
   frozen_hidden k none = All-in (Stems cs floor) (λ v. shows b.buffer k s v ≡ false) b.frozen (λ v in_list stems.
       ap (λ (t : Bool). same_key k v.key && (leb v.begin s && t)) (frozen_shown v (next_change cs v.key v.begin) refl (All-contains (λ (u : Version). EndFits b.buffer floor u (next_change cs u.key u.begin)) b.frozen v j.ends.frozen in_list))
       ∙ hidden_step k v stems none _ refl) j.versions.frozen
 
-  opened_hidden : (k : Key) → has_row (last_at cs k s) ≡ false → All (λ v. shows b.buffer k s v ≡ false) b.opened
+  opened_hidden : (k : Key) → makes_row (last_at cs k s) ≡ false → All (λ v. shows b.buffer k s v ≡ false) b.opened
   opened_hidden k none = All-in (Stems cs floor) (λ v. shows b.buffer k s v ≡ false) b.opened (λ v in_list stems.
       ap (λ (t : Bool). same_key k v.key && (leb v.begin s && t)) (opened_shown v (next_change cs v.key v.begin) refl (All-contains (λ (u : Version). u.end ≡ option_map At (next_change cs u.key u.begin)) b.opened v j.ends.opened in_list))
       ∙ hidden_step k v stems none _ refl) j.versions.opened
 
   -- a key that the table at s has not shows no version
-  pub shown_none : (k : Key) → has_row (last_at cs k s) ≡ false → how_many (shows b.buffer k s) b.frozen + how_many (shows b.buffer k s) b.opened ≡ 0
+  pub shown_none : (k : Key) → makes_row (last_at cs k s) ≡ false → how_many (shows b.buffer k s) b.frozen + how_many (shows b.buffer k s) b.opened ≡ 0
   shown_none k none = omega (
     arith,
     how_many-none (shows b.buffer k s) b.frozen (recursion_from_All (λ v. shows b.buffer k s v ≡ false) b.frozen (frozen_hidden k none)),

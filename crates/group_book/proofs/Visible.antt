@@ -10,11 +10,12 @@ use Rattle.cs_model.proofs.Tables.{row_is}
 use Rattle.group_book.specs.Book.{Version, Book, is_visible, shown_count, opened, frozen}
 use Rattle.group_book.specs.Book.End.{At}
 use Rattle.group_book.specs.Stocks.{AreChanges, stock_of, Stems, EndFits, next_change, is_after}
-use Rattle.group_book.specs.Invariant.{IsBookOf, has_key, IsSeenAt}
+use Rattle.group_book.specs.Invariant.{IsBookOf, IsSeenAt}
+use Rattle.cs_model.specs.Obstacles.{has_row}
 use Rattle.group_book.proofs.Keys.{key_itself}
 use Rattle.group_book.proofs.Lists.{All-in}
 use Rattle.group_book.proofs.Changes.{last_at, AreAscending, AreBelow, last-is}
-use Rattle.group_book.proofs.Shown.{has_row, shown_once, shown_none, shown_last, frozen_shown, opened_shown}
+use Rattle.group_book.proofs.Shown.{makes_row, shown_once, shown_none, shown_last, frozen_shown, opened_shown}
 
 pub ascending_of : (xs : List Change) → IsNonDecreasingBy (λ (change : Change). change.commit) xs → AreAscending xs
 ascending_of [] h = tt
@@ -27,18 +28,18 @@ module _ (group_rows : ℕ) (book : Book) (cs : List Change) (clock floor : ℕ)
   up : AreAscending cs
   up = ascending_of cs a.ascend
 
-  count_step : (k : Key) (o : Option Change) → last_at cs k s ≡ o → (t : Bool) → has_row o ≡ t → shown_count book k s ≡ cond t 1 0
+  count_step : (k : Key) (o : Option Change) → last_at cs k s ≡ o → (t : Bool) → makes_row o ≡ t → shown_count book k s ≡ cond t 1 0
   count_step k (Some x) is true row =
       let one = shown_once (stock_of book) cs floor j.stock up s reach k x is row in
       omega (arith, one)
   count_step k None is true row = absurd (cc row)
   count_step k o is false row =
-      let none = shown_none (stock_of book) cs floor j.stock up s reach k (ap has_row is ∙ row) in
+      let none = shown_none (stock_of book) cs floor j.stock up s reach k (ap makes_row is ∙ row) in
       omega (arith, none)
 
   -- each key of the table shows once, and no other does
-  pub each_shown : (k : Key) → shown_count book k s ≡ cond (has_key (table cs s) k) 1 0
-  each_shown k = count_step k (last_at cs k s) refl (has_key (table cs s) k) (ap is_some (sym (row_is cs s k)))
+  pub each_shown : (k : Key) → shown_count book k s ≡ cond (has_row (table cs s) k) 1 0
+  each_shown k = count_step k (last_at cs k s) refl (has_row (table cs s) k) (ap is_some (sym (row_is cs s k)))
 
   seen_step : (v : Version) (stems : Stems cs floor v) → (leb v.begin s && is_after s (next_change cs v.key v.begin)) ≡ true → IsSeenAt cs floor s v
   seen_step v stems is =

@@ -4,10 +4,7 @@ use Rattle.std.specs.List.{AllByRecursion, list_any}
 use Rattle.std.specs.List.Sorted.{IsNonDecreasingBy}
 use Rattle.cs_types.specs.declared.Key.{Key}
 use Rattle.cs_model.specs.declared.work.Actor.{Actor}
-use Rattle.std.specs.BTreeMap.{is_at}
-use Rattle.std.specs.Map.{lookup}
-use Rattle.cs_types.specs.Keys.{key_cmp}
-use Rattle.cs_model.specs.Changes.{Table, Change, last_change}
+use Rattle.cs_model.specs.Changes.{Change, last_change}
 use Rattle.group_book.specs.Book.{Version, Ending, Content, Group, Choice, Claim, Book, how_many, is_opened, is_closed, is_compressed, is_invisible}
 use Rattle.group_book.specs.Book.Content.{Opened, Closed, Compressed, Invisible, Tombstone}
 use Rattle.group_book.specs.Book.Choice.{Compress, Flush, Rebuild, Merge, Settle, Clear, Idle}
@@ -149,9 +146,6 @@ MayDo group_rows book floor actor Clear = Unit {0}
 MayDo group_rows book floor actor Idle = Unit {0}
 
 -- ---- what a snapshot sees, by the table
-
-abbrev pub has_key : Table → Key → Bool
-has_key table key = is_some (lookup (is_at (key_cmp key)) table)
 
 -- the version stems from the last change of its key at s, which has a row: the last one at its begin is that one too, so the
 -- version's row is the table's. Its begin is that change's number, or both are at most the floor

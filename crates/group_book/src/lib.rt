@@ -20,7 +20,7 @@ ghost use Rattle.cs_types.specs.declared.Key.{Key};
 ghost use Rattle.cs_types.specs.Keys.{key_cmp};
 ghost use Rattle.cs_model.specs.declared.work.Actor.{Actor};
 ghost use Rattle.cs_model.specs.Changes.{Edit, Change, table};
-ghost use Rattle.cs_model.specs.Obstacles.{keys_of};
+ghost use Rattle.cs_model.specs.Obstacles.{keys_of, has_row};
 ghost use Rattle.cs_model.specs.Steps.{numbered};
 ghost use Rattle.group_book.specs.Book.{Version, Group, Choice, Claim, Book, empty, opened, frozen, is_visible, shown_count, total_sum, deleted_sum};
 ghost use Rattle.group_book.specs.Book.Choice.{Flush};
@@ -29,7 +29,7 @@ ghost use Rattle.group_book.specs.Turns.{is_claimed, claim_of, claim_by, after_c
 ghost use Rattle.group_book.specs.Choices.{choice, after_choice, choice_work, flush_sources};
 ghost use Rattle.group_book.specs.States.{state_of, mover_transitions, commit_transitions, close_transitions, GroupsMoveBy};
 ghost use Rattle.group_book.specs.Stocks.{AreChanges, stock_of, IsStockOf};
-ghost use Rattle.group_book.specs.Invariant.{makes_group, IsLent, MayTake, MayClaim, MayDo, IsBookOf, has_key, IsSeenAt};
+ghost use Rattle.group_book.specs.Invariant.{makes_group, IsLent, MayTake, MayClaim, MayDo, IsBookOf, IsSeenAt};
 ghost use Rattle.group_book.specs.Orders.{IsGroupReordered, IsReordered, HasSameLine};
 
 /// A new table's book is one of no change.
@@ -47,7 +47,7 @@ pub fn floor_may_rise()
 /// is that change's number, or both are at most the floor.
 pub fn snapshots_see_their_tables()
     ensures count { (group_rows : ℕ) (book : Book) (changes : List Change) (clock floor s : ℕ) (key : Key) → AreChanges changes clock → IsBookOf group_rows book changes floor → floor ≤ s
-        → shown_count book key s ≡ (if has_key (table changes s) key then 1 else 0) }
+        → shown_count book key s ≡ (if has_row (table changes s) key then 1 else 0) }
     ensures frozen { (group_rows : ℕ) (book : Book) (changes : List Change) (clock floor s : ℕ) → AreChanges changes clock → IsBookOf group_rows book changes floor → floor ≤ s
         → All (λ (version : Version). is_visible book.buffer s version ≡ true → IsSeenAt changes floor s version) (frozen book.groups) }
     ensures opened { (group_rows : ℕ) (book : Book) (changes : List Change) (clock floor s : ℕ) → AreChanges changes clock → IsBookOf group_rows book changes floor → floor ≤ s

@@ -44,7 +44,8 @@ use Rattle.group_directory.specs.Stands.{width_in, rows_in, listed_rows, IsLoanO
 use Rattle.group_directory.specs.Laws.{rooted_at, noted_by, sizes_of, MayBeList}
 use Rattle.group_view.specs.Parcels.{keys_in, packed_keys, parcel_rows}
 use Rattle.group_directory.specs.Committing.{Origin, origin_of, origins, new_origin, rebased, packed_groups, after_parcel}
-use Rattle.group_directory.specs.Calls.{written_in, replaced_in, IsParcelFor}
+use Rattle.group_directory.specs.Calls.{replaced_in, IsParcelFor}
+use Rattle.write_set.specs.Writes.{write_keys}
 use Rattle.group_directory.proofs.KeyLaws.{keys_are, sorted_keys, replaced_are, inserted_are}
 use Rattle.group_directory.proofs.PutLemmas.{keys_up}
 use Rattle.group_directory.proofs.BookLaws.{buffer_low, live_replaced}
@@ -63,23 +64,23 @@ unfolding IsStrictlySortedBy
 keys_rise [] up = λ i j d less below. absurd (omega (arith, below))
 keys_rise (key ∷ keys) up = AllPairs-cons (λ (a b : Key). key_cmp a b ≡ Less) key keys (All-from_recursion (λ (other : Key). key_cmp key other ≡ Less) keys up.0) (keys_rise keys up.1)
 
-pub written_up : (own : List Write) → writes.Ascend own → Ascend (written_in own)
+pub written_up : (own : List Write) → writes.Ascend own → Ascend (write_keys own)
 written_up own up = subst (λ (keys : List Key). Ascend keys) (keys_are own) (keys_rise (keys_of (edits_of own)) (sorted_keys own up))
 
-some_up : (test : Write → Bool) (own : List Write) → writes.Ascend own → Ascend (written_in (filter test own))
+some_up : (test : Write → Bool) (own : List Write) → writes.Ascend own → Ascend (write_keys (filter test own))
 some_up test own up = written_up (filter test own) (AllPairs-filter (λ (a b : Write). key_cmp a.key b.key ≡ Less) test own up)
 
 pub replaced_up : (own : List Write) → writes.Ascend own → Ascend (replaced_in own)
 replaced_up own up = some_up (λ (write : Write). write.replaces) own up
 
-pub written_more : (own : List Write) (i : ℕ) (write : Write) → slice_get own i ≡ Some write → written_in (take (i + 1) own) ≡ written_in (take i own) ++ write.key ∷ []
+pub written_more : (own : List Write) (i : ℕ) (write : Write) → slice_get own i ≡ Some write → write_keys (take (i + 1) own) ≡ write_keys (take i own) ++ write.key ∷ []
 written_more own i write is =
     map_more (λ (w : Write). w.key) own i write (slice_get_within own i write is)
-    ∙ ap (λ (w : Write). written_in (take i own) ++ w.key ∷ []) (get_or_from_slice_get own i write write is)
+    ∙ ap (λ (w : Write). write_keys (take i own) ++ w.key ∷ []) (get_or_from_slice_get own i write write is)
 
 pub replaced_more : (own : List Write) (i : ℕ) (write : Write) → slice_get own i ≡ Some write → replaced_in (take (i + 1) own) ≡ replaced_in (take i own) ++ replaced_in (write ∷ [])
 replaced_more own i write is =
-    ap written_in (filter_more (λ (w : Write). w.replaces) own i write (slice_get_within own i write is))
+    ap write_keys (filter_more (λ (w : Write). w.replaces) own i write (slice_get_within own i write is))
     ∙ map-append (λ (w : Write). w.key) (filter (λ (w : Write). w.replaces) (take i own)) (filter (λ (w : Write). w.replaces) (get_or own i write ∷ []))
     ∙ ap (λ (w : Write). replaced_in (take i own) ++ replaced_in (w ∷ [])) (get_or_from_slice_get own i write write is)
 
@@ -192,7 +193,7 @@ module _ (directory : Directory) (cs : List Change) (j : Stands directory cs) wh
       pub stands_done : (txns : Table) (recent : Newest) → IsHeld list → list.claims ≡ directory.list.claims → book_of list ≡ after_parcel g c (replaced_in own) parcel (book_of directory.list)
           → IsPermutation (origins directory.list.groups.items ++ map (new_origin c) (parcel_rows parcel)) (origins list.groups.items)
           → packed_groups list.groups.items ≡ packed_groups directory.list.groups.items ++ map (rebased c) parcel.groups → txn_of txns ≡ with (txn_of directory.txns) session None
-          → recent.changes ≡ noted_by (record { commit = c; txn = number }) directory.recent.changes (written_in own)
+          → recent.changes ≡ noted_by (record { commit = c; txn = number }) directory.recent.changes (write_keys own)
           → Stands (record directory { list = list; txns = txns; recent = recent; clock = directory.clock + 1 }) (now own)
       stands_done txns recent held claims book_is moved packed gone noted =
           let rows = committed_rows directory cs j number (edits_of own) (listed_rows list) (parcel_rows parcel) (sorted_keys own up) given.given (roots_moved c directory.list.groups.items list.groups.items (parcel_rows parcel) moved) in
@@ -202,7 +203,7 @@ module _ (directory : Directory) (cs : List Change) (j : Stands directory cs) wh
           (λ claim in_list. stay_committed g (book_of directory.list) cs j.floor j.book claim in_list g c (replaced_in own) (keys_in parcel.rest) (map packed_keys parcel.groups)) j.lent in
           let are = packed_after directory.schema.value c directory.list.groups.items list.groups.items parcel.groups packed given.begun given.packed j.packed in
           let may : MayBeList directory list (now own) = record { held = held; rows = rows; packed = are; loans = loans; lent = lent } in
-          let keys : written_in own ≡ keys_of (edits_of (own_of (txn_of directory.txns session))) = sym (ap (λ (o : List Write). keys_of (edits_of o)) own_is ∙ keys_are own) in
+          let keys : write_keys own ≡ keys_of (edits_of (own_of (txn_of directory.txns session))) = sym (ap (λ (o : List Write). keys_of (edits_of o)) own_is ∙ keys_are own) in
           subst (λ (o : List Write). Stands (record directory { list = list; txns = txns; recent = recent; clock = directory.clock + 1 }) (now o)) own_is
           (stands_committed directory cs j txns session number list recent
           (subst (λ (o : List Write). MayBeList directory list (now o)) (sym own_is) may)

@@ -10,11 +10,7 @@ use Rattle.group_view.specs.Parcels as parcels
 use Rattle.group_directory.specs.declared.directory.Directory.{Directory}
 use Rattle.group_directory.specs.Laws.{sizes_of}
 
--- the keys of own writes
-abbrev pub written_in : List Write → List Key
-written_in own = map (λ (write : Write). write.key) own
-
--- those whose rows they replace or delete
+-- the keys of own writes whose rows they replace or delete
 abbrev pub replaced_in : List Write → List Key
 replaced_in own = map (λ (write : Write). write.key) (filter (λ (write : Write). write.replaces) own)
 

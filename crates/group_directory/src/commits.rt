@@ -6,7 +6,7 @@ ghost use Rattle.cs_model.specs.Changes.{Change};
 ghost use Rattle.cs_model.specs.Steps.{numbered};
 ghost use Rattle.edit_laws.specs.Edits.{edits_of};
 ghost use Rattle.delete_buffer.specs.Entries as buffer;
-ghost use Rattle.write_set.specs.Writes.{Ascend};
+ghost use Rattle.write_set.specs.Writes.{Ascend, write_keys};
 ghost use Rattle.txn_table.specs.declared.txn.Txn.{Txn};
 ghost use Rattle.txn_table.specs.Txns.{txn_of, with, own_of, IsSession};
 ghost use Rattle.version_store.specs.Newest.{Newest};
@@ -19,7 +19,7 @@ ghost use Rattle.group_directory.specs.Stands.{Stands};
 ghost use Rattle.group_directory.specs.Laws.{noted_by};
 ghost use Rattle.group_view.specs.Parcels.{keys_in, HasOneBegin, parcel_rows};
 ghost use Rattle.group_directory.specs.Committing.{origins, new_origin, packed_groups, rebased, after_parcel};
-ghost use Rattle.group_directory.specs.Calls.{written_in, replaced_in, commit_number, IsParcelFor, IsAsBefore};
+ghost use Rattle.group_directory.specs.Calls.{replaced_in, commit_number, IsParcelFor, IsAsBefore};
 
 use crate::commit_room::{is_past, stores_needed};
 use crate::committing::{CommitRefusal, commit};
@@ -37,7 +37,7 @@ const UNPRUNED: usize = 1_024;
 
 /// The keys of writes, in their order.
 fn written_keys(alloc: Global, own: &Own) -> Result<Vec<Key>, Memory>
-    ensures { IfOk result (λ keys. keys.items ≡ written_in own.now) }
+    ensures { IfOk result (λ keys. keys.items ≡ write_keys own.now) }
 {
     let mut keys = Vec::with_capacity(alloc, own.len())?;
     for i in 0..own.len() {
@@ -122,7 +122,7 @@ fn commit_own(
     ensures claims { list.new.claims ≡ list.old.claims }
     ensures origins { OnOk result (IsPermutation (origins list.old.groups.items ++ map (new_origin c) (parcel_rows parcel)) (origins list.new.groups.items)) }
     ensures packed { OnOk result (packed_groups list.new.groups.items ≡ packed_groups list.old.groups.items ++ map (rebased c) parcel.groups) }
-    ensures written { IfOk result (λ keys. keys.items ≡ written_in own.now) }
+    ensures written { IfOk result (λ keys. keys.items ≡ write_keys own.now) }
     ensures room { IfOk result (λ keys. length keys.items ≤ recent.new.spare) }
     ensures full { (result ≡ Err refusal.Full) ↔ (draws_past (book_of list.old) (after_parcel group_rows c (replaced_in own.now) parcel (book_of list.old)) ≡ true) }
     ensures same { OnErr result (book_of list.new ≡ book_of list.old) }

@@ -18,7 +18,8 @@ use Rattle.cs_model.proofs.Tables.{row_is, table_ascends}
 use Rattle.edit_laws.proofs.Tables.{Ascends, at, rows_of, rows_whole}
 use Rattle.group_book.specs.Book.{Version, Ending, Book, opened, frozen, how_many, is_visible, shows}
 use Rattle.group_book.specs.Stocks.{AreChanges}
-use Rattle.group_book.specs.Invariant.{IsBookOf, has_key, IsSeenAt}
+use Rattle.group_book.specs.Invariant.{IsBookOf, IsSeenAt}
+use Rattle.cs_model.specs.Obstacles.{has_row}
 use Rattle.group_book.proofs.Lists.{all-both, all-filter, how_many-append, how_many-map, how_many-none, none_pass}
 use Rattle.group_book.proofs.Move.{how_many-permutation}
 use Rattle.group_book.proofs.Visible.{each_shown, frozen_seen, opened_seen}
@@ -50,7 +51,7 @@ padded_ascends width rows up = subst (IsStrictlySortedBy key_cmp) (sym (keys_of-
 padded_at : (width : ℕ) (changes : List Change) (s : ℕ) (key : Key) → at key (padded_table width (table changes s)) ≡ option_map (padded width) (made (last_change key s changes))
 padded_at width changes s key = lookup-map_values (padded width) (is_at (key_cmp key)) (table changes s) ∙ ap (option_map (padded width)) (row_is changes s key)
 
-none_at : (width : ℕ) (changes : List Change) (s : ℕ) (key : Key) → has_key (table changes s) key ≡ false → at key (padded_table width (table changes s)) ≡ None
+none_at : (width : ℕ) (changes : List Change) (s : ℕ) (key : Key) → has_row (table changes s) key ≡ false → at key (padded_table width (table changes s)) ≡ None
 none_at width changes s key none = lookup-map_values (padded width) (is_at (key_cmp key)) (table changes s) ∙ step (at key (table changes s)) none
   where
     step : (o : Option (List Value)) → is_some o ≡ false → option_map (padded width) o ≡ None
@@ -64,7 +65,7 @@ module _ (group_rows width : ℕ) (view : GroupView) (book : Book) (changes : Li
   versions = opened book.groups ++ frozen book.groups
 
   -- each key of the table shows once, and no other does
-  counts : (key : Key) → how_many (λ (rowed : Rowed). shows (buffer_of view) key s rowed.version) (rowed_of view) ≡ cond (has_key (table changes s) key) 1 0
+  counts : (key : Key) → how_many (λ (rowed : Rowed). shows (buffer_of view) key s rowed.version) (rowed_of view) ≡ cond (has_row (table changes s) key) 1 0
   counts key =
       sym (how_many-map (shows (buffer_of view) key s) (λ (rowed : Rowed). rowed.version) (rowed_of view))
       ∙ how_many-permutation (shows (buffer_of view) key s) versions (versions_of (rowed_of view)) v.versions
@@ -73,7 +74,7 @@ module _ (group_rows width : ℕ) (view : GroupView) (book : Book) (changes : Li
       ∙ each_shown group_rows book changes view.clock view.floor a j s reach key
 
   at_most_once : (key : Key) → how_many (λ (rowed : Rowed). shows (buffer_of view) key s rowed.version) (rowed_of view) ≤ 1
-  at_most_once key = step (has_key (table changes s) key) (counts key)
+  at_most_once key = step (has_row (table changes s) key) (counts key)
     where
       step : (t : Bool) → how_many (λ (rowed : Rowed). shows (buffer_of view) key s rowed.version) (rowed_of view) ≡ cond t 1 0 → how_many (λ (rowed : Rowed). shows (buffer_of view) key s rowed.version) (rowed_of view) ≤ 1
       step true is = omega (arith, is)
@@ -107,9 +108,9 @@ module _ (group_rows width : ℕ) (view : GroupView) (book : Book) (changes : Li
       (all-filter (IsRowOf width changes) (IsRowOf width changes) (is_shown view s) (rowed_of view) (λ rowed own is. own) (recursion_from_All (IsRowOf width changes) (rowed_of view) v.rows)) seen_shown
 
   others_none : (key : Key) → list_any (same_key key) (map (λ (rowed : Rowed). rowed.version.key) (shown view s)) ≡ false → at key (padded_table width (table changes s)) ≡ None
-  others_none key none = step (has_key (table changes s) key) refl
+  others_none key none = step (has_row (table changes s) key) refl
     where
-      step : (t : Bool) → has_key (table changes s) key ≡ t → at key (padded_table width (table changes s)) ≡ None
+      step : (t : Bool) → has_row (table changes s) key ≡ t → at key (padded_table width (table changes s)) ≡ None
       step false is = none_at width changes s key is
       step true is = absurd (omega (arith, counted_none key (shown view s) none, shown_of key, counts key ∙ ap (λ (t : Bool). cond t 1 0) is))
 

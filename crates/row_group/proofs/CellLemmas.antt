@@ -7,8 +7,7 @@ use Rattle.std.proofs.lemmas.List.{append-nil, get_or_append_left, get_or-append
 use Rattle.std.proofs.lemmas.Option.{slice_get_within, get_or_from_slice_get}
 use Rattle.cs_types.specs.declared.Value.{Value}
 use Rattle.cs_types.specs.declared.Value.TheVariants.{Null}
-use Rattle.cs_types.specs.Rows.{cell_at}
-use Rattle.column_segment.specs.Cells.{number_cell}
+use Rattle.cs_types.specs.Rows.{cell_at, number_cell}
 use Rattle.row_group.proofs.ShownLemmas.{cell_at-get_or}
 
 -- the first cells of both parts together

@@ -1,6 +1,6 @@
 ghost use Rattle.std.specs.Prelude.{◌≡◌, ◌++◌, ◌∷◌, [], map, take, IfSome, OnOk, OnErr};
-ghost use Rattle.cs_types.specs.Rows.{cell_at};
-ghost use Rattle.column_segment.specs.Cells.{number_cell, seen};
+ghost use Rattle.cs_types.specs.Rows.{cell_at, number_cell};
+ghost use Rattle.column_segment.specs.Cells.{seen};
 
 use column_segment::{CellRef, number_shown, shown};
 use cs_base::Memory;
@@ -21,7 +21,7 @@ pub struct Cells {
 impl Model for Cells {
     ghost use Rattle.std.specs.Prelude.{List, map, ◌++◌};
     ghost use Rattle.cs_types.specs.declared.Value.{Value as Cell};
-    ghost use Rattle.column_segment.specs.Cells.{number_cell};
+    ghost use Rattle.cs_types.specs.Rows.{number_cell};
 
     ghost Value = { List Cell };
 

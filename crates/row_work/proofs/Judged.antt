@@ -18,7 +18,8 @@ use Rattle.edit_laws.specs.Edits.{edit_of, edits_of}
 use Rattle.group_view.specs.declared.view.Pinned.{Pinned}
 use Rattle.row_work.specs.declared.insert.InsertedRows.{InsertedRows}
 use Rattle.row_work.specs.Inserts.{Put, is_double, is_of, noted, put_keys, puts_as_edits, ArePuts, AreInserted, AreJudged}
-use Rattle.row_work.specs.Keyed.{would_stand_twice, write_keys, Replaces}
+use Rattle.row_work.specs.Keyed.{would_stand_twice, Replaces}
+use Rattle.write_set.specs.Writes.{write_keys}
 use Rattle.row_work.specs.Reads.{read_by, shown_by}
 use Rattle.row_work.proofs.Kept.{ascend_by, edit_keys}
 use Rattle.row_work.proofs.Puts.{ends_at, ends_with, mark_last, marked_edits, no_puts, noted_last, permuted, put_again, put_behind}

@@ -17,14 +17,13 @@ use Rattle.cs_types.specs.Rows.{key_in}
 use Rattle.cs_model.specs.Answers as spec
 use Rattle.cs_model.specs.Changes.{Edit, Table}
 use Rattle.write_set.specs.declared.write.Write.{Write}
-use Rattle.write_set.specs.Writes.{Ascend}
+use Rattle.write_set.specs.Writes.{Ascend, write_keys}
 use Rattle.edit_laws.specs.Edits.{edits_of}
 use Rattle.group_view.specs.declared.view.Pinned.{Pinned}
 use Rattle.row_work.specs.declared.choose.Chosen.{Chosen}
 use Rattle.row_work.specs.declared.refusal.WriteRefusal.{WriteRefusal}
 use Rattle.row_work.specs.declared.refusal.WriteRefusal.TheVariants as refusal
 use Rattle.row_work.specs.Gives.{RefusesRow}
-use Rattle.row_work.specs.Keyed.{write_keys}
 use Rattle.row_work.specs.Sources.{chosen_edit, row_of, rows_as_edits}
 
 -- writes whose keys ascend are in order

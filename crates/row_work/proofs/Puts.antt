@@ -24,7 +24,7 @@ use Rattle.group_book.proofs.Keys.{key_itself}
 use Rattle.group_book.proofs.Lists.{all-append, how_many-append, how_many-none, counted}
 use Rattle.group_book.proofs.Move.{count_by-how_many, how_many-permutation}
 use Rattle.row_work.specs.Inserts.{Put, is_double, is_key, is_of, noted, put_keys, puts_as_edits, ArePuts}
-use Rattle.row_work.specs.Keyed.{write_keys}
+use Rattle.write_set.specs.Writes.{write_keys}
 
 -- ---- keys in order
 

@@ -22,7 +22,7 @@ use Rattle.cs_model.specs.declared.expr.Expr.{Expr}
 use Rattle.cs_model.specs.declared.entry.Refusal.{Refusal}
 use Rattle.cs_model.specs.declared.entry.Refusal.TheVariants.{Valued}
 use Rattle.cs_model.specs.Expressions.{Computed, compute}
-use Rattle.cs_model.specs.Answers.{numbered, kept, computed_of, given, cell_onto, cells_from, row_onto, rows_from, inserted_cell, series_len, series, updated_by, updated_cell, updated_row}
+use Rattle.cs_model.specs.Answers.{with_number, kept, computed_of, given, cell_onto, cells_from, row_onto, rows_from, inserted_cell, series_len, series, updated_by, updated_cell, updated_row}
 use Rattle.row_work.specs.declared.refusal.WriteRefusal.{WriteRefusal}
 use Rattle.row_work.specs.declared.refusal.WriteRefusal.TheVariants as refusal
 use Rattle.cs_model.specs.Held.{IsHeld, IsRowAt}
@@ -106,7 +106,7 @@ module _ {X Y : Type 0} (row_of : X → Result Y (ℕ × ℕ)) (plan : List X) w
 
 -- ---- columns hold what they keep
 
-kept_when : (column : Column) (b : Bool) (w v : Value) (e : ValueRefusal) → (IsTrue b → IsTrue (may_hold column w)) → numbered (cond b (Ok w) (Err e)) ≡ Ok v → IsTrue (may_hold column v)
+kept_when : (column : Column) (b : Bool) (w v : Value) (e : ValueRefusal) → (IsTrue b → IsTrue (may_hold column w)) → with_number (cond b (Ok w) (Err e)) ≡ Ok v → IsTrue (may_hold column v)
 kept_when column true w v e h is = let same : w ≡ v = cc in subst (λ x. IsTrue (may_hold column x)) same (h refl)
 kept_when column false w v e h is = absurd (cc)
 

@@ -16,7 +16,8 @@ use Rattle.group_view.specs.declared.view.Pinned.{Pinned}
 use Rattle.row_work.specs.declared.insert.InsertedRows.{InsertedRows}
 use Rattle.row_work.specs.declared.refusal.WriteRefusal.{WriteRefusal}
 use Rattle.row_work.specs.Gives.{RefusesRows}
-use Rattle.row_work.specs.Keyed.{would_stand_twice, write_keys, AreKeyed, Replaces}
+use Rattle.row_work.specs.Keyed.{would_stand_twice, AreKeyed, Replaces}
+use Rattle.write_set.specs.Writes.{write_keys}
 use Rattle.row_work.specs.Reads.{read_by}
 use Rattle.write_set.specs.declared.write.Write.{Write}
 

@@ -1,17 +1,13 @@
 -- Writes by key, and what they make of the table of the snapshot.
-use Rattle.std.specs.Prelude.{◌≡◌, ◌||◌, ℕ, List, map, All, Contains, Bool}
+use Rattle.std.specs.Prelude.{◌≡◌, ◌||◌, ℕ, List, All, Contains, Bool}
 use Rattle.cs_types.specs.declared.Key.{Key}
 use Rattle.cs_model.specs.Changes.{Edit}
 use Rattle.cs_model.specs.Obstacles.{has_row, keys_of, stands_twice}
 use Rattle.write_set.specs.declared.write.Write.{Write}
-use Rattle.write_set.specs.Writes.{Ascend}
+use Rattle.write_set.specs.Writes.{write_keys, Ascend}
 use Rattle.edit_laws.specs.Edits.{edits_of}
 use Rattle.group_view.specs.declared.view.Pinned.{Pinned}
 use Rattle.row_work.specs.Reads.{shown_by, read_by}
-
--- the keys of writes
-abbrev pub write_keys : List Write → List Key
-write_keys writes = map (λ (write : Write). write.key) writes
 
 -- the write says whether its key is in the table of the snapshot
 abbrev pub Replaces : ℕ → Pinned → Write → Type 0

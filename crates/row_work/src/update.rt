@@ -10,10 +10,10 @@ ghost use Rattle.cs_model.specs.declared.expr.Expr.{Expr};
 ghost use Rattle.cs_model.specs.Answers as spec;
 ghost use Rattle.cs_model.specs.Answers.{rows_from, updated_entry};
 ghost use Rattle.cs_model.specs.Changes.{Table};
-ghost use Rattle.write_set.specs.Writes.{Ascend};
+ghost use Rattle.write_set.specs.Writes.{Ascend, write_keys};
 ghost use Rattle.row_work.specs.declared.choose.Chosen.{Chosen};
 ghost use Rattle.row_work.specs.Gives.{GivesCell, GivesRow, GivesWrites};
-ghost use Rattle.row_work.specs.Keyed.{write_keys, Replaces};
+ghost use Rattle.row_work.specs.Keyed.{Replaces};
 ghost use Rattle.row_work.specs.Reads.{read_by, HasSnapshot, MayRead};
 ghost use Rattle.row_work.specs.Sources.{chosen_edit, rows_as_edits, row_of, IsShown};
 

@@ -27,7 +27,7 @@ use Rattle.log_laws.specs.Started.{Begun, seen_by, is_implicit, Sees}
 use Rattle.edit_laws.specs.Edits.{edit_of, edits_of}
 use Rattle.edit_laws.proofs.Writes.{staged_edits}
 use Rattle.write_set.specs.declared.write.Write.{Write}
-use Rattle.write_set.specs.Writes.{staged}
+use Rattle.write_set.specs.Writes.{staged, write_keys}
 use Rattle.txn_table.specs.declared.txn.Txn as kept
 use Rattle.txn_table.specs.Txns.{txn_of, widened, own_of, snapshot_of, snapshots_in, Owns}
 use Rattle.std.specs.declared.alloc.Global.{Global}
@@ -47,7 +47,7 @@ use Rattle.group_view.specs.declared.claim.Parcel.{Parcel}
 use Rattle.statement_core.specs.declared.core_state.CoreState.{CoreState}
 use Rattle.statement_core.specs.CoreState.{state_of, groups_of, IsSame, IsBare}
 use Rattle.statement_core.specs.Leaves.{commits_txn, committed_in, Leaves}
-use Rattle.statement_core.specs.Outcomes.{keys_in, IsParcelled, AreWritesOf}
+use Rattle.statement_core.specs.Outcomes.{IsParcelled, AreWritesOf}
 use Rattle.statement_core.specs.Settled.{Ends, IsWritingAt, IsPast, CommitGives}
 use Rattle.statement_core.proofs.Committed.{added}
 use Rattle.statement_core.proofs.Decided.{seen_in, begun_seen, snapshot_is, write_of_table, write_reply, write_accepted}
@@ -144,28 +144,28 @@ module _ (begin : Begin) (changes : List Change) (held : CoreState) (session : �
   pub taken : IsSome (snapshots_in (txn_of held.directory.txns) session)
   taken = subst IsSome (sym snap) refl
 
-  pub keys_up : Rising (keys_in list)
+  pub keys_up : Rising (write_keys list)
   keys_up = let a = are in written_up list a.order
 
   pub present_up : Rising present
-  present_up = let a = are in subst Rising (sym a.twice) (AllPairs-filter (λ x y. key_cmp x y ≡ Less) (is_present (let g = w.begun in g.bound) edits (seen_by w.begun)) (keys_in list) keys_up)
+  present_up = let a = are in subst Rising (sym a.twice) (AllPairs-filter (λ x y. key_cmp x y ≡ Less) (is_present (let g = w.begun in g.bound) edits (seen_by w.begun)) (write_keys list) keys_up)
 
   -- ---- how it is judged
 
   abbrev test : Key → Bool
   test = is_present (let g = w.begun in g.bound) edits (seen_by w.begun)
 
-  each_key : (list : List Write) → All (Contains edits) (edits_of list) → All (Contains (keys_of edits)) (keys_in list)
+  each_key : (list : List Write) → All (Contains edits) (edits_of list) → All (Contains (keys_of edits)) (write_keys list)
   each_key [] all = All-nil (Contains (keys_of edits))
   each_key (write ∷ list) all =
-      All-cons (Contains (keys_of edits)) write.key (keys_in list) (key_inside edits (edit_of write) (All-head (Contains edits) (edit_of write) (edits_of list) all)) (each_key list (All-tail (Contains edits) (edit_of write) (edits_of list) all))
+      All-cons (Contains (keys_of edits)) write.key (write_keys list) (key_inside edits (edit_of write) (All-head (Contains edits) (edit_of write) (edits_of list) all)) (each_key list (All-tail (Contains edits) (edit_of write) (edits_of list) all))
 
-  judged_edits : (found : Option Refusal) → IsJudged (IsObstacle (state_of changes held) session (Some s) (is_one_of present)) (keys_in list) found → IsJudged (IsObstacle (state_of changes held) session (Some s) test) (keys_of edits) found
+  judged_edits : (found : Option Refusal) → IsJudged (IsObstacle (state_of changes held) session (Some s) (is_one_of present)) (write_keys list) found → IsJudged (IsObstacle (state_of changes held) session (Some s) test) (keys_of edits) found
   judged_edits =
       let a = are in
-      judged_over (state_of changes held) session (Some s) (is_one_of present) test (keys_in list) (keys_of edits)
-      (λ key c. ap (λ keys. is_one_of keys key) a.twice ∙ kept_is test (keys_in list) key c)
-      (All-map (Contains (keys_in list)) (λ (edit : Edit). edit.0) edits a.every) (each_key list a.each)
+      judged_over (state_of changes held) session (Some s) (is_one_of present) test (write_keys list) (keys_of edits)
+      (λ key c. ap (λ keys. is_one_of keys key) a.twice ∙ kept_is test (write_keys list) key c)
+      (All-map (Contains (write_keys list)) (λ (edit : Edit). edit.0) edits a.every) (each_key list a.each)
 
   seen_is : seen_by w.begun ≡ seen changes (txn_as txn)
   seen_is = let h = w.holds in begun_seen (state_of changes held) session w.begun h.own sees ∙ ap (seen_in changes) (ap txn_in has)
@@ -180,7 +180,7 @@ module _ (begin : Begin) (changes : List Change) (held : CoreState) (session : �
       sym ((λ i. writes (h.schema i) (seen_is i) (w.bound i))) ∙ g.defined
 
   -- the reply to a write that is judged
-  replies : (r : Reply) (found : Option Refusal) → IsJudged (IsObstacle (state_of changes held) session (Some s) (is_one_of present)) (keys_in list) found
+  replies : (r : Reply) (found : Option Refusal) → IsJudged (IsObstacle (state_of changes held) session (Some s) (is_one_of present)) (write_keys list) found
       → (((o : Option Refusal) → o ≡ found → IsJudged (IsObstacle (state_of changes held) session txn.snapshot (is_present b edits (seen changes (txn_as txn)))) (keys_of edits) o) → IsWritten (IsJudged (IsObstacle (state_of changes held) session txn.snapshot (is_present b edits (seen changes (txn_as txn)))) (keys_of edits)) edits r)
       → IsReply begin.schema (state_of changes held) session b r
   replies r found judged say =
@@ -193,20 +193,20 @@ module _ (begin : Begin) (changes : List Change) (held : CoreState) (session : �
       (subst (λ o. IsWriteReply begin.schema (state_of changes held) session o b r) (sym (ap txn_in has))
       (subst (λ x. IsWriteReplyOf (state_of changes held) session txn.snapshot (seen changes (txn_as txn)) b x r) (sym defined) said))
 
-  pub refused_reply : (refusal : Refusal) → IsJudged (IsObstacle (state_of changes held) session (Some s) (is_one_of present)) (keys_in list) (Some refusal) → IsReply begin.schema (state_of changes held) session b (reply.Refused refusal)
+  pub refused_reply : (refusal : Refusal) → IsJudged (IsObstacle (state_of changes held) session (Some s) (is_one_of present)) (write_keys list) (Some refusal) → IsReply begin.schema (state_of changes held) session b (reply.Refused refusal)
   refused_reply refusal judged = replies (reply.Refused refusal) (Some refusal) judged (λ at. at (Some refusal) refl)
 
   -- what is found by these keys
-  pub judged_as : (keys found_twice : List Key) (found o : Option Refusal) → keys ≡ keys_in list → found_twice ≡ present → found ≡ o
-      → IsJudged (IsObstacle (state_of changes held) session (Some s) (is_one_of found_twice)) keys found → IsJudged (IsObstacle (state_of changes held) session (Some s) (is_one_of present)) (keys_in list) o
+  pub judged_as : (keys found_twice : List Key) (found o : Option Refusal) → keys ≡ write_keys list → found_twice ≡ present → found ≡ o
+      → IsJudged (IsObstacle (state_of changes held) session (Some s) (is_one_of found_twice)) keys found → IsJudged (IsObstacle (state_of changes held) session (Some s) (is_one_of present)) (write_keys list) o
   judged_as keys found_twice found o same twice is h =
-      subst (λ x. IsJudged (IsObstacle (state_of changes held) session (Some s) (is_one_of present)) (keys_in list) x) is
+      subst (λ x. IsJudged (IsObstacle (state_of changes held) session (Some s) (is_one_of present)) (write_keys list) x) is
       (subst (λ ks. IsJudged (IsObstacle (state_of changes held) session (Some s) (is_one_of present)) ks found) same
       (subst (λ ps. IsJudged (IsObstacle (state_of changes held) session (Some s) (is_one_of ps)) keys found) twice h))
 
   -- ---- a write without an obstacle
 
-  module _ (clear : IsJudged (IsObstacle (state_of changes held) session (Some s) (is_one_of present)) (keys_in list) None) where
+  module _ (clear : IsJudged (IsObstacle (state_of changes held) session (Some s) (is_one_of present)) (write_keys list) None) where
     pub affected_reply : IsReply begin.schema (state_of changes held) session b (reply.Affected affected)
     affected_reply = let a = are in replies (reply.Affected affected) None clear (λ at. (at None refl, a.count))
 
@@ -218,10 +218,10 @@ module _ (begin : Begin) (changes : List Change) (held : CoreState) (session : �
 
     -- no key is present
     pub none_present : present ≡ []
-    none_present = let a = are in a.twice ∙ none_kept test (keys_in list) absent
+    none_present = let a = are in a.twice ∙ none_kept test (write_keys list) absent
       where
-        absent : All (λ key. test key ≡ false) (keys_in list)
-        absent k d lt = sym (kept_is test (keys_in list) (get_or (keys_in list) k d) (k, lt, get_or_default (keys_in list) k (get_or (keys_in list) k d) d lt)) ∙ ap (λ keys. is_one_of keys (get_or (keys_in list) k d)) (sym (let a = are in a.twice)) ∙ (clear k d lt).2
+        absent : All (λ key. test key ≡ false) (write_keys list)
+        absent k d lt = sym (kept_is test (write_keys list) (get_or (write_keys list) k d) (k, lt, get_or_default (write_keys list) k (get_or (write_keys list) k d) d lt)) ∙ ap (λ keys. is_one_of keys (get_or (write_keys list) k d)) (sym (let a = are in a.twice)) ∙ (clear k d lt).2
 
     clear_writes : All (λ (write : Write). IsObstacle (state_of changes held) session (Some s) (is_one_of present) write.key None) list
     clear_writes = all_from_map (λ key. IsObstacle (state_of changes held) session (Some s) (is_one_of present) key None) (λ (write : Write). write.key) list clear

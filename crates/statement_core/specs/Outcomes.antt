@@ -1,10 +1,10 @@
 -- What the work of a statement gives on what was started.
-use Rattle.std.specs.Prelude.{◌≡◌, ◌≢◌, ℕ, List, [], map, filter, length, Bool, true, false, All, Contains, Result, Ok, Err, Option, None, Some, IsSome, if◌then◌else◌}
+use Rattle.std.specs.Prelude.{◌≡◌, ◌≢◌, ℕ, List, [], filter, length, Bool, true, false, All, Contains, Result, Ok, Err, Option, None, Some, IsSome, if◌then◌else◌}
 use Rattle.std.specs.Map.{values_of}
 use Rattle.cs_types.specs.declared.Key.{Key}
 use Rattle.cs_types.specs.declared.Schema.{Schema}
 use Rattle.write_set.specs.declared.write.Write.{Write}
-use Rattle.write_set.specs.Writes.{Ascend}
+use Rattle.write_set.specs.Writes.{write_keys, Ascend}
 use Rattle.cs_model.specs.Queries.{answer}
 use Rattle.cs_model.specs.declared.entry.Bound.{Bound}
 use Rattle.cs_model.specs.declared.entry.Bound.TheVariants as bound
@@ -62,10 +62,6 @@ told on (reply.Refused refusal) = reply.Refused refusal
 
 -- ---- writes
 
--- the keys of writes
-abbrev pub keys_in : List Write → List Key
-keys_in list = map (λ (write : Write). write.key) list
-
 -- the cells of a row
 abbrev pub width_of : Begun → ℕ
 width_of begun = length begun.schema.columns
@@ -80,9 +76,9 @@ IsParcelled sizes begun list present (Some parcel) = (begun.implicit ≡ true) �
 pub record AreWritesOf (sizes : Sizes) (begun : Begun) (edits : List Edit) (list : List Write) (present : List Key) (affected : ℕ) (parcel : Option Parcel) : Type 0 where
   pub order : Ascend list
   pub each : All (Contains edits) (edits_of list)
-  pub every : All (λ (edit : Edit). Contains (keys_in list) edit.0) edits
+  pub every : All (λ (edit : Edit). Contains (write_keys list) edit.0) edits
   pub replaces : All (λ (write : Write). write.replaces ≡ has_row (snapshot_table begun) write.key) list
-  pub twice : present ≡ filter (is_present begun.bound edits (seen_by begun)) (keys_in list)
+  pub twice : present ≡ filter (is_present begun.bound edits (seen_by begun)) (write_keys list)
   pub count : affected ≡ length edits
   pub parcelled : IsParcelled sizes begun list present parcel
 

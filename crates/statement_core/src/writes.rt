@@ -7,7 +7,7 @@ ghost use Rattle.txn_table.specs.Txns.{txn_of, own_of};
 ghost use Rattle.group_directory.specs.Calls.{IsParcelFor};
 ghost use Rattle.group_directory.specs.Stands.{Stands};
 ghost use Rattle.statement_core.specs.CoreState.{IsWithin};
-ghost use Rattle.statement_core.specs.Outcomes.{keys_in};
+ghost use Rattle.write_set.specs.Writes.{write_keys};
 ghost use Rattle.statement_core.specs.Settled.{CommitGives, Ends, IsWritingAt, MayWrite};
 
 use crate::core_state::{CoreState, commit, stage};
@@ -22,7 +22,7 @@ use write_set::Write;
 
 /// The keys of writes, in their order.
 fn keys_of(alloc: Global, writes: &[Write]) -> Result<Vec<Key>, Memory>
-    ensures { IfOk result (λ keys. keys.items ≡ keys_in writes.now) }
+    ensures { IfOk result (λ keys. keys.items ≡ write_keys writes.now) }
 {
     let mut keys = Vec::with_capacity(alloc, writes.len())?;
     for write in writes {

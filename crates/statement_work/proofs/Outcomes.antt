@@ -10,7 +10,7 @@ use Rattle.cs_model.specs.Changes.{Edit, Table}
 use Rattle.cs_model.specs.Kinds.{is_insert}
 use Rattle.cs_model.specs.Obstacles.{has_row, is_present, keys_of, stands_twice}
 use Rattle.write_set.specs.declared.write.Write.{Write}
-use Rattle.write_set.specs.Writes.{Ascend}
+use Rattle.write_set.specs.Writes.{Ascend, write_keys}
 use Rattle.edit_laws.specs.Edits.{edit_of, edits_of}
 use Rattle.log_laws.specs.Started.{Begun, snapshot_table, seen_by}
 use Rattle.group_book.specs.Commits.{Sizes}
@@ -21,16 +21,16 @@ use Rattle.row_work.specs.Inserts.{AreInserted}
 use Rattle.row_work.specs.Keyed.{Replaces}
 use Rattle.row_work.proofs.Fits.{Fits}
 use Rattle.statement_core.specs.Begun.{MayWork, Pins}
-use Rattle.statement_core.specs.Outcomes.{keys_in, width_of, GivesWrites, IsParcelled}
+use Rattle.statement_core.specs.Outcomes.{width_of, GivesWrites, IsParcelled}
 use Rattle.statement_work.proofs.Seen.{read_is, shown_is}
 
-each_key : (list : List Write) (keys : List Key) → All (Contains keys) (keys_in list) → All (λ (edit : Edit). Contains keys edit.0) (edits_of list)
+each_key : (list : List Write) (keys : List Key) → All (Contains keys) (write_keys list) → All (λ (edit : Edit). Contains keys edit.0) (edits_of list)
 each_key [] keys all = All-nil (λ (edit : Edit). Contains keys edit.0)
 each_key (w ∷ list) keys all =
     All-cons (λ (edit : Edit). Contains keys edit.0) (edit_of w) (edits_of list) (all 0 w.key (omega arith)) (each_key list keys (λ i d there. all (suc i) d (omega (arith, there))))
 
-every_key : (list : List Write) → All (λ (edit : Edit). Contains (keys_in list) edit.0) (edits_of list)
-every_key list = each_key list (keys_in list) (All-contains_itself (keys_in list))
+every_key : (list : List Write) → All (λ (edit : Edit). Contains (write_keys list) edit.0) (edits_of list)
+every_key list = each_key list (write_keys list) (All-contains_itself (write_keys list))
 
 none_kept : (p : Key → Bool) → ((key : Key) → p key ≡ false) → (keys : List Key) → filter p keys ≡ []
 none_kept p none [] = refl
@@ -53,7 +53,7 @@ module _ (sizes : Sizes) (begun : Begun) (pinned : Pinned) (pins : Pins begun pi
       each = All-contains_itself (edits_of list);
       every = every_key list;
       replaces = replaced list replaces;
-      twice = none ∙ sym (none_kept (is_present begun.bound (edits_of list) (seen_by begun)) (λ key. ap (λ t. t && (has_row (seen_by begun) key || stands_twice (keys_of (edits_of list)) key)) other) (keys_in list));
+      twice = none ∙ sym (none_kept (is_present begun.bound (edits_of list) (seen_by begun)) (λ key. ap (λ t. t && (has_row (seen_by begun) key || stands_twice (keys_of (edits_of list)) key)) other) (write_keys list));
       count = count ∙ sym (length-map list edit_of);
       parcelled = parcelled;
     };
@@ -74,8 +74,8 @@ module _ (sizes : Sizes) (begun : Begun) (pinned : Pinned) (pins : Pins begun pi
       replaces = replaced rows.writes.items inserted.replaces;
       twice =
           inserted.present
-          ∙ ap (λ (t : Table). filter (λ key. has_row t key || stands_twice (keys_of edits) key) (keys_in rows.writes.items)) (read_is begun pinned pins work)
-          ∙ ap (λ (t : Bool). filter (λ key. t && (has_row (seen_by begun) key || stands_twice (keys_of edits) key)) (keys_in rows.writes.items)) (sym is);
+          ∙ ap (λ (t : Table). filter (λ key. has_row t key || stands_twice (keys_of edits) key) (write_keys rows.writes.items)) (read_is begun pinned pins work)
+          ∙ ap (λ (t : Bool). filter (λ key. t && (has_row (seen_by begun) key || stands_twice (keys_of edits) key)) (write_keys rows.writes.items)) (sym is);
       count = inserted.affected;
       parcelled = parcelled;
     };

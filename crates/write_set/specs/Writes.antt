@@ -7,6 +7,10 @@ use Rattle.cs_types.specs.declared.Key.{Key}
 use Rattle.cs_types.specs.Keys.{key_cmp}
 use Rattle.write_set.specs.declared.write.Write.{Write}
 
+-- the keys of writes
+abbrev pub write_keys : List Write → List Key
+write_keys writes = map (λ (write : Write). write.key) writes
+
 -- the keys ascend strictly, so no key stands twice
 abbrev pub Ascend : List Write → Type 0
 Ascend writes = AllPairs (λ (a b : Write). key_cmp a.key b.key ≡ Less) writes

@@ -11,8 +11,8 @@ use std::marker::Model;
 use std::sync::Arc;
 
 /// The own writes of a transaction, in the order of their keys, one for each key. Contracts see the list of them. Shares
-/// of one list copy none of the writes, and what is staged later is not seen through them. One write staged touches one chunk
-/// of at most 128 writes.
+/// of one list copy none of the writes, and what is staged later is not seen through them. To stage one write copies at most the
+/// chunk of 128 writes in which it goes, beside the list of the chunks.
 #[derive(Debug, Drop)]
 pub struct Own {
     /// None where there is no write.

@@ -111,8 +111,8 @@ fn split(parts: &mut Vec<Part>, alloc: Global, at: usize) -> Result<(), Memory>
     }
 }
 
-/// The part for a key, which has room: a full one is split in two, and none is given where all keys are smaller and the last
-/// part is full. The writes are as before.
+/// The part for a key, which has room: a full one is split in two. None where there is no part, or where all keys are smaller and
+/// the last part is full. The writes are as before.
 fn part_with_room(parts: &mut Vec<Part>, alloc: Global, key: Key) -> Result<Option<usize>, Memory>
     requires stand { StandFrom 0 parts.old.items }
     requires order { Ascend (joined parts.old.items) }

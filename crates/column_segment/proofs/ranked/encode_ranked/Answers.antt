@@ -2,8 +2,8 @@ use Rattle.std.proofs.Common.{◌≡◌, ◌<◌, ℕ, List, length, map, slice_
 use Rattle.std.proofs.lemmas.Result.{IfOk-weaker}
 use Rattle.column_segment.specs.declared.segment.Segment.{Segment}
 use Rattle.cs_types.specs.declared.Value.{Value}
-use Rattle.cs_types.specs.Rows.{cell_at}
-use Rattle.column_segment.specs.Cells.{seen, number_cell}
+use Rattle.cs_types.specs.Rows.{cell_at, number_cell}
+use Rattle.column_segment.specs.Cells.{seen}
 use Rattle.column_segment.specs.Bodies.{cell_in}
 use Rattle.column_segment.specs.Segments.{IsSegmentOf}
 use Rattle.column_segment.specs.Ranks.{AreCellRanks, AreMovedRanks}

@@ -2,9 +2,8 @@ use Rattle.std.proofs.Common.{◌≡◌, ◌-◌, ◌∙◌, ℕ, ℤ, List, len
 use Rattle.std.proofs.lemmas.List.{take_all, length-drop, length-map}
 use Rattle.std.specs.Int.{from_bool}
 use Rattle.std.specs.Ordering.{int_cmp}
-use Rattle.cs_types.specs.Rows.{cell_at, number_in}
+use Rattle.cs_types.specs.Rows.{cell_at, number_in, number_cell}
 use Rattle.segment_dict.specs.Dictionaries.{Ascends}
-use Rattle.column_segment.specs.Cells.{number_cell}
 use Rattle.column_segment.proofs.Dicts.{own-number, bare-no-text}
 use Rattle.column_segment.proofs.RankLemmas.{kind-numbers, codes-ranked, dict-ranked, a-rank}
 use Rattle.column_segment.proofs.ranked.number_dict.Goals as goal

@@ -1,6 +1,5 @@
 use Rattle.std.proofs.Common.{◌≡◌, map, take}
-use Rattle.cs_types.specs.Rows.{cell_at, number_in}
-use Rattle.column_segment.specs.Cells.{number_cell}
+use Rattle.cs_types.specs.Rows.{cell_at, number_in, number_cell}
 use Rattle.column_segment.proofs.ranked.numbers_at.Given as goal
 
 abbrev pub invariant-loop-place : goal.invariant-loop-place

@@ -1,9 +1,8 @@
 use Rattle.std.proofs.Common.{ℕ, List, length, map, arith}
 use Rattle.std.proofs.lemmas.List.{length-map}
 use Rattle.std.proofs.lemmas.Result.{IfOk-weaker}
-use Rattle.cs_types.specs.Rows.{cell_at}
+use Rattle.cs_types.specs.Rows.{cell_at, number_cell}
 use Rattle.column_segment.specs.declared.segment.Segment.{Segment}
-use Rattle.column_segment.specs.Cells.{number_cell}
 use Rattle.column_segment.specs.Ranks.{AreMovedRanks}
 use Rattle.column_segment.specs.Segments.{IsSegmentOf}
 use Rattle.column_segment.proofs.Dicts.{bare-no-text}

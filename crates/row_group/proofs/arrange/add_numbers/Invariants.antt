@@ -1,5 +1,6 @@
 use Rattle.std.proofs.Common.{◌≡◌, ◌++◌, map, take}
-use Rattle.column_segment.specs.Cells.{seen, number_cell}
+use Rattle.column_segment.specs.Cells.{seen}
+use Rattle.cs_types.specs.Rows.{number_cell}
 use Rattle.row_group.proofs.arrange.add_numbers.Given as goal
 
 abbrev pub invariant-loop-number : goal.invariant-loop-number

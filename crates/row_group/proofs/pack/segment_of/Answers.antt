@@ -3,9 +3,9 @@ use Rattle.std.specs.List.{All}
 use Rattle.std.proofs.lemmas.Result.{IfOk-weaker}
 use Rattle.cs_types.specs.declared.Value.{Value}
 use Rattle.cs_types.specs.Kinds.{is_of_type}
-use Rattle.cs_types.specs.Rows.{cell_at}
+use Rattle.cs_types.specs.Rows.{cell_at, number_cell}
 use Rattle.column_segment.specs.declared.segment.Segment.{Segment}
-use Rattle.column_segment.specs.Cells.{seen, number_cell}
+use Rattle.column_segment.specs.Cells.{seen}
 use Rattle.column_segment.specs.Ranks.{AreCellRanks, AreMovedRanks}
 use Rattle.row_group.specs.Arranged.{IsColumnSegment}
 use Rattle.row_group.proofs.SegmentLemmas.{codes-ranks, both-hold}

@@ -3,7 +3,8 @@ use Rattle.cs_model.specs.Answers.{rows_from, updated_entry}
 use Rattle.cs_model.specs.Changes.{Table}
 use Rattle.edit_laws.specs.Edits.{edits_of}
 use Rattle.row_work.specs.declared.choose.Chosen.{Chosen}
-use Rattle.row_work.specs.Keyed.{write_keys, Replaces}
+use Rattle.row_work.specs.Keyed.{Replaces}
+use Rattle.write_set.specs.Writes.{write_keys}
 use Rattle.row_work.specs.Sources.{chosen_edit, rows_as_edits}
 use Rattle.row_work.proofs.Written.{behind}
 use Rattle.row_work.proofs.update.updated_rows.Given as goal

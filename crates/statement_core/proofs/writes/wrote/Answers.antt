@@ -5,7 +5,7 @@ use Rattle.cs_model.specs.State.{State}
 use Rattle.cs_model.specs.Steps.{refused}
 use Rattle.txn_table.specs.Txns.{own_of, widened}
 use Rattle.statement_core.specs.CoreState.{state_of}
-use Rattle.statement_core.specs.Outcomes.{keys_in}
+use Rattle.write_set.specs.Writes.{write_keys}
 use Rattle.statement_core.proofs.Ending.{ends_refused, ends_short}
 use Rattle.statement_core.proofs.Stills.{same_then}
 use Rattle.statement_core.proofs.Written.{Rising, keys_up, present_up, snap, has, judged_as, refused_reply, may_stage, staged_state, depth_explicit, depth_implicit, parcel_for, ends_explicit, ends_implicit}
@@ -22,7 +22,7 @@ ok_gives (Err x) e p = absurd (cc e)
 pub obstacle-requires-clause-keys : goal.obstacle-requires-clause-keys
 obstacle-requires-clause-keys c =
     let y = c.requires.may in
-    let same : c.deref-2.result.now ≡ keys_in c.args.writes.items = c.deref-2.ensures.value ∙ c.in-Ok.ensures ∙ ap keys_in c.deref.ensures.value in
+    let same : c.deref-2.result.now ≡ write_keys c.args.writes.items = c.deref-2.ensures.value ∙ c.in-Ok.ensures ∙ ap write_keys c.deref.ensures.value in
     subst Rising (sym same) (keys_up y.begin y.changes c.args.held.now c.args.session y.bound y.short c.args.writes.items c.args.present.items c.args.affected c.args.parcel y.is)
 
 pub obstacle-requires-clause-present : goal.obstacle-requires-clause-present
@@ -38,7 +38,7 @@ returns-in-Some c = λ begin changes b short w.
     let present = c.args.present.items in
     let n = c.args.affected in
     let p = c.args.parcel in
-    let same : c.deref-2.result.now ≡ keys_in list = c.deref-2.ensures.value ∙ c.in-Ok.ensures ∙ ap keys_in c.deref.ensures.value in
+    let same : c.deref-2.result.now ≡ write_keys list = c.deref-2.ensures.value ∙ c.in-Ok.ensures ∙ ap write_keys c.deref.ensures.value in
     let judged = judged_as begin changes held s b short list present n p w c.deref-2.result.now c.deref-3.result.now c.obstacle.result (Some c.in-Some.refusal) same c.deref-3.ensures.value c.in-Some.is
     (c.obstacle.ensures (state_of changes held) w.begun.snapshot w.stands refl (snap begin changes held s b short list present n p w)) in
     let still = c.refuse-in-Some.ensures.still in
@@ -53,7 +53,7 @@ returns-then-is_err c = λ begin changes b short w.
     let present = c.args.present.items in
     let n = c.args.affected in
     let p = c.args.parcel in
-    let same : c.deref-2.result.now ≡ keys_in list = c.deref-2.ensures.value ∙ c.in-Ok.ensures ∙ ap keys_in c.deref.ensures.value in
+    let same : c.deref-2.result.now ≡ write_keys list = c.deref-2.ensures.value ∙ c.in-Ok.ensures ∙ ap write_keys c.deref.ensures.value in
     let none : c.obstacle.result ≡ None = search rules in
     let clear = judged_as begin changes held s b short list present n p w c.deref-2.result.now c.deref-3.result.now c.obstacle.result None same c.deref-3.ensures.value none
     (c.obstacle.ensures (state_of changes held) w.begun.snapshot w.stands refl (snap begin changes held s b short list present n p w)) in
@@ -82,7 +82,7 @@ commit_with-requires-clause-stands c =
     let present = c.args.present.items in
     let n = c.args.affected in
     let p = c.args.parcel in
-    let same : c.deref-2.result.now ≡ keys_in list = c.deref-2.ensures.value ∙ c.in-Ok.ensures ∙ ap keys_in c.deref.ensures.value in
+    let same : c.deref-2.result.now ≡ write_keys list = c.deref-2.ensures.value ∙ c.in-Ok.ensures ∙ ap write_keys c.deref.ensures.value in
     let none : c.obstacle.result ≡ None = search rules in
     let clear = judged_as y.begin y.changes held s y.bound y.short list present n p w c.deref-2.result.now c.deref-3.result.now c.obstacle.result None same c.deref-3.ensures.value none
     (c.obstacle.ensures (state_of y.changes held) w.begun.snapshot w.stands refl (snap y.begin y.changes held s y.bound y.short list present n p w)) in
@@ -98,7 +98,7 @@ commit_with-requires-clause-parcel c =
     let present = c.args.present.items in
     let n = c.args.affected in
     let p = c.args.parcel in
-    let same : c.deref-2.result.now ≡ keys_in list = c.deref-2.ensures.value ∙ c.in-Ok.ensures ∙ ap keys_in c.deref.ensures.value in
+    let same : c.deref-2.result.now ≡ write_keys list = c.deref-2.ensures.value ∙ c.in-Ok.ensures ∙ ap write_keys c.deref.ensures.value in
     let none : c.obstacle.result ≡ None = search rules in
     let clear = judged_as y.begin y.changes held s y.bound y.short list present n p w c.deref-2.result.now c.deref-3.result.now c.obstacle.result None same c.deref-3.ensures.value none
     (c.obstacle.ensures (state_of y.changes held) w.begun.snapshot w.stands refl (snap y.begin y.changes held s y.bound y.short list present n p w)) in
@@ -114,7 +114,7 @@ returns-in-Some-parcel c = λ begin changes b short w.
     let present = c.args.present.items in
     let n = c.args.affected in
     let p = c.args.parcel in
-    let same : c.deref-2.result.now ≡ keys_in list = c.deref-2.ensures.value ∙ c.in-Ok.ensures ∙ ap keys_in c.deref.ensures.value in
+    let same : c.deref-2.result.now ≡ write_keys list = c.deref-2.ensures.value ∙ c.in-Ok.ensures ∙ ap write_keys c.deref.ensures.value in
     let none : c.obstacle.result ≡ None = search rules in
     let clear = judged_as begin changes held s b short list present n p w c.deref-2.result.now c.deref-3.result.now c.obstacle.result None same c.deref-3.ensures.value none
     (c.obstacle.ensures (state_of changes held) w.begun.snapshot w.stands refl (snap begin changes held s b short list present n p w)) in
@@ -133,7 +133,7 @@ returns c = λ begin changes b short w.
     let present = c.args.present.items in
     let n = c.args.affected in
     let p = c.args.parcel in
-    let same : c.deref-2.result.now ≡ keys_in list = c.deref-2.ensures.value ∙ c.in-Ok.ensures ∙ ap keys_in c.deref.ensures.value in
+    let same : c.deref-2.result.now ≡ write_keys list = c.deref-2.ensures.value ∙ c.in-Ok.ensures ∙ ap write_keys c.deref.ensures.value in
     let none : c.obstacle.result ≡ None = search rules in
     let clear = judged_as begin changes held s b short list present n p w c.deref-2.result.now c.deref-3.result.now c.obstacle.result None same c.deref-3.ensures.value none
     (c.obstacle.ensures (state_of changes held) w.begun.snapshot w.stands refl (snap begin changes held s b short list present n p w)) in

@@ -1,8 +1,7 @@
 use Rattle.std.proofs.Common.{◌+◌, ◌∙◌, sym, ap, subst, get_or}
-use Rattle.cs_types.specs.Rows.{number_in}
+use Rattle.cs_types.specs.Rows.{number_in, number_cell}
 use Rattle.segment_value.specs.Scales.{cell_of}
 use Rattle.column_segment.specs.declared.body.SegmentBody.{SegmentBody}
-use Rattle.column_segment.specs.Cells.{number_cell}
 use Rattle.column_segment.specs.Dicts.{dict_cell}
 use Rattle.column_segment.specs.Bodies.{IsKnown, code_in, cell_of_code}
 use Rattle.column_segment.proofs.Last.{HasSmallExponent, small-exponent, number-shown}

@@ -5,7 +5,7 @@ use Rattle.cs_types.specs.declared.Key.{Key}
 use Rattle.delete_buffer.specs.Entries.{Ascend}
 use Rattle.txn_table.specs.Txns.{own_of}
 use Rattle.version_store.specs.Newest.{Changes}
-use Rattle.group_directory.specs.Calls.{written_in}
+use Rattle.write_set.specs.Writes.{write_keys}
 use Rattle.group_directory.proofs.CommitLaws.{written_up, replaced_up, entries_later, notes_older, rest_up, rest_live, stands_done, stands_kept, stands_none, noted_alike, retold, on_err}
 use Rattle.group_directory.proofs.StandLaws.{stands_removed}
 use Rattle.group_directory.proofs.directory.Directory.commit.Goals as goal
@@ -52,4 +52,4 @@ returns-clause-stands c = λ changes txn j is.
     (stands_done c.args.self.now changes j c.args.session c.in-Some.txn.own (ap own_of here)
     c.is_empty.ensures.order c.args.parcel c.requires.parcel
     c.in-Some.txn.number c.commit_own.new.list c.remove-2.new.self recent done.held done.claims done.book done.origins done.packed c.remove-2.ensures.txns
-    (noted ∙ noted_alike _ c.args.self.now.recent.changes c.commit_own.new.recent.changes _ (written_in c.in-Some.txn.own) done.noted (c.deref.ensures.value ∙ done.written))))
+    (noted ∙ noted_alike _ c.args.self.now.recent.changes c.commit_own.new.recent.changes _ (write_keys c.in-Some.txn.own) done.noted (c.deref.ensures.value ∙ done.written))))

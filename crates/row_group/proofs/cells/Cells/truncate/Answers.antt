@@ -1,5 +1,5 @@
 use Rattle.std.proofs.Common.{◌≡◌, ◌-◌, ◌∙◌, ◌++◌, length, map, take, ap, arith}
-use Rattle.column_segment.specs.Cells.{number_cell}
+use Rattle.cs_types.specs.Rows.{number_cell}
 use Rattle.row_group.proofs.CellLemmas.{take-parts}
 use Rattle.row_group.proofs.cells.Cells.truncate.Goals as goal
 
