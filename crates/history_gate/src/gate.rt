@@ -101,6 +101,8 @@ impl<V: Stands> Gate<V> {
         let Held { mut seat, value } = held;
         let served = serve(&self.table.shared, &mut seat, value);
         self.bells.of_ticket(served.wrapping_add(1)).notify_one();
+        // It is the next in line now: so it is awake, and looks, when its turn comes.
+        self.bells.of_ticket(served.wrapping_add(2)).notify_one();
         Pass { seat }
     }
 
