@@ -24,7 +24,8 @@ pub fn sum(minus: bool, a: i64, b: i64) -> Option<i64>
     }
 }
 
-/// The product, the quotient or the remainder of two numbers. None where bigint does not keep it, and where the divisor is 0.
+/// The product, the quotient or the remainder of two numbers. None where bigint does not keep it, or, for a remainder too, the quotient,
+/// and where the divisor is 0.
 pub fn product(times: Times, a: i64, b: i64) -> Option<i64>
     ensures { IfSome result (λ z. spec.product times a b ≡ Ok (loose.Number z 0)) }
 {

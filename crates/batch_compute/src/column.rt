@@ -35,10 +35,10 @@ fn kept_number(column: &Column, number: i64) -> Option<i64>
     }
 }
 
-/// The cell that a column keeps over a number of a series, of an expression or of NULL where there is none: a number, or NULL.
+/// The cell that a column keeps of an expression over a number of a series, or of NULL where it is given none: a number, or NULL.
 ///
-/// None says only that the cell is not found in this way: a part of the expression has no value that is a whole number of 64 bits, or
-/// the column refuses what was computed.
+/// None says only that the cell is not found in this way: a part of the expression has no `value` of 64 bits, or the column refuses what
+/// was computed.
 pub fn series_cell(column: &Column, expr: Option<&Expr>, number: i64) -> Option<Option<i64>>
     requires { IsColumnType column.now.kind }
     ensures { IfSome result (λ cell. kept_over column.now (option_copied expr.entry) number ≡ Ok (number_cell cell)) }

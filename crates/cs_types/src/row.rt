@@ -107,7 +107,8 @@ impl Row {
         Ok(())
     }
 
-    /// Takes out the cell of a column, in whose place NULL is left. It takes no memory.
+    /// Takes the cell of a column out and leaves NULL in its place; past the row's end it is NULL, and nothing changes. It takes no
+    /// memory.
     pub fn take(&mut self, column: usize) -> Value
         ensures taken { result ≡ cell_at self.old column }
         ensures left { self.new ≡ slice_set self.old column Value.Null }

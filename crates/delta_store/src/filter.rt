@@ -9,11 +9,12 @@ use delete_bitmap::Positions;
 use std::alloc::Global;
 use std::marker::Model;
 
-/// So many slots a key: where keys are scattered, one in sixteen of those that were not added is taken for one that was.
+/// So many slots a key: where keys are scattered, about one in sixteen of those that were not added is taken for one that was.
 const SLOTS: usize = 16;
 
-/// A filter of keys: a slot for each key, shared with others, is marked where one of them is among those that it was made of. So
-/// a key whose slot has no mark is not, and is told so at one look. Without slots it admits every key. Contracts see the marks.
+/// A filter of keys (Bloom, CACM 1970, with one hash function): a slot for each key, shared with others, is marked where one of them is
+/// among those that it was made of. One look at a slot without a mark tells that the key is none of them. Without slots it admits every
+/// key. Contracts see the marks.
 #[derive(Debug, Drop)]
 pub struct Filter {
     slots: Positions,
@@ -37,7 +38,8 @@ impl Filter {
         }
     }
 
-    /// A filter that admits the keys of these pairs. The number of slots is odd, so that keys at even distances use all of them.
+    /// A filter that admits the keys of these pairs. The number of slots is odd, so that keys whose distances are powers of two reach
+    /// every slot.
     pub fn of(alloc: Global, pairs: &[(Key, usize)]) -> Result<Filter, Memory>
         ensures { IfOk result (λ filter. AreAllAdmitted filter pairs.now) }
     {

@@ -17,7 +17,8 @@ const OWN: usize = 1024;
 ///
 /// New keys go into a run that is the index's own. Before it grows too long, and when the index is shared, it becomes the
 /// newest of the runs that shares have in common and that never change; these are merged as they grow. So n keys cost
-/// O(n log n) in whatever order they come, and a search looks into O(log n) runs. The form is the logarithmic method of
+/// O(n log n) in whatever order they come where room is asked for by at most 1,024 at a time, or of more at once where these
+/// ascend, and a search looks into O(log n) runs. The form is the logarithmic method of
 /// Bentley and Saxe (Journal of Algorithms 1, 1980).
 #[derive(Debug, Drop)]
 pub struct KeyIndex {

@@ -9,7 +9,7 @@ use cs_types::Key;
 use std::alloc::Global;
 use std::marker::Model;
 
-/// A run of at most so many keys is searched without a filter.
+/// A run that is sealed or merged has a filter if it has more keys than this.
 const UNFILTERED: usize = 1024;
 
 /// A place for each key of some, in the order of keys. Contracts see the pairs of key and place, and beside them `spare`,

@@ -26,7 +26,7 @@ pub fn place_of(runs: &[Arc<Run>], key: Key) -> Option<usize>
 }
 
 /// The pairs of the keys from `least` to `greatest` in one run: those of an own run and of others, of which the newest one that has a
-/// key decides. Beside the pairs that it passes, once for each run that has the key, it looks at O(log n) in each run.
+/// key decides. For each run it passes the pairs found so far, and looks at O(log n) pairs of its own.
 pub fn between(
     runs: &[Arc<Run>],
     own: &Run,
@@ -45,8 +45,8 @@ pub fn between(
     Ok(cut)
 }
 
-/// Makes an own run, with its filter, the newest of the others, where it has a pair, and empty. No pair is copied. After `Memory`
-/// all pairs are as before.
+/// Puts the own run behind the others as their newest, a long one with a filter, and leaves an empty one in its place. Without a pair it
+/// does nothing. No pair is copied. After `Memory` all pairs are as before.
 pub fn seal(runs: &mut Vec<Arc<Run>>, own: &mut Run, alloc: Global) -> Result<(), Memory>
     ensures pairs { own.new.pairs ++ pairs_of runs.new.items ≡ own.old.pairs ++ pairs_of runs.old.items }
     ensures own { OnOk result (own.new.pairs ≡ []) }

@@ -88,7 +88,7 @@ impl<V: Stands> Gate<V> {
     }
 
     /// Gives the value back and ends the turn. The section may have added one entry at the end, with one of the pass's
-    /// numbers. The pass that comes back has seen all.
+    /// numbers. The pass that comes back has seen all. It wakes the one whose turn it is then, and the one behind.
     pub fn leave(&self, held: Held<V>) -> Pass<V>
         requires gate { held.gate ≡ self.now.gate }
         requires grows { Grows V.number (own_numbers held.own) held.found (V.list held.value) }
@@ -101,7 +101,7 @@ impl<V: Stands> Gate<V> {
         let Held { mut seat, value } = held;
         let served = serve(&self.table.shared, &mut seat, value);
         self.bells.of_ticket(served.wrapping_add(1)).notify_one();
-        // It is the next in line now: so it is awake, and looks, when its turn comes.
+        // The ticket behind it is the next in line: its waiter is woken early, so that it may be looking when its turn comes.
         self.bells.of_ticket(served.wrapping_add(2)).notify_one();
         Pass { seat }
     }

@@ -24,8 +24,8 @@ fn is_served_soon<V: Stands>(table: &SharedTable<V>, ticket: u64) -> bool
     false
 }
 
-/// Waits until the ticket is served, and takes the turn. The next in line, whose bell is rung as soon as it is that, looks for a
-/// while first, since its turn is near; all others sleep at once, each on the bell of its ticket.
+/// Waits until the ticket is served, and takes the turn. The next in line looks for a while first, since its turn is near, and its
+/// bell is rung when it becomes that; all others sleep at once, each on the bell of its ticket.
 pub(crate) fn wait<V: Stands, R: Wait>(
     rt: &R,
     bells: &Bells,
