@@ -1,8 +1,10 @@
 -- Rows on the way to a group: columns of cells, and the rows that they show.
-use Rattle.std.specs.Prelude.{◌≡◌, ◌≢◌, ◌<◌, ◌++◌, ℕ, List, [], length, map, take, slice_index, slice_index_or, All, AllPairs, IsPermutation}
+use Rattle.std.specs.Prelude.{◌≡◌, ◌≢◌, ◌<◌, ◌++◌, ℕ, ℤ, List, [], Option, length, map, take, slice_index, slice_index_or, All, AllPairs, IsPermutation}
 use Rattle.std.specs.List.{range_with_len}
+use Rattle.std.specs.declared.alloc.Global.{Global}
+use Rattle.std.specs.declared.vec.Vec.{Vec}
 use Rattle.cs_types.specs.declared.Value.{Value}
-use Rattle.cs_types.specs.Rows.{cell_at}
+use Rattle.cs_types.specs.Rows.{cell_at, number_cell}
 use Rattle.row_group.specs.Rows.{PackedRow}
 use Rattle.row_group.specs.Groups.{Group, row_at}
 
@@ -18,6 +20,10 @@ source_row columns begins i = record { cells = map (λ column. cell_at column i)
 -- the rows of columns and begins
 abbrev pub source_rows : List (List Value) → List ℕ → List PackedRow
 source_rows columns begins = map (source_row columns begins) (range_with_len 0 (length begins))
+
+-- the cells of columns of numbers and NULLs
+abbrev pub numbered : List (Vec (Option ℤ) Global) → List (List Value)
+numbered columns = map (λ (column : Vec (Option ℤ) Global). map number_cell column.items) columns
 
 -- each column has so many cells
 abbrev pub AreEven : List (List Value) → ℕ → Type 0

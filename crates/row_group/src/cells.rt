@@ -39,6 +39,17 @@ impl Cells {
         }
     }
 
+    /// The cells of a list of numbers and NULLs, none of which is copied. It takes no memory.
+    pub fn of_numbers(numbers: Vec<Option<i64>>) -> Cells
+        ensures { result ≡ map number_cell numbers.items }
+    {
+        let alloc = *numbers.allocator();
+        Cells {
+            numbers,
+            values: Vec::new(alloc),
+        }
+    }
+
     /// The allocator that the list was made with.
     pub fn allocator(&self) -> Global {
         *self.numbers.allocator()

@@ -1,7 +1,7 @@
 ghost use Rattle.std.specs.Prelude.{◌≡◌, ◌<◌, ◌++◌, ◌∷◌, [], ℕ, length, map, take, replicate, All, IfOk, OnOk, OnErr};
 ghost use Rattle.cs_types.specs.Rows.{cell_at};
 ghost use Rattle.column_segment.specs.Bodies.{cell_in};
-ghost use Rattle.row_group.specs.Packings.{AreEven, HaveMore, BeginAs, AreCut, cells_at};
+ghost use Rattle.row_group.specs.Packings.{AreEven, HaveMore, BeginAs, AreCut, cells_at, numbered};
 
 use crate::cells::Cells;
 use crate::packed::Packed;
@@ -19,6 +19,17 @@ pub fn empty_columns(alloc: Global, width: usize) -> Result<Vec<Cells>, Memory>
         columns.push(Cells::new(alloc))?;
     }
     Ok(columns)
+}
+
+/// The columns of these numbers and NULLs. No cell is copied.
+pub fn numbered_columns(alloc: Global, columns: Vec<Vec<Option<i64>>>) -> Result<Vec<Cells>, Memory>
+    ensures { IfOk result (λ made. made.items ≡ numbered columns.items) }
+{
+    let mut made = Vec::with_capacity(alloc, columns.len())?;
+    for numbers in columns {
+        made.push(Cells::of_numbers(numbers))?;
+    }
+    Ok(made)
 }
 
 /// Makes room for so many cells more in each column. It changes none.

@@ -1,6 +1,6 @@
 use crate::arrange::row_order;
 use crate::cells::Cells;
-use crate::columns::{empty_columns, put_packed, put_row, reserve_cells};
+use crate::columns::{empty_columns, numbered_columns, put_packed, put_row, reserve_cells};
 use crate::order::inverse;
 use crate::pack::packed_by;
 use crate::packed::Packed;
@@ -31,11 +31,11 @@ impl Model for Packer {
 }
 
 impl Packer {
-    ghost use Rattle.std.specs.Prelude.{◌≡◌, ◌<◌, ◌++◌, ◌∷◌, ◌↔◌, [], All, length, map, IfOk, IfSome, IsNone, OnOk, OnErr};
+    ghost use Rattle.std.specs.Prelude.{◌≡◌, ◌<◌, ◌++◌, ◌∷◌, ◌↔◌, [], All, length, map, replicate, IfOk, IfSome, IsNone, OnOk, OnErr};
     ghost use Rattle.cs_types.specs.Schemas.{IsSchema, IsRowOf};
     ghost use Rattle.row_group.specs.Rows.{padded, begun_above};
     ghost use Rattle.row_group.specs.Groups.{row_at, HoldsRows};
-    ghost use Rattle.row_group.specs.Packings.{StandAt, IsOrderedBy};
+    ghost use Rattle.row_group.specs.Packings.{StandAt, IsOrderedBy, source_rows, numbered};
 
     /// No rows, in so many columns.
     pub fn new(alloc: Global, width: usize) -> Result<Packer, Memory>
@@ -44,6 +44,22 @@ impl Packer {
         Ok(Packer {
             columns: empty_columns(alloc, width)?,
             begins: Vec::new(alloc),
+        })
+    }
+
+    /// So many rows, whose columns of numbers and NULLs are these, each with this begin. No cell is copied.
+    pub fn of_columns(
+        alloc: Global,
+        columns: Vec<Vec<Option<i64>>>,
+        count: usize,
+        begin: u64,
+    ) -> Result<Packer, Memory>
+        requires { All (λ column. length column.items ≡ count) columns.items }
+        ensures { IfOk result (λ packer. packer ≡ record { width = length columns.items; rows = source_rows (numbered columns.items) (replicate count begin) }) }
+    {
+        Ok(Packer {
+            columns: numbered_columns(alloc, columns)?,
+            begins: vec![in alloc; begin; count]?,
         })
     }
 

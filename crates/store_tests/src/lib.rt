@@ -6,6 +6,8 @@
 #[cfg(test)]
 mod choice_tests;
 #[cfg(test)]
+mod column_parcel_tests;
+#[cfg(test)]
 mod delete_bitmap_tests;
 #[cfg(test)]
 mod delete_buffer_tests;

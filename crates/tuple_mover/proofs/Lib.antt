@@ -1,5 +1,6 @@
 pub mod InsertLemmas
 pub mod ParcelLemmas
+pub mod ColumnLemmas
 pub mod KeptLemmas
 pub mod GroupLemmas
 pub mod EntryLemmas

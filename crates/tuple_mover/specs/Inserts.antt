@@ -1,13 +1,16 @@
--- The rows that own writes insert.
-use Rattle.std.specs.Prelude.{◌≡◌, ℕ, List, map, length, IfSome}
+-- The rows that own writes insert, and rows that come by columns.
+use Rattle.std.specs.Prelude.{◌≡◌, ℕ, ℤ, List, map, length, All, Option, IfSome}
 use Rattle.std.specs.List.{flat_map}
 use Rattle.std.specs.Option.{option_map, option_to_list}
+use Rattle.std.specs.declared.alloc.Global.{Global}
+use Rattle.std.specs.declared.vec.Vec.{Vec}
 use Rattle.cs_types.specs.declared.Key.{Key}
 use Rattle.cs_types.specs.declared.Schema.{Schema}
 use Rattle.cs_types.specs.declared.Value.{Value}
 use Rattle.cs_types.specs.Rows.{key_in}
 use Rattle.cs_types.specs.Schemas.{IsRowOf}
 use Rattle.cs_model.specs.Changes.{Edit}
+use Rattle.batch_compute.specs.Columns.{AreColumnsOf}
 use Rattle.row_group.specs.declared.packed.Packed.{Packed}
 use Rattle.row_group.specs.Rows.{PackedRow, padded}
 use Rattle.row_group.specs.Groups.{HoldsRows}
@@ -32,3 +35,9 @@ direct_row width entry = padded width entry.1 0
 -- the group has the rows that the edits give, with base 0
 abbrev pub IsDirectOf : Schema → List Edit → Packed → Type 0
 IsDirectOf schema own group = HoldsRows schema (map (direct_row (length schema.columns)) (rows_given own)) 0 group
+
+-- rows of the schema that have these columns and these keys
+pub record AreRowsOf (schema : Schema) (keys : List Key) (columns : List (Vec (Option ℤ) Global)) (rows : List (List Value)) : Type 0 where
+  pub fit : All (IsRowOf schema) rows
+  pub held : AreColumnsOf (length schema.columns) rows columns
+  pub keyed : keys ≡ map (key_in schema.key) rows

@@ -2,11 +2,13 @@
 //! the row groups.
 //!
 //! Its one contract: `work` gives the product of a claim, the new group or the new bitmaps as an install of the book of row
-//! groups puts them in place, and `parcel_of` gives the parcel of own writes, as a commit of the book loads them. Both read
-//! what they are lent and change none of it. It depends on `row_group` for packing, on the bitmaps and the buffer, and on the
-//! definitions of `group_view`. The forms follow Larson et al., PVLDB 2015, section 4.
+//! groups puts them in place, and `parcel_of` gives the parcel of own writes, as a commit of the book loads them;
+//! `parcel_of_columns` gives that of rows that come by columns. None changes what it is lent. It depends on `row_group` for
+//! packing, on the bitmaps and the buffer, and on the definitions of `group_view`. The forms follow Larson et al., PVLDB 2015,
+//! section 4.
 #![tactic(auto)]
 
+mod column_parcels;
 mod flushes;
 mod groups;
 mod kept;
@@ -14,6 +16,7 @@ mod parcels;
 mod products;
 mod spent;
 
+pub use column_parcels::parcel_of_columns;
 pub use flushes::locate;
 pub use parcels::parcel_of;
 pub use products::{compress, merge, repack, work};

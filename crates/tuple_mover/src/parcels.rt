@@ -1,6 +1,8 @@
 // The parcel of a commit: which of its rows load directly.
-ghost use Rattle.std.specs.Prelude.{◌≡◌, ◌<◌, ◌≤◌, ◌++◌, ◌∷◌, [], map, take, length, All, IfOk, OnOk};
-ghost use Rattle.cs_types.specs.Schemas.{IsSchema};
+ghost use Rattle.std.specs.Prelude.{◌≡◌, ◌<◌, ◌≤◌, ◌++◌, ◌∷◌, [], map, take, length, min, All, IfOk, OnOk};
+ghost use Rattle.cs_types.specs.Schemas.{IsSchema, IsRowOf};
+ghost use Rattle.row_group.specs.Rows.{begun_above};
+ghost use Rattle.row_group.specs.Groups.{HoldsRows};
 ghost use Rattle.edit_laws.specs.Edits.{edits_of};
 ghost use Rattle.group_book.specs.Commits.{inserted_by};
 ghost use Rattle.group_view.specs.Parcels.{IsParcelFor};
@@ -45,6 +47,27 @@ fn place_past(writes: &[Write], count: usize) -> usize
     writes.len()
 }
 
+/// How many rows the next direct group takes of those that are left.
+pub(crate) fn part_len(left: usize, group_rows: u64) -> usize
+    ensures { result ≡ min group_rows left }
+{
+    (left as u64).min(group_rows) as usize
+}
+
+/// The group of the packer's rows, of which there is at least one, with base 0.
+pub(crate) fn packed(packer: Packer, schema: &Schema) -> Result<Packed, Memory>
+    requires schema { IsSchema schema.now }
+    requires width { packer.width ≡ length schema.now.columns }
+    requires fit { All (λ row. IsRowOf schema.now row.cells) packer.rows }
+    requires some { 0 < length packer.rows }
+    ensures { IfOk result (HoldsRows schema.now (map (begun_above 0) packer.rows) 0) }
+{
+    let Some(group) = packer.pack(schema, 0)? else {
+        unreachable!()
+    };
+    Ok(group)
+}
+
 /// Adds the row of a write that has one, with begin 0.
 fn add_row(packer: &mut Packer, write: &Write) -> Result<(), Memory>
     ensures { OnOk result (packer.new ≡ record packer.old { rows = packer.old.rows ++ map (direct_row packer.old.width) (rows_given (edits_of (write.now ∷ []))) }) }
@@ -72,10 +95,7 @@ fn direct_group(
     for write in writes {
         add_row(&mut packer, write)?;
     }
-    let Some(group) = packer.pack(schema, 0)? else {
-        unreachable!()
-    };
-    Ok(group)
+    packed(packer, schema)
 }
 
 /// Adds the row of a write that has one, with its key.
@@ -121,7 +141,7 @@ pub fn parcel_of(
     let mut writes = own;
     let mut groups = Vec::new(alloc);
     while direct_rows <= left as u64 {
-        let count = (left as u64).min(group_rows) as usize;
+        let count = part_len(left, group_rows);
         let (part, rest) = writes.split_at(place_past(writes, count));
         groups.push(direct_group(alloc, schema, part, count)?)?;
         writes = rest;

@@ -32,7 +32,7 @@ loop-left-preserved c =
     let back = c.split_at.result.1.now in
     let both : edits_of front ++ edits_of back ≡ edits_of writes =
     ap (λ (part : List Write). edits_of part ++ edits_of back) c.split_at.ensures.front ∙ ap (λ (part : List Write). edits_of (take n writes) ++ edits_of part) c.split_at.ensures.back ∙ edits-split n writes in
-    let count : length (inserted_by (edits_of front)) ≡ c.min-count.result = ap (λ (part : List Write). length (inserted_by (edits_of part))) c.split_at.ensures.front ∙ c.place_past.ensures.count in
+    let count : length (inserted_by (edits_of front)) ≡ c.part_len-count.result = ap (λ (part : List Write). length (inserted_by (edits_of part))) c.split_at.ensures.front ∙ c.place_past.ensures.count in
     let counts = split-count (edits_of front) (edits_of back) (edits_of writes) both in
     let left = c.loop-left.invariant.left in
     let group : Group = c.in_ok-direct_group.field-0 in
@@ -45,7 +45,7 @@ loop-left-preserved c =
           subst (λ (groups : List Group). IsParcelFor schema sizes (edits_of c.args.own.now) (record { groups = groups ++ tail.groups; rest = tail.rest })) (sym c.in_ok-push.ensures.items)
           (parcel_step schema c.requires.schema sizes c.requires.groups c.requires.direct (edits_of c.args.own.now) (edits_of writes) (edits_of front) (edits_of back) c.loop-left.groups.items group both
           (fit-front (FitsIn schema) (edits_of front) (edits_of back) (edits_of writes) both c.loop-left.invariant.fit) c.in_ok-direct_group.ensures
-          (omega (arith, left, c.loop-left-test.true)) (omega (arith, left, count, c.min-count.ensures)) c.loop-left.invariant.parcel tail rest);
+          (omega (arith, left, c.loop-left-test.true)) (omega (arith, left, count, c.part_len-count.ensures)) c.loop-left.invariant.parcel tail rest);
       base = subst (λ (groups : List Group). All is_based groups) (sym c.in_ok-push.ensures.items)
           (All-push is_based c.loop-left.groups.items group c.loop-left.invariant.base direct.base);
     }
