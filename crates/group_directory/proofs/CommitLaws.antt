@@ -16,7 +16,7 @@ use Rattle.cs_types.specs.declared.Key.{Key}
 use Rattle.cs_types.specs.declared.Value.{Value}
 use Rattle.cs_types.specs.Keys.{key_cmp}
 use Rattle.cs_model.specs.declared.work.Actor.{Actor}
-use Rattle.cs_model.specs.Changes.{Change}
+use Rattle.cs_model.specs.Changes.{Edit, Change}
 use Rattle.cs_model.specs.Obstacles.{keys_of}
 use Rattle.cs_model.specs.Steps.{numbered}
 use Rattle.edit_laws.specs.Edits.{edits_of}
@@ -24,8 +24,7 @@ use Rattle.delete_buffer.specs.Entries.{Ascend}
 use Rattle.write_set.specs.declared.write.Write.{Write}
 use Rattle.write_set.specs.Writes as writes
 use Rattle.txn_table.specs.declared.txn.Txn.{Txn}
-use Rattle.txn_table.specs.Txns.{Table, txn_of, with, own_of}
-use Rattle.version_store.specs.declared.NewestChange.{NewestChange}
+use Rattle.txn_table.specs.Txns.{Table, txn_of, with}
 use Rattle.version_store.specs.Newest.{Newest, Changes}
 use Rattle.group_book.specs.Book.{Book, opened}
 use Rattle.group_book.specs.Commits.{Sizes, is_in_table, is_one_of, has_live, replaced_by, inserted_by, direct_parts, after_ends, after_loads, after_rest}
@@ -41,10 +40,10 @@ use Rattle.group_view.specs.Parts.{Rowed, ArePacked}
 use Rattle.group_directory.specs.declared.directory.Directory.{Directory}
 use Rattle.group_directory.specs.Rows.{rooted}
 use Rattle.group_directory.specs.Stands.{width_in, rows_in, listed_rows, IsLoanOf, IsRecent, Stands}
-use Rattle.group_directory.specs.Laws.{rooted_at, noted_by, sizes_of, MayBeList}
+use Rattle.group_directory.specs.Laws.{rooted_at, noted_by, sizes_of}
 use Rattle.group_view.specs.Parcels.{keys_in, packed_keys, parcel_rows}
 use Rattle.group_directory.specs.Committing.{Origin, origin_of, origins, new_origin, rebased, packed_groups, after_parcel}
-use Rattle.group_directory.specs.Calls.{replaced_in, IsParcelFor}
+use Rattle.group_directory.specs.Calls.{replaced_in, IsParcelFor, IsCommitOf}
 use Rattle.write_set.specs.Writes.{write_keys}
 use Rattle.group_directory.proofs.KeyLaws.{keys_are, sorted_keys, replaced_are, inserted_are}
 use Rattle.group_directory.proofs.PutLemmas.{keys_up}
@@ -70,7 +69,7 @@ written_up own up = subst (λ (keys : List Key). Ascend keys) (keys_are own) (ke
 some_up : (test : Write → Bool) (own : List Write) → writes.Ascend own → Ascend (write_keys (filter test own))
 some_up test own up = written_up (filter test own) (AllPairs-filter (λ (a b : Write). key_cmp a.key b.key ≡ Less) test own up)
 
-pub replaced_up : (own : List Write) → writes.Ascend own → Ascend (replaced_in own)
+replaced_up : (own : List Write) → writes.Ascend own → Ascend (replaced_in own)
 replaced_up own up = some_up (λ (write : Write). write.replaces) own up
 
 pub written_more : (own : List Write) (i : ℕ) (write : Write) → slice_get own i ≡ Some write → write_keys (take (i + 1) own) ≡ write_keys (take i own) ++ write.key ∷ []
@@ -143,32 +142,38 @@ module _ (directory : Directory) (cs : List Change) (j : Stands directory cs) wh
   pub notes_older : (key : Key) → ForSome (finite.get directory.recent.changes key) (λ other. other.commit < directory.clock + 1)
   notes_older key other is = let low = noted_low directory.pruned directory.recent.changes cs j.recent directory.clock j.numbered key other is in omega (arith, low)
 
-  module _ (session : ℕ) (own : List Write) (own_is : own_of (txn_of directory.txns session) ≡ own) (up : writes.Ascend own) (parcel : Parcel) (is_for : IsParcelFor directory (own_of (txn_of directory.txns session)) parcel) where
+  module _ (session : ℕ) (written replaced : List Key) (parcel : Parcel) (own : List Write) (is : IsCommitOf directory cs session written replaced parcel own) where
     given : IsParcelFor directory own parcel
-    given = subst (λ (o : List Write). IsParcelFor directory o parcel) own_is is_for
+    given = is.parcel
 
     abbrev Says : Write → Type 0
     Says write = write.replaces ≡ is_in_table cs directory.clock write.key
 
-    replaced_is : replaced_by cs directory.clock (edits_of own) ≡ replaced_in own
-    replaced_is = replaced_are cs directory.clock own (recursion_from_All Says own (subst (λ (o : List Write). All Says o) own_is (j.txns.replaced session)))
+    replaced_is : replaced_by cs directory.clock (edits_of own) ≡ replaced
+    replaced_is = let may = is.may in replaced_are cs directory.clock own (recursion_from_All Says own may.replaces) ∙ sym is.replaced
+
+    pub keys_ascend : Ascend written
+    keys_ascend = subst (λ (keys : List Key). Ascend keys) (sym is.keys) (written_up own is.order)
+
+    pub replaced_ascend : Ascend replaced
+    replaced_ascend = subst (λ (keys : List Key). Ascend keys) (sym is.replaced) (replaced_up own is.order)
 
     pub rest_up : Ascend (keys_in parcel.rest)
     rest_up =
         subst (λ (keys : List Key). Ascend keys) (sym given.parts.rest)
         (rest_of (λ (keys : List Key). Ascend keys) keys_up (length (inserted_by (edits_of own))) (sizes_of directory) (inserted_by (edits_of own))
-        (subst (λ (keys : List Key). Ascend keys) (sym (inserted_are own)) (some_up (λ (write : Write). is_some write.row) own up)))
+        (subst (λ (keys : List Key). Ascend keys) (sym (inserted_are own)) (some_up (λ (write : Write). is_some write.row) own is.order)))
 
     abbrev IsReplaced : List Key → Key → Type 0
-    IsReplaced replaced key = let whole = book_of directory.list in has_live key (opened whole.groups) ≡ true → is_one_of replaced key ≡ true
+    IsReplaced keys key = let whole = book_of directory.list in has_live key (opened whole.groups) ≡ true → is_one_of keys key ≡ true
 
-    pub rest_live : All (IsReplaced (replaced_in own)) (keys_in parcel.rest)
+    pub rest_live : All (IsReplaced replaced) (keys_in parcel.rest)
     rest_live =
         let inserted = subst (λ (keys : List Key). All (IsReplaced keys) (inserted_by (edits_of own))) replaced_is (live_replaced directory cs j (edits_of own)) in
-        All-from_recursion (IsReplaced (replaced_in own)) (keys_in parcel.rest)
-        (subst (λ (keys : List Key). AllByRecursion (IsReplaced (replaced_in own)) keys) (sym given.parts.rest)
-        (rest_of (λ (keys : List Key). AllByRecursion (IsReplaced (replaced_in own)) keys) (λ key keys all. all.1) (length (inserted_by (edits_of own))) (sizes_of directory) (inserted_by (edits_of own))
-        (recursion_from_All (IsReplaced (replaced_in own)) (inserted_by (edits_of own)) inserted)))
+        All-from_recursion (IsReplaced replaced) (keys_in parcel.rest)
+        (subst (λ (keys : List Key). AllByRecursion (IsReplaced replaced) keys) (sym given.parts.rest)
+        (rest_of (λ (keys : List Key). AllByRecursion (IsReplaced replaced) keys) (λ key keys all. all.1) (length (inserted_by (edits_of own))) (sizes_of directory) (inserted_by (edits_of own))
+        (recursion_from_All (IsReplaced replaced) (inserted_by (edits_of own)) inserted)))
 
     -- ---- what it leaves
 
@@ -179,36 +184,32 @@ module _ (directory : Directory) (cs : List Change) (j : Stands directory cs) wh
       abbrev c : ℕ
       c = directory.clock + 1
 
-      abbrev now : List Write → List Change
-      now o = cs ++ numbered c number (edits_of o)
+      abbrev now : List Change
+      now = cs ++ numbered c number (edits_of own)
 
-      done_book : book_of list ≡ after_parcel g c (replaced_in own) parcel (book_of directory.list) → IsBookOf g (book_of list) (now own) j.floor
+      done_book : book_of list ≡ after_parcel g c replaced parcel (book_of directory.list) → IsBookOf g (book_of list) now j.floor
       done_book book_is =
           let parts : List (List Key) × List Key = direct_parts (length (inserted_by (edits_of own))) (sizes_of directory) (inserted_by (edits_of own)) in
-          subst (λ (whole : Book). IsBookOf g whole (now own) j.floor) (sym book_is)
-          (subst (λ (keys : List Key). IsBookOf g (after_rest g c keys (after_loads c (map packed_keys parcel.groups) (after_ends (replaced_in own) c (book_of directory.list)))) (now own) j.floor) (sym given.parts.rest)
-          (subst (λ (keys : List Key). IsBookOf g (after_rest g c parts.1 (after_loads c (map packed_keys parcel.groups) (after_ends keys c (book_of directory.list)))) (now own) j.floor) replaced_is
-          (book_committed directory cs j number (edits_of own) (map packed_keys parcel.groups) (sorted_keys own up) (zip_keys parts.0 parcel.groups given.parts.groups))))
+          subst (λ (whole : Book). IsBookOf g whole now j.floor) (sym book_is)
+          (subst (λ (keys : List Key). IsBookOf g (after_rest g c keys (after_loads c (map packed_keys parcel.groups) (after_ends replaced c (book_of directory.list)))) now j.floor) (sym given.parts.rest)
+          (subst (λ (keys : List Key). IsBookOf g (after_rest g c parts.1 (after_loads c (map packed_keys parcel.groups) (after_ends keys c (book_of directory.list)))) now j.floor) replaced_is
+          (book_committed directory cs j number (edits_of own) (map packed_keys parcel.groups) (sorted_keys own is.order) (zip_keys parts.0 parcel.groups given.parts.groups))))
 
-      pub stands_done : (txns : Table) (recent : Newest) → IsHeld list → list.claims ≡ directory.list.claims → book_of list ≡ after_parcel g c (replaced_in own) parcel (book_of directory.list)
+      pub stands_done : (txns : Table) (recent : Newest) → IsHeld list → list.claims ≡ directory.list.claims → book_of list ≡ after_parcel g c replaced parcel (book_of directory.list)
           → IsPermutation (origins directory.list.groups.items ++ map (new_origin c) (parcel_rows parcel)) (origins list.groups.items)
           → packed_groups list.groups.items ≡ packed_groups directory.list.groups.items ++ map (rebased c) parcel.groups → txn_of txns ≡ with (txn_of directory.txns) session None
-          → recent.changes ≡ noted_by (record { commit = c; txn = number }) directory.recent.changes (write_keys own)
-          → Stands (record directory { list = list; txns = txns; recent = recent; clock = directory.clock + 1 }) (now own)
+          → recent.changes ≡ noted_by (record { commit = c; txn = number }) directory.recent.changes written
+          → Stands (record directory { list = list; txns = txns; recent = recent; clock = directory.clock + 1 }) now
       stands_done txns recent held claims book_is moved packed gone noted =
-          let rows = committed_rows directory cs j number (edits_of own) (listed_rows list) (parcel_rows parcel) (sorted_keys own up) given.given (roots_moved c directory.list.groups.items list.groups.items (parcel_rows parcel) moved) in
-          let loans = subst (λ (all : List (Actor × Claim)). All (IsLoanOf directory.schema.value (now own)) all) (sym (ap (λ (some : Vec (Actor × Claim) Global). some.items) claims)) (committed_loans directory cs j number (edits_of own)) in
+          let rows = committed_rows directory cs j number (edits_of own) (listed_rows list) (parcel_rows parcel) (sorted_keys own is.order) given.given (roots_moved c directory.list.groups.items list.groups.items (parcel_rows parcel) moved) in
+          let loans = subst (λ (all : List (Actor × Claim)). All (IsLoanOf directory.schema.value now) all) (sym (ap (λ (some : Vec (Actor × Claim) Global). some.items) claims)) (committed_loans directory cs j number (edits_of own)) in
           let same = ap (λ (some : Vec (Actor × Claim) Global). some.items) claims in
-          let lent = lent_moved directory.list list (after_parcel g c (replaced_in own) parcel (book_of directory.list)) book_is same
-          (λ claim in_list. stay_committed g (book_of directory.list) cs j.floor j.book claim in_list g c (replaced_in own) (keys_in parcel.rest) (map packed_keys parcel.groups)) j.lent in
+          let lent = lent_moved directory.list list (after_parcel g c replaced parcel (book_of directory.list)) book_is same
+          (λ claim in_list. stay_committed g (book_of directory.list) cs j.floor j.book claim in_list g c replaced (keys_in parcel.rest) (map packed_keys parcel.groups)) j.lent in
           let are = packed_after directory.schema.value c directory.list.groups.items list.groups.items parcel.groups packed given.begun given.packed j.packed in
-          let may : MayBeList directory list (now own) = record { held = held; rows = rows; packed = are; loans = loans; lent = lent } in
-          let keys : write_keys own ≡ keys_of (edits_of (own_of (txn_of directory.txns session))) = sym (ap (λ (o : List Write). keys_of (edits_of o)) own_is ∙ keys_are own) in
-          subst (λ (o : List Write). Stands (record directory { list = list; txns = txns; recent = recent; clock = directory.clock + 1 }) (now o)) own_is
-          (stands_committed directory cs j txns session number list recent
-          (subst (λ (o : List Write). MayBeList directory list (now o)) (sym own_is) may)
-          (subst (λ (o : List Write). IsBookOf g (book_of list) (now o) j.floor) (sym own_is) (done_book book_is))
-          gone (noted ∙ ap (λ (all : List Key). noted_by (record { commit = c; txn = number }) directory.recent.changes all) keys))
+          let keys : written ≡ keys_of (edits_of own) = is.keys ∙ sym (keys_are own) in
+          stands_committed directory cs j txns session number own list recent is.may (record { held = held; rows = rows; packed = are; loans = loans; lent = lent }) (done_book book_is)
+          gone (noted ∙ ap (λ (all : List Key). noted_by (record { commit = c; txn = number }) directory.recent.changes all) keys)
 
   -- ---- where nothing has changed but room
 
@@ -232,19 +233,20 @@ module _ (directory : Directory) (cs : List Change) (j : Stands directory cs) wh
 
 -- ---- nothing to commit
 
+-- who has no keys has no writes
+pub none_written : (keys : List Key) (own : List Write) → keys ≡ [] → keys ≡ write_keys own → own ≡ []
+none_written keys [] none is = refl
+none_written keys (write ∷ own) none is = absurd (cc (none, is))
+
 pub stands_none : (directory : Directory) (cs : List Change) (c number : ℕ) (own : List Write) → own ≡ [] → Stands directory cs → Stands directory (cs ++ numbered c number (edits_of own))
 stands_none directory cs c number own none j = subst (λ (o : List Write). Stands directory (cs ++ numbered c number (edits_of o))) (sym none) (subst (Stands directory) (sym (append-nil cs)) j)
 
--- the same keys noted in the same changes
-pub noted_alike : (note : NewestChange) (was now : Changes) (keys own : List Key) → now ≡ was → keys ≡ own → noted_by note now keys ≡ noted_by note was own
-noted_alike note was now keys own changes_are keys_are = ap (λ (m : Changes). noted_by note m keys) changes_are ∙ ap (noted_by note was) keys_are
-
 -- one transaction under two names
-pub retold : (directory : Directory) (cs : List Change) (c : ℕ) (own : List Write) (code txn : Txn) → own ≡ code.own → (let here : Option Txn = Some code in here) ≡ Some txn → Stands directory (cs ++ numbered c code.number (edits_of own))
-    → Stands directory (cs ++ numbered c txn.number (edits_of txn.own))
-retold directory cs c own code txn own_is same j =
+pub retold : (directory : Directory) (cs : List Change) (c : ℕ) (own : List Edit) (code txn : Txn) → (let here : Option Txn = Some code in here) ≡ Some txn → Stands directory (cs ++ numbered c code.number own)
+    → Stands directory (cs ++ numbered c txn.number own)
+retold directory cs c own code txn same j =
     let one : code ≡ txn = cc in
-    subst (λ (t : Txn). Stands directory (cs ++ numbered c t.number (edits_of t.own))) one (subst (λ (o : List Write). Stands directory (cs ++ numbered c code.number (edits_of o))) own_is j)
+    subst (λ (t : Txn). Stands directory (cs ++ numbered c t.number own)) one j
 
 pub on_err : {X Y : Type 0} (P : Type 0) (result : Result X Y) → P → OnErr result P
 on_err P (Ok x) holds = tt

@@ -15,7 +15,7 @@ use Rattle.log_laws.proofs.Floors.{floor_one}
 use Rattle.edit_laws.specs.Edits.{edits_of}
 use Rattle.write_set.specs.declared.write.Write.{Write}
 use Rattle.txn_table.specs.declared.txn.Txn.{Txn}
-use Rattle.txn_table.specs.Txns.{Table, txn_of, with, opened, deepened, fixed, widened, snapshot_of, own_of, snapshots_in}
+use Rattle.txn_table.specs.Txns.{Table, txn_of, with, opened, deepened, fixed, widened, snapshot_of, snapshots_in}
 use Rattle.version_store.specs.Newest.{Newest, Changes, KeepsAbove}
 use Rattle.row_group.specs.declared.packed.Packed.{Packed}
 use Rattle.group_book.specs.Book.{Book}
@@ -30,10 +30,10 @@ use Rattle.group_view.specs.Lists.{listed, packed_in}
 use Rattle.group_view.specs.Laws.{IsRowOf}
 use Rattle.group_directory.specs.declared.directory.Directory.{Directory}
 use Rattle.group_directory.specs.Stands.{width_in, rows_in, IsLoanOf, IsRecent, AreTxns, Stands}
-use Rattle.group_directory.specs.Laws.{noted_by, MayStage, MayBeList, IsNew}
+use Rattle.group_directory.specs.Laws.{noted_by, MayStage, MayCommit, MayBeList, IsNew}
 use Rattle.group_directory.proofs.RecentLaws.{recent_none, recent_new, recent_pruned, recent_clear}
 use Rattle.group_directory.proofs.FloorLaws.{floor_there, floor_same, snapshots_same, snapshot-deepened, snapshot-widened, floor_fixed, floor_ended}
-use Rattle.group_directory.proofs.TxnLaws.{txns_none, txns_opened, txns_deepened, txns_fixed, txns_removed, txns_staged, txns_committed}
+use Rattle.group_directory.proofs.TxnLaws.{txns_none, txns_opened, txns_deepened, txns_fixed, txns_removed, txns_staged, txns_written}
 
 -- ---- the changes after a commit
 
@@ -121,27 +121,27 @@ module _ (directory : Directory) (cs : List Change) (j : Stands directory cs) wh
 
     -- ---- a commit
 
-    pub stands_committed : (session number : ℕ) (list : GroupList) (recent : Newest) → MayBeList directory list (cs ++ numbered (directory.clock + 1) number (edits_of (own_of (was session))))
-        → IsBookOf directory.sizes.group_rows (book_of list) (cs ++ numbered (directory.clock + 1) number (edits_of (own_of (was session)))) j.floor
-        → txn_of txns ≡ with was session None → recent.changes ≡ noted_by (record { commit = directory.clock + 1; txn = number }) directory.recent.changes (keys_of (edits_of (own_of (was session))))
-        → Stands (record directory { list = list; txns = txns; recent = recent; clock = directory.clock + 1 }) (cs ++ numbered (directory.clock + 1) number (edits_of (own_of (was session))))
-    stands_committed session number list recent may book is noted =
+    pub stands_committed : (session number : ℕ) (own : List Write) (list : GroupList) (recent : Newest) → MayCommit was cs directory.clock session own → MayBeList directory list (cs ++ numbered (directory.clock + 1) number (edits_of own))
+        → IsBookOf directory.sizes.group_rows (book_of list) (cs ++ numbered (directory.clock + 1) number (edits_of own)) j.floor
+        → txn_of txns ≡ with was session None → recent.changes ≡ noted_by (record { commit = directory.clock + 1; txn = number }) directory.recent.changes (keys_of (edits_of own))
+        → Stands (record directory { list = list; txns = txns; recent = recent; clock = directory.clock + 1 }) (cs ++ numbered (directory.clock + 1) number (edits_of own))
+    stands_committed session number own list recent commits may book is noted =
         let found = later session (directory.clock + 1) is (omega arith) in
         record {
           sizes = j.sizes;
           held = may.held;
-          numbered = changes_more directory.clock number (edits_of (own_of (was session))) cs j.numbered;
+          numbered = changes_more directory.clock number (edits_of own) cs j.numbered;
           floor = found.0;
           is_floor = found.2;
-          book = book_rise directory.sizes.group_rows (book_of list) (cs ++ numbered (directory.clock + 1) number (edits_of (own_of (was session)))) j.floor found.0 found.1 book;
+          book = book_rise directory.sizes.group_rows (book_of list) (cs ++ numbered (directory.clock + 1) number (edits_of own)) j.floor found.0 found.1 book;
           rows = may.rows;
           packed = may.packed;
           loans = may.loans;
           lent = may.lent;
-          recent = subst (λ (m : Changes). IsRecent directory.pruned m (cs ++ numbered (directory.clock + 1) number (edits_of (own_of (was session))))) (sym noted)
-              (recent_new directory.pruned directory.recent.changes cs j.recent directory.clock number (edits_of (own_of (was session))));
+          recent = subst (λ (m : Changes). IsRecent directory.pruned m (cs ++ numbered (directory.clock + 1) number (edits_of own))) (sym noted)
+              (recent_new directory.pruned directory.recent.changes cs j.recent directory.clock number (edits_of own));
           pruned = let low = j.pruned in let le = found.1 in omega (arith, low, le);
-          txns = subst (λ (g : ℕ → Option Txn). AreTxns g (cs ++ numbered (directory.clock + 1) number (edits_of (own_of (was session)))) (directory.clock + 1)) (sym is) (txns_committed was cs directory.clock session number j.numbered j.txns);
+          txns = subst (λ (g : ℕ → Option Txn). AreTxns g (cs ++ numbered (directory.clock + 1) number (edits_of own)) (directory.clock + 1)) (sym is) (txns_written was cs directory.clock session number own j.numbered j.txns commits);
         }
 
   -- ---- the groups

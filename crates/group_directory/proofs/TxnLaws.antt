@@ -25,7 +25,7 @@ use Rattle.group_book.proofs.Changes.{last_at, later, last-append, last-later, l
 use Rattle.group_book.proofs.Visible.{ascending_of, below_of}
 use Rattle.group_book.proofs.Made.{is_written}
 use Rattle.group_directory.specs.Stands.{SayReplaced, AreUnchanged, AreTxns}
-use Rattle.group_directory.specs.Laws.{MayStage}
+use Rattle.group_directory.specs.Laws.{MayStage, MayCommit}
 use Rattle.group_directory.proofs.RecentLaws.{above_stays}
 use Rattle.group_directory.proofs.RowLaws.{none_made}
 use Rattle.group_directory.proofs.FloorLaws.{snapshot-deepened, snapshot-widened}
@@ -190,6 +190,24 @@ row_there cs s key = ap is_some (row_is cs s key)
 pub quiet_row : (cs : List Change) (clock : ℕ) → AreChanges cs clock → (key : Key) (s : ℕ) → s ≤ clock → is_above (newest key cs) (Some s) ≡ false → has_row (table cs s) key ≡ is_in_table cs clock key
 quiet_row cs clock a key s le quiet = row_there cs s key ∙ ap (λ (o : Option Change). is_some (made o)) (sym (last-later cs key s clock (quiet_next cs clock a key s le quiet) le))
 
+-- ---- writes that may be committed
+
+-- own writes may be committed
+pub own_commits : (txns : ℕ → Option Txn) (changes : List Change) (clock session : ℕ) → AreTxns txns changes clock → MayCommit txns changes clock session (own_of (txns session))
+own_commits txns changes clock session j = record {
+  free = All-in (Contains (own_of (txns session))) (λ (w : Write). (other : ℕ) → other ≢ session → Owns (txns other) w.key → ⊥) (own_of (txns session))
+      (λ w there _ other ne theirs. j.owners other session w.key ne theirs (there.0, w, there.1, there.2, refl)) (All-contains_itself (own_of (txns session)));
+  replaces = j.replaced session;
+}
+
+-- so may writes that may be laid over them
+pub staged_commits : (txns : ℕ → Option Txn) (changes : List Change) (clock session s : ℕ) (writes : List Write) → AreChanges changes clock → AreTxns txns changes clock → MayStage txns changes session s writes
+    → MayCommit txns changes clock session writes
+staged_commits txns changes clock session s writes a j may = record {
+  free = may.free;
+  replaces = λ k d inside. may.replaces k d inside ∙ quiet_row changes clock a (get_or writes k d).key s (j.snapshots session s may.snapshot) (may.quiet k d inside);
+}
+
 -- ---- writes are laid over the own ones
 
 abbrev SaysIt : List Change → ℕ → Write → Type 0
@@ -205,7 +223,7 @@ txns_staged txns changes clock session s writes a j may =
     one_changed txns changes clock session j (widened writes (txns session))
     (λ n is. j.snapshots session n (sym (snapshot-widened writes (txns session)) ∙ is))
     apart
-    (subst (All (SaysIt changes clock)) (sym own) (All-staged (SaysIt changes clock) (own_of (txns session)) writes (j.replaced session) says))
+    (subst (All (SaysIt changes clock)) (sym own) (All-staged (SaysIt changes clock) (own_of (txns session)) writes (j.replaced session) (let commits = staged_commits txns changes clock session s writes a j may in commits.replaces)))
     (λ none. absurd (cc (none, snapshot)))
     (subst (λ (q : Option ℕ). All (IsCalm q) (own_of (widened writes (txns session)))) (sym snapshot)
     (subst (All (IsCalm (Some s))) (sym own) (All-staged (IsCalm (Some s)) (own_of (txns session)) writes (subst (λ (q : Option ℕ). All (IsCalm q) (own_of (txns session))) may.snapshot (j.unchanged session)) may.quiet)))
@@ -218,12 +236,6 @@ txns_staged txns changes clock session s writes a j may =
 
     own : own_of (widened writes (txns session)) ≡ staged (own_of (txns session)) writes
     own = own-widened writes (txns session) s may.snapshot
-
-    low : s ≤ clock
-    low = j.snapshots session s may.snapshot
-
-    says : All (SaysIt changes clock) writes
-    says k d inside = may.replaces k d inside ∙ quiet_row changes clock a (get_or writes k d).key s low (may.quiet k d inside)
 
     apart : (other : ℕ) (key : Key) → other ≢ session → Owns (txns other) key → Owns (widened writes (txns session)) key → ⊥
     apart other key ne p q =
@@ -259,9 +271,9 @@ row_stays cs clock txn own low key none =
     ∙ ap (λ (o : Option Change). later o (last_at cs key (clock + 1))) (none_made own clock txn key none)
     ∙ last-later cs key clock (clock + 1) (none_next cs clock low key) (omega arith)))
 
-pub txns_committed : (txns : ℕ → Option Txn) (changes : List Change) (clock session number : ℕ) → AreChanges changes clock → AreTxns txns changes clock
-    → AreTxns (with txns session None) (changes ++ numbered (clock + 1) number (edits_of (own_of (txns session)))) (clock + 1)
-txns_committed txns changes clock session number a j = record {
+pub txns_written : (txns : ℕ → Option Txn) (changes : List Change) (clock session number : ℕ) (writes : List Write) → AreChanges changes clock → AreTxns txns changes clock → MayCommit txns changes clock session writes
+    → AreTxns (with txns session None) (changes ++ numbered (clock + 1) number (edits_of writes)) (clock + 1)
+txns_written txns changes clock session number writes a j may = record {
   snapshots = λ s n is. let le = left.snapshots s n is in omega (arith, le);
   owners = left.owners;
   replaced = λ s. says_at s (s == session) refl;
@@ -273,7 +285,7 @@ txns_committed txns changes clock session number a j = record {
     left = txns_removed txns changes clock session j
 
     own : List Edit
-    own = edits_of (own_of (txns session))
+    own = edits_of writes
 
     later_changes : List Change
     later_changes = changes ++ numbered (clock + 1) number own
@@ -281,8 +293,8 @@ txns_committed txns changes clock session number a j = record {
     -- a key of another transaction is not written
     other_key : (s : ℕ) → (s == session) ≡ false → (w : Write) → Contains (own_of (txns s)) w → is_written own w.key ≡ false
     other_key s e w there =
-        unwritten (own_of (txns session)) w.key (recursion_from_All (λ (v : Write). v.key ≡ w.key → ⊥) (own_of (txns session))
-        (not_owned (txns session) w.key (λ mine. j.owners s session w.key (other_session txns changes clock session j s e) (there.0, w, there.1, there.2, refl) mine)))
+        unwritten writes w.key (recursion_from_All (λ (v : Write). v.key ≡ w.key → ⊥) writes
+        (λ k d inside is. may.free k d inside s (other_session txns changes clock session j s e) (there.0, w, there.1, there.2, sym is)))
 
     says_at : (s : ℕ) (t : Bool) → (s == session) ≡ t → SayReplaced later_changes (clock + 1) (cond t None (txns s))
     says_at s true e = All-nil (SaysIt later_changes (clock + 1))
@@ -298,6 +310,10 @@ txns_committed txns changes clock session number a j = record {
     un_at s false e = All-in (IsCalm changes s) (IsCalm later_changes s) (own_of (txns s)) (λ w there is.
         above_stays (clock + 1) number w.key changes own (snapshot_of (txns s)) (other_key s e w there) ∙ is)
         (j.unchanged s)
+
+pub txns_committed : (txns : ℕ → Option Txn) (changes : List Change) (clock session number : ℕ) → AreChanges changes clock → AreTxns txns changes clock
+    → AreTxns (with txns session None) (changes ++ numbered (clock + 1) number (edits_of (own_of (txns session)))) (clock + 1)
+txns_committed txns changes clock session number a j = txns_written txns changes clock session number (own_of (txns session)) a j (own_commits txns changes clock session j)
 
 -- ---- no transaction
 pub txns_none : (txns : ℕ → Option Txn) (changes : List Change) (clock : ℕ) → ((session : ℕ) → txns session ≡ None) → AreTxns txns changes clock

@@ -12,7 +12,7 @@ use Rattle.txn_table.specs.Txns.{txn_of, snapshots_in, Owns}
 use Rattle.version_store.specs.declared.NewestChange.{NewestChange}
 use Rattle.version_store.specs.Newest as newest_changes
 use Rattle.group_book.specs.Book.{empty}
-use Rattle.group_book.specs.Commits.{Sizes}
+use Rattle.group_book.specs.Commits.{Sizes, is_in_table}
 use Rattle.group_view.specs.declared.claim.Claim.{Claim}
 use Rattle.group_view.specs.declared.groups.GroupList.{GroupList}
 use Rattle.group_view.specs.declared.parts.GroupPart.{GroupPart}
@@ -57,6 +57,12 @@ pub record MayStage (txns : ℕ → Option Txn) (changes : List Change) (session
   pub free : All (λ (write : Write). (other : ℕ) → other ≢ session → Owns (txns other) write.key → ⊥) writes
   pub quiet : All (λ (write : Write). is_above (newest write.key changes) (Some s) ≡ false) writes
   pub replaces : All (λ (write : Write). write.replaces ≡ has_row (table changes s) write.key) writes
+
+-- the writes may be committed by the session: no other open transaction has one of their keys, and each says whether its key is in
+-- the table at the clock
+pub record MayCommit (txns : ℕ → Option Txn) (changes : List Change) (clock session : ℕ) (writes : List Write) : Type 0 where
+  pub free : All (λ (write : Write). (other : ℕ) → other ≢ session → Owns (txns other) write.key → ⊥) writes
+  pub replaces : All (λ (write : Write). write.replaces ≡ is_in_table changes clock write.key) writes
 
 -- ---- lists
 

@@ -1,25 +1,24 @@
-// The commit of a session's own writes.
-ghost use Rattle.std.specs.Prelude.{◌≡◌, ◌≢◌, ◌≤◌, ◌<◌, ◌+◌, ◌*◌, ◌^◌, ◌++◌, ◌↔◌, ℕ, List, [], ◌∷◌, map, length, All, IsPermutation, Option, None, Some, IsSome, IfOk, OnOk, OnErr, Err, true, unwrap_or};
+// The commit of a session's own writes, and of writes by their keys.
+ghost use Rattle.std.specs.Prelude.{◌≡◌, ◌≢◌, ◌≤◌, ◌<◌, ◌+◌, ◌*◌, ◌^◌, ◌++◌, ◌↔◌, ℕ, List, [], ◌∷◌, length, Option, None, Some, IsSome, IfOk, OnOk, OnErr, Err, true, false, unwrap_or};
 ghost use Rattle.std.specs.FinMap as finite;
 ghost use Rattle.std.specs.Option.{ForSome};
 ghost use Rattle.cs_model.specs.Changes.{Change};
 ghost use Rattle.cs_model.specs.Steps.{numbered};
 ghost use Rattle.edit_laws.specs.Edits.{edits_of};
 ghost use Rattle.delete_buffer.specs.Entries as buffer;
-ghost use Rattle.write_set.specs.Writes.{Ascend, write_keys};
+ghost use Rattle.write_set.specs.declared.write.Write.{Write};
+ghost use Rattle.write_set.specs.Writes.{write_keys};
 ghost use Rattle.txn_table.specs.declared.txn.Txn.{Txn};
 ghost use Rattle.txn_table.specs.Txns.{txn_of, with, own_of, IsSession};
 ghost use Rattle.version_store.specs.Newest.{Newest};
-ghost use Rattle.group_book.specs.Book.{opened};
-ghost use Rattle.group_book.specs.Commits.{is_one_of, has_live, draws_past};
+ghost use Rattle.group_book.specs.Commits.{draws_past};
 ghost use Rattle.group_view.specs.Books.{book_of};
-ghost use Rattle.group_view.specs.Lists.{listed, packed_in, IsHeld};
+ghost use Rattle.group_view.specs.Lists.{IsHeld};
 ghost use Rattle.group_directory.specs.declared.committing.CommitRefusal.TheVariants as refusal;
 ghost use Rattle.group_directory.specs.Stands.{Stands};
 ghost use Rattle.group_directory.specs.Laws.{noted_by};
-ghost use Rattle.group_view.specs.Parcels.{keys_in, HasOneBegin, parcel_rows};
-ghost use Rattle.group_directory.specs.Committing.{origins, new_origin, packed_groups, rebased, after_parcel};
-ghost use Rattle.group_directory.specs.Calls.{replaced_in, commit_number, IsParcelFor, IsAsBefore};
+ghost use Rattle.group_directory.specs.Committing.{after_parcel};
+ghost use Rattle.group_directory.specs.Calls.{replaced_in, commit_number, IsParcelFor, IsCommitOf, IsAsBefore};
 
 use crate::commit_room::{is_past, stores_needed};
 use crate::committing::{CommitRefusal, commit};
@@ -99,47 +98,6 @@ fn forget(alloc: Global, recent: &mut Recent, keys: &[Key])
     }
 }
 
-/// Commits own writes to the groups with this number, and makes room to note their keys, which it gives back. After a refusal
-/// nothing has changed.
-fn commit_own(
-    alloc: Global,
-    list: &mut GroupList,
-    recent: &mut Recent,
-    group_rows: u64,
-    own: &Own,
-    parcel: Parcel,
-    c: u64,
-) -> Result<Vec<Key>, CommitRefusal>
-    requires rows { 1 ≤ group_rows }
-    requires held { IsHeld list.old }
-    requires replaced { buffer.Ascend (replaced_in own.now) }
-    requires later { All (λ entry. entry.1 < c) list.old.buffer.entries }
-    requires rest { buffer.Ascend (keys_in parcel.rest) }
-    requires live { All (λ key. has_live key (opened (book_of list.old).groups) ≡ true → is_one_of (replaced_in own.now) key ≡ true) (keys_in parcel.rest) }
-    requires begun { All HasOneBegin parcel.groups }
-    ensures book { OnOk result (book_of list.new ≡ after_parcel group_rows c (replaced_in own.now) parcel (book_of list.old)) }
-    ensures held { IsHeld list.new }
-    ensures claims { list.new.claims ≡ list.old.claims }
-    ensures origins { OnOk result (IsPermutation (origins list.old.groups.items ++ map (new_origin c) (parcel_rows parcel)) (origins list.new.groups.items)) }
-    ensures packed { OnOk result (packed_groups list.new.groups.items ≡ packed_groups list.old.groups.items ++ map (rebased c) parcel.groups) }
-    ensures written { IfOk result (λ keys. keys.items ≡ write_keys own.now) }
-    ensures room { IfOk result (λ keys. length keys.items ≤ recent.new.spare) }
-    ensures full { (result ≡ Err refusal.Full) ↔ (draws_past (book_of list.old) (after_parcel group_rows c (replaced_in own.now) parcel (book_of list.old)) ≡ true) }
-    ensures same { OnErr result (book_of list.new ≡ book_of list.old) }
-    ensures listed { OnErr result (listed list.new.groups.items ≡ listed list.old.groups.items) }
-    ensures same_packed { OnErr result (packed_in list.new.groups.items ≡ packed_in list.old.groups.items) }
-    ensures noted { recent.new.changes ≡ recent.old.changes }
-{
-    if is_full(list, group_rows, &parcel) {
-        return Err(CommitRefusal::Full);
-    }
-    let keys = written_keys(alloc, own)?;
-    let replaced = replaced_keys(alloc, own)?;
-    recent.reserve(keys.len())?;
-    commit(alloc, list, group_rows, &replaced, parcel, c)?;
-    Ok(keys)
-}
-
 impl Directory {
     /// Drops the newest changes that no open snapshot lies below, where they have become more than twice as many as the last prune
     /// left, and some more: so they stay few while no snapshot is old, and each change pays for little. Open snapshots are judged as
@@ -180,6 +138,57 @@ impl Directory {
         }
     }
 
+    /// Commits writes with these keys, some of which are replaced ones, and with a parcel of their rows, and ends the session's
+    /// transaction. The answer is the number of the commit.
+    ///
+    /// `Memory` comes where memory is wanting. Then nothing has changed.
+    fn commit_keys(
+        &mut self,
+        session: u32,
+        keys: &[Key],
+        replaced: &[Key],
+        parcel: Parcel,
+    ) -> Result<u64, CommitRefusal>
+        requires session { IsSession session }
+        requires open { IsSome (txn_of self.old.txns session) }
+        requires clock { self.old.clock + 1 < 2 ^ 64 }
+        requires given { (changes : List Change) × (list : List Write) × Stands self.old changes × IsCommitOf self.old changes session keys.now replaced.now parcel list }
+        requires ids { draws_past (book_of self.old.list) (after_parcel self.old.sizes.group_rows (self.old.clock + 1) replaced.now parcel (book_of self.old.list)) ≡ false }
+        ensures number { IfOk result (λ number. number ≡ self.old.clock + 1) }
+        ensures clock { OnOk result (self.new.clock ≡ self.old.clock + 1) }
+        ensures txns { OnOk result (txn_of self.new.txns ≡ with (txn_of self.old.txns) session None) }
+        ensures next { self.new.txns.next ≡ self.old.txns.next }
+        ensures claims { self.new.list.claims ≡ self.old.list.claims }
+        ensures rest { self.new ≡ record self.old { list = self.new.list; txns = self.new.txns; recent = self.new.recent; pruned = self.new.pruned; kept = self.new.kept; clock = self.new.clock } }
+        ensures book { OnOk result (book_of self.new.list ≡ after_parcel self.old.sizes.group_rows (self.old.clock + 1) replaced.now parcel (book_of self.old.list)) }
+        ensures stands { (changes : List Change) (list : List Write) (txn : Txn) → Stands self.old changes → IsCommitOf self.old changes session keys.now replaced.now parcel list → txn_of self.old.txns session ≡ Some txn
+            → OnOk result (Stands self.new (changes ++ numbered (self.old.clock + 1) txn.number (edits_of list))) }
+        ensures never { result ≢ Err refusal.Full }
+        ensures same { OnErr result (IsAsBefore self.old self.new) }
+        ensures refused { (changes : List Change) → Stands self.old changes → OnErr result (Stands self.new changes) }
+    {
+        let Some(txn) = self.txns.get(session) else {
+            unreachable!()
+        };
+        let change = NewestChange {
+            commit: self.clock + 1,
+            txn: txn.number,
+        };
+        self.recent.reserve(keys.len())?;
+        commit(
+            self.alloc,
+            &mut self.list,
+            self.sizes.group_rows,
+            replaced,
+            parcel,
+            change.commit,
+        )?;
+        self.txns.remove(session);
+        self.clock = change.commit;
+        self.note(keys, change);
+        Ok(change.commit)
+    }
+
     /// Commits the own writes of a session's transaction, with a parcel of the rows that they insert, and ends the
     /// transaction (Larson et al., PVLDB 2015, section 4). The answer is the number of the commit, the clock and one more, or
     /// none where nothing was written, which changes nothing else.
@@ -212,22 +221,54 @@ impl Directory {
             self.txns.remove(session);
             return Ok(None);
         }
-        let change = NewestChange {
-            commit: self.clock + 1,
-            txn: txn.number,
-        };
-        let keys = commit_own(
-            self.alloc,
-            &mut self.list,
-            &mut self.recent,
-            self.sizes.group_rows,
-            &txn.own,
-            parcel,
-            change.commit,
-        )?;
-        self.txns.remove(session);
-        self.clock = change.commit;
-        self.note(&keys, change);
-        Ok(Some(change.commit))
+        if is_full(&self.list, self.sizes.group_rows, &parcel) {
+            return Err(CommitRefusal::Full);
+        }
+        let keys = written_keys(self.alloc, &txn.own)?;
+        let replaced = replaced_keys(self.alloc, &txn.own)?;
+        let number = self.commit_keys(session, &keys, &replaced, parcel)?;
+        Ok(Some(number))
+    }
+
+    /// Commits writes by their keys and a parcel of their rows, by a session whose transaction has no own writes, and ends the
+    /// transaction. None of the writes replaces a row. The answer is the number of the commit, the clock and one more, or none
+    /// where there are no keys, which changes nothing else.
+    ///
+    /// `Full` comes exactly where there are keys and a group id above 2^62 would be drawn, and `Memory` where memory is wanting.
+    /// Then nothing has changed.
+    pub fn load(
+        &mut self,
+        session: u32,
+        keys: &[Key],
+        parcel: Parcel,
+    ) -> Result<Option<u64>, CommitRefusal>
+        requires session { IsSession session }
+        requires open { IsSome (txn_of self.old.txns session) }
+        requires bare { own_of (txn_of self.old.txns session) ≡ [] }
+        requires clock { self.old.clock + 1 < 2 ^ 64 }
+        requires given { (changes : List Change) × (list : List Write) × Stands self.old changes × IsCommitOf self.old changes session keys.now [] parcel list }
+        ensures number { IfOk result (λ number. number ≡ commit_number self.old.clock keys.now) }
+        ensures none { OnOk result (keys.now ≡ [] → self.new ≡ record self.old { txns = self.new.txns }) }
+        ensures clock { IfOk result (λ number. self.new.clock ≡ unwrap_or number self.old.clock) }
+        ensures txns { OnOk result (txn_of self.new.txns ≡ with (txn_of self.old.txns) session None) }
+        ensures next { self.new.txns.next ≡ self.old.txns.next }
+        ensures claims { self.new.list.claims ≡ self.old.list.claims }
+        ensures rest { self.new ≡ record self.old { list = self.new.list; txns = self.new.txns; recent = self.new.recent; pruned = self.new.pruned; kept = self.new.kept; clock = self.new.clock } }
+        ensures book { IfOk result (λ number. (c : ℕ) → number ≡ Some c → book_of self.new.list ≡ after_parcel self.old.sizes.group_rows c [] parcel (book_of self.old.list)) }
+        ensures stands { (changes : List Change) (list : List Write) (txn : Txn) → Stands self.old changes → IsCommitOf self.old changes session keys.now [] parcel list → txn_of self.old.txns session ≡ Some txn
+            → OnOk result (Stands self.new (changes ++ numbered (self.old.clock + 1) txn.number (edits_of list))) }
+        ensures full { (result ≡ Err refusal.Full) ↔ ((keys.now ≢ []) × (draws_past (book_of self.old.list) (after_parcel self.old.sizes.group_rows (self.old.clock + 1) [] parcel (book_of self.old.list)) ≡ true)) }
+        ensures same { OnErr result (IsAsBefore self.old self.new) }
+        ensures refused { (changes : List Change) → Stands self.old changes → OnErr result (Stands self.new changes) }
+    {
+        if keys.is_empty() {
+            self.txns.remove(session);
+            return Ok(None);
+        }
+        if is_full(&self.list, self.sizes.group_rows, &parcel) {
+            return Err(CommitRefusal::Full);
+        }
+        let number = self.commit_keys(session, keys, &[], parcel)?;
+        Ok(Some(number))
     }
 }

@@ -152,6 +152,7 @@ module _ (begin : Begin) (changes : List Change) (old : CoreState) (session : �
         subst (λ z. IfSome (told_counts z) P) (sym (given g e)) (told_kept P (settings_of old.settings session) g (subst (λ z. IfSome (outcome_counts z) P) e counts))
     tells_at (outcome.Writes writes present affected parcel) e x h =
         let g = x.gives in tells_none (reply_tells begin.schema (state_of changes old) session half.bound r (write_asks half.bound (ap is_write (sym x.bound) ∙ g.1)) h)
+    tells_at (outcome.Load keys parcel) e x h = let g = x.gives in tells_none (reply_tells begin.schema (state_of changes old) session half.bound r (write_asks half.bound (ap is_write (sym x.bound) ∙ g.1)) h)
     tells_at (outcome.Commit parcel) e x h = let g = x.gives in tells_none (reply_tells begin.schema (state_of changes old) session half.bound r (commit_asks half.bound (sym x.bound ∙ g.0)) h)
     tells_at (outcome.Left groups) e x h =
         tells_none (reply_tells begin.schema (state_of changes old) session half.bound r (reorganize_asks half.bound (subst (λ (y : Bound). IsSome (reorganizes y)) x.bound x.gives)) h)
@@ -199,6 +200,7 @@ others_tell sizes begun (outcome.Answer r) g not P = at (told_counts r) refl
     at None e = tt
     at (Some counts) e = let is = asked begun.schema begun.bound (seen_by begun) r counts g.1 e in absurd (not is.0 is.1)
 others_tell sizes begun (outcome.Writes list present affected parcel) g not P = tt
+others_tell sizes begun (outcome.Load keys parcel) g not P = tt
 others_tell sizes begun (outcome.Commit parcel) g not P = tt
 others_tell sizes begun (outcome.Left groups) g not P = tt
 others_tell sizes begun outcome.Short g not P = tt
@@ -232,6 +234,7 @@ module _ (origin : Ground) (log : List Entry) (session : ℕ) (started : Started
   start_counts outcome.Nothing g of = tt
   start_counts (outcome.Answer r) g of = answer_counts r g (told_counts r) refl of
   start_counts (outcome.Writes list present affected parcel) g of = tt
+  start_counts (outcome.Load keys parcel) g of = tt
   start_counts (outcome.Commit parcel) g of = tt
   start_counts (outcome.Left groups) g of = tt
   start_counts outcome.Short g of = tt

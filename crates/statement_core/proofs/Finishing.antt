@@ -1,6 +1,7 @@
 -- The Finish of a COMMIT, and of a statement with its outcome.
-use Rattle.std.proofs.Common.{◌≡◌, ◌≢◌, ◌<◌, ◌≤◌, ◌+◌, ◌++◌, ℕ, List, [], ◌∷◌, refl, sym, ap, subst, ◌∙◌, cond, inl, inr, arith, Bool, true, false, Option, None, Some}
+use Rattle.std.proofs.Common.{◌≡◌, ◌≢◌, ◌<◌, ◌≤◌, ◌+◌, ◌++◌, ℕ, List, [], ◌∷◌, length, refl, sym, ap, subst, ◌∙◌, cond, inl, inr, arith, Bool, true, false, Option, None, Some}
 use Rattle.std.specs.Prelude.{IsSome}
+use Rattle.cs_types.specs.declared.Key.{Key}
 use Rattle.cs_types.specs.declared.Schema.{Schema}
 use Rattle.cs_model.specs.declared.entry.Bound.{Bound}
 use Rattle.cs_model.specs.declared.entry.Bound.TheVariants as bound
@@ -31,9 +32,9 @@ use Rattle.statement_core.specs.declared.started.Outcome.{Outcome}
 use Rattle.statement_core.specs.declared.started.Outcome.TheVariants as outcome
 use Rattle.statement_core.specs.CoreState.{settings_of, state_of, groups_of, IsSame, IsBare}
 use Rattle.statement_core.specs.Leaves.{commits_txn, committed_in, Leaves}
-use Rattle.statement_core.specs.Outcomes.{needs_none, IsDecided, GivesOn, told}
+use Rattle.statement_core.specs.Outcomes.{needs_none, IsDecided, GivesWrites, GivesOn, told}
 use Rattle.statement_core.specs.Reorganizes.{reorganizes}
-use Rattle.statement_core.specs.Settled.{wrote_or, Ends, Holds, IsDoneAt, IsReadyAt, IsWritingAt, CommitGives}
+use Rattle.statement_core.specs.Settled.{wrote_or, Ends, Holds, IsDoneAt, IsReadyAt, IsLoadingAt, IsWritingAt, CommitGives}
 use Rattle.statement_core.proofs.Committed.{added}
 use Rattle.statement_core.proofs.Decided.{seen_in, begun_seen, begun_pinned, decided_reply, decided_state, told_state}
 use Rattle.statement_core.proofs.Ending.{said_plain, said_full, ends_settled, ends_short}
@@ -212,22 +213,34 @@ module _ (begin : Begin) (changes : List Change) (held : CoreState) (session : �
     answered_prints = let holds = d.holds in let g = d.gives in told_prints begin.schema (settings_of held.settings session) given (subst (λ (s : Schema). IsPrintableReply s given) holds.schema g.2)
 
   -- the writes that it gave
+  abbrev writing : (o : Outcome) (d : IsDoneAt begin changes held session b short o) (list : List Write) (present : List Key) (affected : ℕ) (parcel : Option Parcel) → d.begun.short ≡ false → is_write d.begun.bound ≡ true
+      → GivesWrites (sizes_of held.directory) d.begun list present affected parcel → IsWritingAt begin changes held session b short list present affected parcel
+  writing o d list present affected parcel found writes gives = record {
+    stands = d.stands;
+    schema = d.schema;
+    bare = d.bare;
+    by_key = d.by_key;
+    begun = d.begun;
+    bound = d.bound;
+    short_is = d.short_is;
+    found = sym d.short_is ∙ found;
+    writes = ap is_write (sym d.bound) ∙ writes;
+    holds = d.holds;
+    gives = gives;
+  }
+
   abbrev pub writing_of : (writes : _) (present : _) (affected : ℕ) (parcel : Option Parcel) → IsDoneAt begin changes held session b short (outcome.Writes writes present affected parcel)
       → IsWritingAt begin changes held session b short writes.items present.items affected parcel
-  writing_of writes present affected parcel d =
+  writing_of writes present affected parcel d = let g = d.gives in writing (outcome.Writes writes present affected parcel) d writes.items present.items affected parcel g.0 g.1 g.2
+
+  -- those that it loads
+  abbrev pub loading_of : (keys : _) (parcel : Parcel) → IsDoneAt begin changes held session b short (outcome.Load keys parcel) → IsLoadingAt begin changes held session b short keys.items parcel
+  loading_of keys parcel d =
       let g = d.gives in
       record {
-        stands = d.stands;
-        schema = d.schema;
-        bare = d.bare;
-        by_key = d.by_key;
-        begun = d.begun;
-        bound = d.bound;
-        short_is = d.short_is;
-        found = sym d.short_is ∙ g.0;
-        writes = ap is_write (sym d.bound) ∙ g.1;
-        holds = d.holds;
-        gives = g.2;
+        list = g.2;
+        are = g.3;
+        is = writing (outcome.Load keys parcel) d g.2 [] (length keys.items) (Some parcel) g.0 g.1 g.4;
       }
 
 -- ---- from the statement that was half done

@@ -1,7 +1,8 @@
 -- After a Finish all fits the table, and its reply can be printed.
-use Rattle.std.proofs.Common.{◌≡◌, ℕ, List, [], ◌∷◌, refl, sym, ap, subst, ◌∙◌, inl, inr, ◌⊎◌, Bool, true, false, All, Option, None, Some}
+use Rattle.std.proofs.Common.{◌≡◌, ℕ, List, [], ◌∷◌, length, refl, sym, ap, subst, ◌∙◌, inl, inr, ◌⊎◌, Bool, true, false, All, Option, None, Some}
 use Rattle.std.specs.Prelude.{IsSome}
 use Rattle.std.proofs.lemmas.List.Elements.{All-nil, All-cons, All-head, All-tail}
+use Rattle.cs_types.specs.declared.Key.{Key}
 use Rattle.cs_types.specs.declared.Schema.{Schema}
 use Rattle.cs_model.specs.declared.entry.Bound.{Bound}
 use Rattle.cs_model.specs.declared.entry.Bound.TheVariants as bound
@@ -18,6 +19,7 @@ use Rattle.cs_model.specs.Ready.{IsReady}
 use Rattle.cs_model.specs.State.{State, Begin, Half, seen}
 use Rattle.cs_model.specs.Steps.{IsReply, IsWriteReply, IsWriteReplyOf, IsWritten, IsOutOfIds, IsFinish, edits_in, writes_in, rested}
 use Rattle.cs_model.specs.Text.{IsPrintableReply}
+use Rattle.write_set.specs.declared.write.Write.{Write}
 use Rattle.group_view.specs.declared.claim.Parcel.{Parcel}
 use Rattle.group_directory.specs.Obstacles.{txn_as, txn_in}
 use Rattle.statement_core.specs.declared.core_state.CoreState.{CoreState}
@@ -27,9 +29,9 @@ use Rattle.statement_core.specs.CoreState.{settings_of, state_of}
 use Rattle.statement_core.specs.Fit.{IsFitting, IsFitState}
 use Rattle.statement_core.specs.Outcomes.{needs_none, told}
 use Rattle.statement_core.specs.Reorganizes.{reorganizes}
-use Rattle.statement_core.specs.Settled.{IsDoneAt}
+use Rattle.statement_core.specs.Settled.{IsDoneAt, IsWritingAt}
 use Rattle.statement_core.proofs.Decided.{no_writes, decided_refused}
-use Rattle.statement_core.proofs.Finishing.{none_of_table, writing_of, decided, answered_prints}
+use Rattle.statement_core.proofs.Finishing.{none_of_table, writing_of, loading_of, decided, answered_prints}
 use Rattle.statement_core.proofs.Fitting.{fit_half, fit_replied, refused_prints, plain_prints, judged_prints}
 use Rattle.statement_core.proofs.Reorganizes.{reorganize_writes, reorganize_of_table}
 use Rattle.statement_core.proofs.Written.{txn, has, defined}
@@ -82,30 +84,31 @@ written_prints schema m session snapshot t b edits (reply.Refused refusal) fit h
 
 module _ (begin : Begin) (changes : List Change) (old : CoreState) (session : ℕ) (half : Half) (r : Reply) (is : (state_of changes old).half session ≡ Some half) where
   -- what a write gave fits the table
-  module _ (writes : _) (present : _) (affected : ℕ) (parcel : Option Parcel) (d : IsDoneAt begin changes old session half.bound half.short (outcome.Writes writes present affected parcel)) where
-    schema_is : d.begun.schema ≡ begin.schema
-    schema_is = let h = d.holds in h.schema
+  module _ (list : List Write) (present : List Key) (affected : ℕ) (parcel : Option Parcel) (w : IsWritingAt begin changes old session half.bound half.short list present affected parcel) where
+    schema_is : w.begun.schema ≡ begin.schema
+    schema_is = let h = w.holds in h.schema
 
-    edits_fit : All (IsFit begin.schema) (let g = d.gives in let x = g.2 in x.edits)
-    edits_fit = let g = d.gives in let x = g.2 in subst (λ (s : Schema). All (IsFit s) x.edits) schema_is x.fit
+    edits_fit : All (IsFit begin.schema) (let x = w.gives in x.edits)
+    edits_fit = let x = w.gives in subst (λ (s : Schema). All (IsFit s) x.edits) schema_is x.fit
 
-    edits_whole : All (IsWhole begin.schema) (let g = d.gives in let x = g.2 in x.edits)
-    edits_whole = let g = d.gives in let x = g.2 in subst (λ (s : Schema). All (IsWhole s) x.edits) schema_is x.whole
+    edits_whole : All (IsWhole begin.schema) (let x = w.gives in x.edits)
+    edits_whole = let x = w.gives in subst (λ (s : Schema). All (IsWhole s) x.edits) schema_is x.whole
 
-    written_are : writes_in begin.schema changes ((state_of changes old).txns session) half.bound ≡ (let g = d.gives in let x = g.2 in x.edits)
+    written_are : writes_in begin.schema changes ((state_of changes old).txns session) half.bound ≡ (let x = w.gives in x.edits)
     written_are =
-        let w = writing_of begin changes old session half.bound half.short writes present affected parcel d in
-        ap (λ o. writes_in begin.schema changes o half.bound) (ap txn_in (has begin changes old session half.bound half.short writes.items present.items affected parcel w))
-        ∙ ap edits_in (defined begin changes old session half.bound half.short writes.items present.items affected parcel w)
+        ap (λ o. writes_in begin.schema changes o half.bound) (ap txn_in (has begin changes old session half.bound half.short list present affected parcel w))
+        ∙ ap edits_in (defined begin changes old session half.bound half.short list present affected parcel w)
+
+    write_fits : All (IsFitting begin.schema) (writes_in begin.schema changes ((state_of changes old).txns session) half.bound)
+    write_fits = subst (All (IsFitting begin.schema)) (sym written_are) (both_fit begin.schema _ edits_fit edits_whole)
 
     write_prints : IsReply begin.schema (state_of changes old) session half.bound r → IsPrintableReply begin.schema r
     write_prints h =
-        let w = writing_of begin changes old session half.bound half.short writes present affected parcel d in
-        let t = txn begin changes old session half.bound half.short writes.items present.items affected parcel w in
-        let said = subst (λ o. IsWriteReply begin.schema (state_of changes old) session o half.bound r) (ap txn_in (has begin changes old session half.bound half.short writes.items present.items affected parcel w))
+        let t = txn begin changes old session half.bound half.short list present affected parcel w in
+        let said = subst (λ o. IsWriteReply begin.schema (state_of changes old) session o half.bound r) (ap txn_in (has begin changes old session half.bound half.short list present affected parcel w))
         (reply_write begin.schema (state_of changes old) session half.bound r w.writes h) in
-        written_prints begin.schema (state_of changes old) session t.snapshot (seen changes (txn_as t)) half.bound (let g = d.gives in let x = g.2 in x.edits) r edits_fit
-        (subst (λ x. IsWriteReplyOf (state_of changes old) session t.snapshot (seen changes (txn_as t)) half.bound x r) (defined begin changes old session half.bound half.short writes.items present.items affected parcel w) said)
+        written_prints begin.schema (state_of changes old) session t.snapshot (seen changes (txn_as t)) half.bound (let x = w.gives in x.edits) r edits_fit
+        (subst (λ x. IsWriteReplyOf (state_of changes old) session t.snapshot (seen changes (txn_as t)) half.bound x r) (defined begin changes old session half.bound half.short list present affected parcel w) said)
 
   no_edits : is_write half.bound ≡ false → ((found : Refusal) × (r ≡ reply.Refused found)) ⊎ All (IsFitting begin.schema) (writes_in begin.schema changes ((state_of changes old).txns session) half.bound)
   no_edits w = inr (subst (All (IsFitting begin.schema)) (sym (no_writes begin.schema changes ((state_of changes old).txns session) half.bound w)) (All-nil (IsFitting begin.schema)))
@@ -118,8 +121,8 @@ module _ (begin : Begin) (changes : List Change) (old : CoreState) (session : �
         by : (t : Bool) → is_write half.bound ≡ t → ((found : Refusal) × (r ≡ reply.Refused found)) ⊎ All (IsFitting begin.schema) (writes_in begin.schema changes ((state_of changes old).txns session) half.bound)
         by true w = let f = decided_refused begin.schema (state_of changes old) session half.bound _ g w (decided begin changes old session half.bound half.short g x) in inl (f.0, given g e ∙ ap (told (settings_of old.settings session)) f.1)
         by false w = no_edits w
-    fits_at (outcome.Writes writes present affected parcel) e x =
-        inr (subst (All (IsFitting begin.schema)) (sym (written_are writes present affected parcel x)) (both_fit begin.schema _ (edits_fit writes present affected parcel x) (edits_whole writes present affected parcel x)))
+    fits_at (outcome.Writes writes present affected parcel) e x = inr (write_fits writes.items present.items affected parcel (writing_of begin changes old session half.bound half.short writes present affected parcel x))
+    fits_at (outcome.Load keys parcel) e x = let load = loading_of begin changes old session half.bound half.short keys parcel x in inr (write_fits load.list [] (length keys.items) (Some parcel) load.is)
     fits_at (outcome.Commit parcel) e x = no_edits (let g = x.gives in ap is_write (sym x.bound ∙ g.0))
     fits_at (outcome.Left groups) e x = no_edits (reorganize_writes half.bound (subst (λ (y : Bound). IsSome (reorganizes y)) x.bound x.gives))
     fits_at outcome.Short e x = inl (Memory, short e)
@@ -131,7 +134,9 @@ module _ (begin : Begin) (changes : List Change) (old : CoreState) (session : �
         → IsReply begin.schema (state_of changes old) session half.bound r → IsPrintableReply begin.schema r
     prints_at ready segments outcome.Nothing e x h = plain_at ready segments (none_of_table half.bound (ap needs_none (sym x.bound) ∙ x.gives)) h
     prints_at ready segments (outcome.Answer g) e x h = subst (IsPrintableReply begin.schema) (sym (given g e)) (answered_prints begin changes old session half.bound half.short g x)
-    prints_at ready segments (outcome.Writes writes present affected parcel) e x h = write_prints writes present affected parcel x h
+    prints_at ready segments (outcome.Writes writes present affected parcel) e x h = write_prints writes.items present.items affected parcel (writing_of begin changes old session half.bound half.short writes present affected parcel x) h
+    prints_at ready segments (outcome.Load keys parcel) e x h =
+        let load = loading_of begin changes old session half.bound half.short keys parcel x in write_prints load.list [] (length keys.items) (Some parcel) load.is h
     prints_at ready segments (outcome.Commit parcel) e x h = plain_at ready segments (let g = x.gives in ap is_of_table (sym x.bound ∙ g.0)) h
     prints_at ready segments (outcome.Left groups) e x h = plain_at ready segments (reorganize_of_table half.bound (subst (λ (y : Bound). IsSome (reorganizes y)) x.bound x.gives)) h
     prints_at ready segments outcome.Short e x h = refused_prints begin.schema r Memory (short e) tt

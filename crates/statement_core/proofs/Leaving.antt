@@ -122,6 +122,7 @@ pub told_by : (o : Outcome) (r : Reply) → ((groups : List (ℕ × Actor)) → 
 told_by outcome.Nothing r from tells short = none_left r (λ groups is. let e = from groups is in cc e)
 told_by (outcome.Answer given) r from tells short = none_left r (λ groups is. let e = from groups is in cc e)
 told_by (outcome.Writes list present affected parcel) r from tells short = none_left r (λ groups is. let e = from groups is in cc e)
+told_by (outcome.Load keys parcel) r from tells short = none_left r (λ groups is. let e = from groups is in cc e)
 told_by (outcome.Commit parcel) r from tells short = none_left r (λ groups is. let e = from groups is in cc e)
 told_by (outcome.Left groups) r from tells short = tells groups refl
 told_by outcome.Short r from tells short = short refl

@@ -36,19 +36,22 @@ use Rattle.group_book.specs.Book.{Book}
 use Rattle.group_book.specs.Commits.{Sizes, is_one_of, replaced_by, inserted_by, after_commit, draws_past}
 use Rattle.group_log.specs.Followed.{book_with, committed_edits, ShowsBook}
 use Rattle.group_view.specs.Parcels as parcels
-use Rattle.group_directory.specs.Calls.{IsParcelFor}
+use Rattle.group_directory.specs.declared.committing.CommitRefusal.{CommitRefusal}
+use Rattle.group_directory.specs.declared.committing.CommitRefusal.TheVariants as cause
+use Rattle.group_directory.specs.Calls.{replaced_in, IsParcelFor, IsCommitOf}
 use Rattle.group_directory.specs.Stands.{Stands}
 use Rattle.group_directory.specs.Laws.{sizes_of, MayStage}
 use Rattle.group_directory.specs.Obstacles.{txn_as, txn_in}
 use Rattle.group_directory.proofs.CommitLaws.{written_up}
 use Rattle.group_directory.proofs.KeyLaws.{keys_are, sorted_keys}
 use Rattle.group_directory.proofs.ObstacleLaws.{owner_is}
+use Rattle.group_directory.proofs.TxnLaws.{staged_commits}
 use Rattle.group_view.specs.declared.claim.Parcel.{Parcel}
 use Rattle.statement_core.specs.declared.core_state.CoreState.{CoreState}
 use Rattle.statement_core.specs.CoreState.{state_of, groups_of, IsSame, IsBare}
 use Rattle.statement_core.specs.Leaves.{commits_txn, committed_in, Leaves}
-use Rattle.statement_core.specs.Outcomes.{IsParcelled, AreWritesOf}
-use Rattle.statement_core.specs.Settled.{Ends, IsWritingAt, IsPast, CommitGives}
+use Rattle.statement_core.specs.Outcomes.{IsParcelled, AreLoaded, AreWritesOf}
+use Rattle.statement_core.specs.Settled.{refusal_of, Ends, IsWritingAt, IsPast, CommitGives}
 use Rattle.statement_core.proofs.Committed.{added}
 use Rattle.statement_core.proofs.Decided.{seen_in, begun_seen, snapshot_is, write_of_table, write_reply, write_accepted}
 use Rattle.statement_core.proofs.Distinct.{writes_apart}
@@ -73,6 +76,21 @@ none_kept : (test : Key → Bool) (keys : List Key) → All (λ key. test key �
 none_kept test [] all = refl
 none_kept test (key ∷ keys) all =
     ap (λ b. cond b (key ∷ filter test keys) (filter test keys)) (All-head (λ k. test k ≡ false) key keys all) ∙ none_kept test keys (All-tail (λ k. test k ≡ false) key keys all)
+
+some_edits : (ws : List Write) → ws ≢ [] → is_empty (edits_of ws) ≡ false
+some_edits [] some = absurd (some refl)
+some_edits (write ∷ ws) some = refl
+
+none_edits : (ws : List Write) → edits_of ws ≡ [] → ws ≡ []
+none_edits [] none = refl
+none_edits (write ∷ ws) none = absurd (cc none)
+
+-- where no write replaces a row, there are no replaced keys
+none_replaced : (ws : List Write) → All (λ (write : Write). write.replaces ≡ false) ws → replaced_in ws ≡ []
+none_replaced [] fresh = refl
+none_replaced (write ∷ ws) fresh =
+    ap (λ (t : Bool). write_keys (cond t (write ∷ filter (λ (w : Write). w.replaces) ws) (filter (λ (w : Write). w.replaces) ws))) (All-head (λ (w : Write). w.replaces ≡ false) write ws fresh)
+    ∙ none_replaced ws (All-tail (λ (w : Write). w.replaces ≡ false) write ws fresh)
 
 -- ---- a transaction of the table
 
@@ -327,6 +345,34 @@ module _ (begin : Begin) (changes : List Change) (held : CoreState) (session : �
     ends_explicit mid r same j state e d =
         ends_settled begin.schema changes held mid session b short r j same w.found (λ k. affected_shows r e) (record { reply = inr (affected_said r e); state = state ∙ accepted_explicit d ∙ accepts r e })
 
+    module _ (new : CoreState) (r : Reply) (d : (txn.depth == 0) ≡ true) where
+      -- what would be committed
+      committed_own : is_empty now.own ≡ false → (m.clock < (accepted begin.schema (state_of changes held) session b).clock) × (committed_edits (state_of changes held) (accepted begin.schema (state_of changes held) session b) ≡ now.own)
+      committed_own some =
+          let after : State = record (gone (state_of changes held) session) { changes = changes ++ committed (held.directory.clock + 1) now; clock = held.directory.clock + 1 } in
+          let is : after ≡ accepted begin.schema (state_of changes held) session b =
+          sym (ap (λ t. cond t (gone (state_of changes held) session) after) some) ∙ accepted_implicit d in (
+            subst (λ (x : State). held.directory.clock < x.clock) is (omega arith),
+            subst (λ (x : State). committed_edits (state_of changes held) x ≡ now.own) is (added changes (held.directory.clock + 1) txn.number now.own),
+          )
+
+      -- its commit is made
+      pub ends_made : r ≡ reply.Affected affected → Leaves changes held new (commits (state_of changes held) session now) → Ends begin.schema changes held session b short r new
+      ends_made e leaves = record {
+        said = said_plain begin.schema (sizes_of held.directory) (state_of changes held) (groups_of held) session b short r (inr (w.found, affected_said r e)) (λ k. affected_shows r e);
+        leaves = subst (Leaves changes held new) (accepted_implicit d ∙ accepts r e) leaves;
+      }
+
+      -- it would draw a group id above 2^62
+      pub ends_past : r ≡ reply.Refused (Reading 50001 1) → Stands new.directory changes → IsSame held new → state_of changes new ≡ refused (state_of changes held) session (Reading 50001 1) → is_empty now.own ≡ false
+          → draws_past (groups_of held) (book_with (sizes_of held.directory) (state_of changes held) now.own (groups_of held)) ≡ true → Ends begin.schema changes held session b short r new
+      ends_past e j same state some past =
+          let own' = committed_own some in
+          record {
+            said = said_full begin.schema (sizes_of held.directory) (state_of changes held) (groups_of held) session b short r (reply.Affected affected) now.own e w.found affected_reply own'.0 own'.1 past;
+            leaves = same_leaves changes held new (replied begin.schema (state_of changes held) session b r) j same (state ∙ ap (replied begin.schema (state_of changes held) session b) (sym e));
+          }
+
     module _ (mid new : CoreState) (r : Reply) (same : IsSame held mid) (j : Stands mid.directory changes) (state : state_of changes mid ≡ txn_set (state_of changes held) session (Some now))
         (own : own_of (txn_of mid.directory.txns session) ≡ staged txn.own list) (d : (txn.depth == 0) ≡ true) where
       committed_is : committed_in (state_of changes mid) session ≡ commits (state_of changes held) session now
@@ -345,16 +391,6 @@ module _ (begin : Begin) (changes : List Change) (held : CoreState) (session : �
       own_edits : edits_of (own_of (txn_of mid.directory.txns session)) ≡ now.own
       own_edits = ap edits_of own ∙ staged_is
 
-      -- what would be committed
-      committed_own : is_empty now.own ≡ false → (m.clock < (accepted begin.schema (state_of changes held) session b).clock) × (committed_edits (state_of changes held) (accepted begin.schema (state_of changes held) session b) ≡ now.own)
-      committed_own some =
-          let after : State = record (gone (state_of changes held) session) { changes = changes ++ committed (held.directory.clock + 1) now; clock = held.directory.clock + 1 } in
-          let is : after ≡ accepted begin.schema (state_of changes held) session b =
-          sym (ap (λ t. cond t (gone (state_of changes held) session) after) some) ∙ accepted_implicit d in (
-            subst (λ (x : State). held.directory.clock < x.clock) is (omega arith),
-            subst (λ (x : State). committed_edits (state_of changes held) x ≡ now.own) is (added changes (held.directory.clock + 1) txn.number now.own),
-          )
-
       past_over : IsPast changes mid session → draws_past (groups_of held) (book_with (sizes_of held.directory) (state_of changes held) now.own (groups_of held)) ≡ true
       past_over past =
           subst (λ (sizes : Sizes). draws_past (groups_of held) (after_commit sizes (held.directory.clock + 1) (replaced_by changes held.directory.clock now.own) (inserted_by now.own) (groups_of held)) ≡ true) (sizes_same held mid same)
@@ -362,28 +398,58 @@ module _ (begin : Begin) (changes : List Change) (held : CoreState) (session : �
           (subst (λ (book : Book). draws_past book (after_commit (sizes_of mid.directory) (mid.directory.clock + 1) (replaced_by changes mid.directory.clock now.own) (inserted_by now.own) book) ≡ true) same.groups
           (subst (λ (es : List Edit). draws_past (groups_of mid) (after_commit (sizes_of mid.directory) (mid.directory.clock + 1) (replaced_by changes mid.directory.clock es) (inserted_by es) (groups_of mid)) ≡ true) own_edits past.past)))
 
-      some_own : own_of (txn_of mid.directory.txns session) ≢ [] → is_empty now.own ≡ false
-      some_own some = ap is_empty (sym own_edits) ∙ at (own_of (txn_of mid.directory.txns session)) some
-        where
-          at : (ws : List Write) → ws ≢ [] → is_empty (edits_of ws) ≡ false
-          at [] h = absurd (h refl)
-          at (write ∷ ws) h = refl
-
       pub ends_implicit : CommitGives changes mid session (reply.Affected affected) r new → Ends begin.schema changes held session b short r new
-      ends_implicit (inl c) = record {
-        said = said_plain begin.schema (sizes_of held.directory) (state_of changes held) (groups_of held) session b short r (inr (w.found, affected_said r c.reply)) (λ k. affected_shows r c.reply);
-        leaves = leaves_over changes held mid new (replied begin.schema (state_of changes held) session b r) same
-            (subst (Leaves changes mid new) (committed_is ∙ accepted_implicit d ∙ accepts r c.reply) c.leaves);
-      }
+      ends_implicit (inl c) = ends_made new r d c.reply (leaves_over changes held mid new (commits (state_of changes held) session now) same (subst (Leaves changes mid new) committed_is c.leaves))
       ends_implicit (inr (inl f)) = let still = f.still in
           ends_short begin.schema changes held new session b short r (still.stands changes j) (same_then held mid new same still.same) f.reply (f.state ∙ refused_is Memory)
       ends_implicit (inr (inr f)) =
           let gives = f.0 in
           let still = gives.still in
           let past = f.1 in
-          let own' = committed_own (some_own past.some) in
+          ends_past new r d gives.reply (still.stands changes j) (same_then held mid new same still.same) (gives.state ∙ refused_is (Reading 50001 1))
+          (ap is_empty (sym own_edits) ∙ some_edits (own_of (txn_of mid.directory.txns session)) past.some) (past_over past)
+
+    -- ---- the writes are loaded
+
+    -- the own writes are then those of the statement
+    own_list : (txn.depth == 0) ≡ true → edits_of list ≡ now.own
+    own_list d = sym (now_alone d) ∙ staged_is
+
+    pub loads_bare : (p : Parcel) → parcel ≡ Some p → own_of (txn_of held.directory.txns session) ≡ []
+    loads_bare p e =
+        let bare : edits_of txn.own ≡ [] = subst IsBare (ap txn_in has) w.bare (depth_implicit p e) in
+        ap own_of has ∙ none_edits txn.own bare
+
+    module _ (keys : List Key) (loaded : AreLoaded keys list) (p : Parcel) (e : parcel ≡ Some p) where
+      pub commit_of : IsCommitOf held.directory changes session keys [] p list
+      commit_of =
+          let a = are in
+          let j = w.stands in
+          let agree = j.txns in
           record {
-            said = said_full begin.schema (sizes_of held.directory) (state_of changes held) (groups_of held) session b short r (reply.Affected affected) now.own gives.reply w.found affected_reply own'.0 own'.1 (past_over past);
-            leaves = same_leaves changes held new (replied begin.schema (state_of changes held) session b r) (still.stands changes j) (same_then held mid new same still.same)
-                (gives.state ∙ refused_is (Reading 50001 1) ∙ ap (replied begin.schema (state_of changes held) session b) (sym gives.reply));
+            order = a.order;
+            keys = loaded.keys;
+            replaced = sym (none_replaced list loaded.fresh);
+            may = staged_commits (txn_of held.directory.txns) changes held.directory.clock session s list j.numbered agree may_stage;
+            parcel = subst (λ (schema : Schema). parcels.IsParcelFor schema (sizes_of held.directory) (edits_of list) p) (let h = w.holds in h.schema ∙ sym w.schema) (parcelled p e).2;
           }
+
+      module _ (new : CoreState) (r : Reply) where
+        -- the load is made
+        pub ends_loaded : r ≡ reply.Affected affected → ((txn : kept.Txn) → txn_of held.directory.txns session ≡ Some txn → Leaves changes held new (commits (state_of changes held) session (txn_as (record txn { own = list }))))
+            → Ends begin.schema changes held session b short r new
+        ends_loaded said leaves =
+            let d = depth_implicit p e in
+            ends_made new r d said
+            (subst (λ (own : List Edit). Leaves changes held new (commits (state_of changes held) session (record (txn_as txn) { own = own }))) (own_list d) (leaves txn has))
+
+        -- it is refused
+        pub ends_unloaded : (refusal : CommitRefusal) → Stands new.directory changes → IsSame held new → r ≡ reply.Refused (refusal_of refusal) → state_of changes new ≡ refused (state_of changes held) session (refusal_of refusal)
+            → (refusal ≡ cause.Full → (list ≢ []) × (draws_past (groups_of held) (book_with (sizes_of held.directory) (state_of changes held) (edits_of list) (groups_of held)) ≡ true))
+            → Ends begin.schema changes held session b short r new
+        ends_unloaded cause.Memory j same said state full = ends_short begin.schema changes held new session b short r j same said state
+        ends_unloaded cause.Full j same said state full =
+            let d = depth_implicit p e in
+            let past = full refl in
+            ends_past new r d said j same state (ap is_empty (sym (own_list d)) ∙ some_edits list past.0)
+            (subst (λ (own : List Edit). draws_past (groups_of held) (book_with (sizes_of held.directory) (state_of changes held) own (groups_of held)) ≡ true) (own_list d) past.1)

@@ -22,6 +22,7 @@ abbrev pub outcome_counts : Outcome → Option (ℕ × ℕ)
 outcome_counts outcome.Nothing = None
 outcome_counts (outcome.Answer r) = told_counts r
 outcome_counts (outcome.Writes list present affected parcel) = None
+outcome_counts (outcome.Load keys parcel) = None
 outcome_counts (outcome.Commit parcel) = None
 outcome_counts (outcome.Left groups) = None
 outcome_counts outcome.Short = None

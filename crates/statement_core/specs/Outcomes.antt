@@ -90,6 +90,11 @@ pub record GivesWrites (sizes : Sizes) (begun : Begun) (list : List Write) (pres
   pub whole : All (IsWhole begun.schema) edits
   pub are : AreWritesOf sizes begun edits list present affected parcel
 
+-- the writes of a load: they have these keys, and none of them replaces a row
+pub record AreLoaded (written : List Key) (list : List Write) : Type 0 where
+  pub keys : written ≡ write_keys list
+  pub fresh : All (λ (write : Write). write.replaces ≡ false) list
+
 -- ---- outcomes
 
 -- the statement needs no work of a desk before its Finish
@@ -113,6 +118,7 @@ abbrev pub IsOfDesk : Outcome → Type 0
 IsOfDesk outcome.Nothing = Unit {0}
 IsOfDesk (outcome.Answer r) = Unit {0}
 IsOfDesk (outcome.Writes list present affected parcel) = Unit {0}
+IsOfDesk (outcome.Load keys parcel) = Unit {0}
 IsOfDesk (outcome.Commit parcel) = Unit {0}
 IsOfDesk (outcome.Left groups) = ⊥
 IsOfDesk outcome.Short = Unit {0}
@@ -124,5 +130,7 @@ GivesOn sizes begun outcome.Nothing = needs_none begun.bound ≡ true
 GivesOn sizes begun (outcome.Answer r) = (begun.short ≡ false) × IsDecided begun.schema begun.bound (seen_by begun) r × IsPrintableReply begun.schema r
 GivesOn sizes begun (outcome.Writes list present affected parcel) =
     (begun.short ≡ false) × (is_write begun.bound ≡ true) × GivesWrites sizes begun list.items present.items affected parcel
+GivesOn sizes begun (outcome.Load keys parcel) =
+    (begun.short ≡ false) × (is_write begun.bound ≡ true) × (list : List Write) × AreLoaded keys.items list × GivesWrites sizes begun list [] (length keys.items) (Some parcel)
 GivesOn sizes begun (outcome.Commit parcel) = (begun.bound ≡ bound.Commit) × IsParcelFor begun.schema sizes begun.own parcel
 GivesOn sizes begun (outcome.Left groups) = IsSome (reorganizes begun.bound)

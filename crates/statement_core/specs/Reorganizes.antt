@@ -115,6 +115,7 @@ abbrev pub IsOver : Bound → Outcome → Type 0
 IsOver b outcome.Nothing = reorganizes b ≡ None
 IsOver b (outcome.Answer r) = Unit {0}
 IsOver b (outcome.Writes list present affected parcel) = Unit {0}
+IsOver b (outcome.Load keys parcel) = Unit {0}
 IsOver b (outcome.Commit parcel) = Unit {0}
 IsOver b (outcome.Left groups) = Unit {0}
 IsOver b outcome.Short = Unit {0}
@@ -124,6 +125,7 @@ abbrev pub LeavesBy : Ground → List Entry → ℕ → Outcome → Type 0
 LeavesBy origin log session outcome.Nothing = Unit {0}
 LeavesBy origin log session (outcome.Answer r) = Unit {0}
 LeavesBy origin log session (outcome.Writes list present affected parcel) = Unit {0}
+LeavesBy origin log session (outcome.Load keys parcel) = Unit {0}
 LeavesBy origin log session (outcome.Commit parcel) = Unit {0}
 LeavesBy origin log session (outcome.Left groups) = LeavesGroups origin log session groups
 LeavesBy origin log session outcome.Short = Unit {0}
@@ -145,6 +147,7 @@ abbrev pub IsToldBy : Outcome → Reply → Type 0
 IsToldBy outcome.Nothing r = IsNoneLeft r
 IsToldBy (outcome.Answer given) r = IsNoneLeft r
 IsToldBy (outcome.Writes list present affected parcel) r = IsNoneLeft r
+IsToldBy (outcome.Load keys parcel) r = IsNoneLeft r
 IsToldBy (outcome.Commit parcel) r = IsNoneLeft r
 IsToldBy (outcome.Left groups) r = r ≡ reply.Left groups
 IsToldBy outcome.Short r = r ≡ reply.Refused Memory

@@ -1,5 +1,5 @@
 -- What a Finish replies and leaves, once the statement is no longer half done.
-use Rattle.std.specs.Prelude.{◌≡◌, ◌≢◌, ◌⊎◌, ◌<◌, ℕ, List, [], Bool, true, false, Option, None}
+use Rattle.std.specs.Prelude.{◌≡◌, ◌≢◌, ◌⊎◌, ◌<◌, ℕ, List, [], length, Bool, true, false, Option, None, Some}
 use Rattle.cs_types.specs.declared.Key.{Key}
 use Rattle.cs_types.specs.declared.Schema.{Schema}
 use Rattle.write_set.specs.declared.write.Write.{Write}
@@ -23,13 +23,15 @@ use Rattle.group_book.specs.Commits.{Sizes, draws_past}
 use Rattle.group_book.specs.Turns.{claim_by}
 use Rattle.group_log.specs.Followed.{book_with, committed_edits, ShowsBook, Finishes}
 use Rattle.group_view.specs.declared.claim.Parcel.{Parcel}
+use Rattle.group_directory.specs.declared.committing.CommitRefusal.{CommitRefusal}
+use Rattle.group_directory.specs.declared.committing.CommitRefusal.TheVariants as cause
 use Rattle.group_directory.specs.Laws.{sizes_of}
 use Rattle.group_directory.specs.Stands.{Stands}
 use Rattle.statement_core.specs.declared.core_state.CoreState.{CoreState}
 use Rattle.statement_core.specs.declared.started.Outcome.{Outcome}
 use Rattle.statement_core.specs.CoreState.{state_of, groups_of, IsStill, IsBare, claims_of}
 use Rattle.statement_core.specs.Leaves.{committed_in, Leaves}
-use Rattle.statement_core.specs.Outcomes.{GivesWrites, GivesOn}
+use Rattle.statement_core.specs.Outcomes.{AreLoaded, GivesWrites, GivesOn}
 use Rattle.statement_core.specs.Reorganizes.{IsOver}
 
 -- ---- replies
@@ -130,6 +132,12 @@ pub record IsWritingAt (begin : Begin) (changes : List Change) (held : CoreState
   pub holds : Holds begin (state_of changes held) session begun
   pub gives : GivesWrites (sizes_of held.directory) begun list present affected parcel
 
+-- the keys and the parcel of the writes that it gave, where it loads them
+pub record IsLoadingAt (begin : Begin) (changes : List Change) (held : CoreState) (session : ℕ) (b : Bound) (short : Bool) (keys : List Key) (parcel : Parcel) : Type 0 where
+  pub list : List Write
+  pub are : AreLoaded keys list
+  pub is : IsWritingAt begin changes held session b short list [] (length keys) (Some parcel)
+
 -- there are such changes
 pub record MayWrite (held : CoreState) (session : ℕ) (list : List Write) (present : List Key) (affected : ℕ) (parcel : Option Parcel) : Type 0 where
   pub begin : Begin
@@ -139,6 +147,11 @@ pub record MayWrite (held : CoreState) (session : ℕ) (list : List Write) (pres
   pub is : IsWritingAt begin changes held session bound short list present affected parcel
 
 -- ---- commits
+
+-- the refusal of a statement whose commit is refused
+abbrev pub refusal_of : CommitRefusal → Refusal
+refusal_of cause.Full = Reading 50001 1
+refusal_of cause.Memory = Memory
 
 -- the refusal is replied, and leaves what it leaves
 pub record IsRefusedFor (changes : List Change) (old : CoreState) (session : ℕ) (refusal : Refusal) (r : Reply) (new : CoreState) : Type 0 where

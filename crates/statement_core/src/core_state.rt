@@ -2,15 +2,17 @@
 ghost use Rattle.std.specs.Prelude.{◌≡◌, ℕ, ◌+◌, ◌<◌, ◌≢◌, ◌^◌, [], List, IsSome, OnOk, OnErr, Err, None, Some, true};
 ghost use Rattle.cs_model.specs.Changes.{Change};
 ghost use Rattle.cs_model.specs.State.{with, txn_set, half_set, statistics_set};
-ghost use Rattle.cs_model.specs.Steps.{gone};
+ghost use Rattle.cs_model.specs.Steps.{commits, gone};
 ghost use Rattle.edit_laws.specs.Edits.{edits_of};
+ghost use Rattle.write_set.specs.declared.write.Write.{Write};
+ghost use Rattle.txn_table.specs.declared.txn.Txn.{Txn};
 ghost use Rattle.txn_table.specs.Txns.{txn_of, deepened, widened, own_of};
 ghost use Rattle.group_book.specs.Commits.{draws_past};
 ghost use Rattle.group_log.specs.Followed.{book_with};
-ghost use Rattle.group_directory.specs.Calls.{IsParcelFor};
+ghost use Rattle.group_directory.specs.Calls.{IsParcelFor, IsCommitOf};
 ghost use Rattle.group_directory.specs.declared.committing.CommitRefusal.TheVariants as refusal;
 ghost use Rattle.group_directory.specs.Laws.{sizes_of, MayStage};
-ghost use Rattle.group_directory.specs.Obstacles.{txn_in};
+ghost use Rattle.group_directory.specs.Obstacles.{txn_as, txn_in};
 ghost use Rattle.group_directory.specs.Stands.{Stands};
 ghost use Rattle.statement_core.specs.CoreState.{half_in, halves_of, settings_of, state_of, groups_of, IsWithin, IsSame, IsStill};
 ghost use Rattle.statement_core.specs.Leaves.{committed_in, Leaves};
@@ -18,6 +20,7 @@ ghost use Rattle.statement_core.specs.Leaves.{committed_in, Leaves};
 use crate::seats::Seats;
 use cs_base::Memory;
 use cs_model::Bound;
+use cs_types::Key;
 use group_directory::{CommitRefusal, Directory};
 use group_view::Parcel;
 use std::sync::Arc;
@@ -133,6 +136,31 @@ pub fn commit(held: &mut CoreState, session: u32, parcel: Parcel) -> Result<(), 
     ensures still { OnErr result (IsStill held.old held.new) }
 {
     match held.directory.commit(session, parcel) {
+        Ok(_) => Ok(()),
+        Err(refusal) => Err(refusal),
+    }
+}
+
+/// Commits writes by their keys and a parcel of them in the session's transaction, which has written nothing before them. None of
+/// them replaces a row. After a refusal nothing has changed; `Full` comes where the commit would draw a group id above 2^62.
+pub fn load(
+    held: &mut CoreState,
+    session: u32,
+    keys: &[Key],
+    parcel: Parcel,
+) -> Result<(), CommitRefusal>
+    requires within { IsWithin held.old session }
+    requires open { IsSome (txn_of held.old.directory.txns session) }
+    requires bare { own_of (txn_of held.old.directory.txns session) ≡ [] }
+    requires given { (changes : List Change) × (list : List Write) × Stands held.old.directory changes × IsCommitOf held.old.directory changes session keys.now [] parcel list }
+    ensures ok { OnOk result ((changes : List Change) (list : List Write) (txn : Txn) → Stands held.old.directory changes → IsCommitOf held.old.directory changes session keys.now [] parcel list
+        → txn_of held.old.directory.txns session ≡ Some txn → Leaves changes held.old held.new (commits (state_of changes held.old) session (txn_as (record txn { own = list })))) }
+    ensures full { (changes : List Change) (list : List Write) → Stands held.old.directory changes → IsCommitOf held.old.directory changes session keys.now [] parcel list → result ≡ Err refusal.Full
+        → (list ≢ []) × (draws_past (groups_of held.old) (book_with (sizes_of held.old.directory) (state_of changes held.old) (edits_of list) (groups_of held.old)) ≡ true) }
+    ensures err { OnErr result ((changes : List Change) → state_of changes held.new ≡ state_of changes held.old) }
+    ensures still { OnErr result (IsStill held.old held.new) }
+{
+    match held.directory.load(session, keys, parcel) {
         Ok(_) => Ok(()),
         Err(refusal) => Err(refusal),
     }

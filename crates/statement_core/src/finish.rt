@@ -28,7 +28,7 @@ ghost use Rattle.statement_core.specs.Settled.{wrote_or, Settles, Ends, IsDoneAt
 
 use crate::core_state::{CoreState, deepen, is_told, open, roll_back, set_half, set_statistics};
 use crate::started::Outcome;
-use crate::writes::{commit_with, wrote};
+use crate::writes::{commit_with, loaded, wrote};
 use cs_base::Memory;
 use cs_model::{Bound, Refusal, Reply};
 use group_directory::Ledger;
@@ -275,6 +275,7 @@ fn settle(
             affected,
             parcel,
         } => wrote(alloc, held, session, writes, present, affected, parcel),
+        Outcome::Load { keys, parcel } => loaded(held, session, keys, parcel),
         Outcome::Commit(parcel) => unwind(held, session, parcel),
         Outcome::Left(groups) => Reply::Left(groups),
         Outcome::Short => refuse(held, session, Refusal::Memory),

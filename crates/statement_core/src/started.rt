@@ -78,6 +78,13 @@ pub enum Outcome {
         /// The rows as a commit takes them, where the transaction ends with the statement and no key is present.
         parcel: Option<Parcel>,
     },
+    /// The rows of an INSERT whose transaction ends with it, where it puts each at a key of its own that no row is at, as a commit
+    /// takes them.
+    Load {
+        /// By key, one for each row.
+        keys: Vec<Key>,
+        parcel: Parcel,
+    },
     /// The rows of the own writes as a commit takes them, for a COMMIT.
     Commit(Parcel),
     /// What a REORGANIZE left: of the stores that were closed at its Start, or that it closed, those that another actor held at its

@@ -8,9 +8,9 @@ ghost use Rattle.group_directory.specs.Calls.{IsParcelFor};
 ghost use Rattle.group_directory.specs.Stands.{Stands};
 ghost use Rattle.statement_core.specs.CoreState.{IsWithin};
 ghost use Rattle.write_set.specs.Writes.{write_keys};
-ghost use Rattle.statement_core.specs.Settled.{CommitGives, Ends, IsWritingAt, MayWrite};
+ghost use Rattle.statement_core.specs.Settled.{refusal_of, CommitGives, Ends, IsLoadingAt, IsWritingAt, MayWrite};
 
-use crate::core_state::{CoreState, commit, stage};
+use crate::core_state::{CoreState, commit, load, stage};
 use crate::finish::refuse;
 use cs_base::Memory;
 use cs_model::{Refusal, Reply};
@@ -31,6 +31,20 @@ fn keys_of(alloc: Global, writes: &[Write]) -> Result<Vec<Key>, Memory>
     Ok(keys)
 }
 
+/// The refusal of a statement whose commit is refused: 50001 at 1 where it would draw a group id above 2^62, and 701 where memory is
+/// not there.
+fn refusal_of(refusal: CommitRefusal) -> Refusal
+    ensures { result ≡ refusal_of refusal }
+{
+    match refusal {
+        CommitRefusal::Full => Refusal::Reading {
+            number: 50_001,
+            at: 1,
+        },
+        CommitRefusal::Memory => Refusal::Memory,
+    }
+}
+
 /// Commits the session's transaction with the parcel of its own writes, and gives this reply. Where that would draw a group id above
 /// 2^62 the reply is 50001 at 1, and where memory is not there it is 701; an implicit transaction is gone then, and an explicit one
 /// is as it was.
@@ -43,14 +57,7 @@ pub fn commit_with(held: &mut CoreState, session: u32, parcel: Parcel, reply: Re
 {
     match commit(held, session, parcel) {
         Ok(()) => reply,
-        Err(CommitRefusal::Full) => {
-            let refusal = Refusal::Reading {
-                number: 50_001,
-                at: 1,
-            };
-            refuse(held, session, refusal)
-        }
-        Err(CommitRefusal::Memory) => refuse(held, session, Refusal::Memory),
+        Err(refusal) => refuse(held, session, refusal_of(refusal)),
     }
 }
 
@@ -82,5 +89,21 @@ pub fn wrote(
     match parcel {
         Some(parcel) => commit_with(held, session, parcel, Reply::Affected(affected)),
         None => Reply::Affected(affected),
+    }
+}
+
+/// The Finish of a load: the obstacle of its keys, if they have one; else the implicit transaction commits the writes of these keys
+/// with their parcel, and the reply is how many they are. Where the commit is refused, so is the statement, as in `commit_with`.
+pub fn loaded(held: &mut CoreState, session: u32, keys: Vec<Key>, parcel: Parcel) -> Reply
+    requires within { IsWithin held.old session }
+    requires may { (begin : Begin) × (changes : List Change) × (b : Bound) × (short : Bool) × IsLoadingAt begin changes held.old session b short keys.items parcel }
+    ensures { (begin : Begin) (changes : List Change) (b : Bound) (short : Bool) → IsLoadingAt begin changes held.old session b short keys.items parcel → Ends begin.schema changes held.old session b short result held.new }
+{
+    if let Some(refusal) = held.directory.obstacle(session, &keys, &[]) {
+        return refuse(held, session, refusal);
+    }
+    match load(held, session, &keys, parcel) {
+        Ok(()) => Reply::Affected(keys.len() as u64),
+        Err(refusal) => refuse(held, session, refusal_of(refusal)),
     }
 }

@@ -8,7 +8,7 @@ use Rattle.statement_core.specs.Outcomes.{told}
 use Rattle.statement_core.specs.Settled.{Ends, IsDoneAt}
 use Rattle.statement_core.proofs.Decided.{write_of_table}
 use Rattle.statement_core.proofs.Ending.{ends_settled}
-use Rattle.statement_core.proofs.Finishing.{never_short, none_of_table, needs_none_of, is_commit, left_ends, over_of, with_outcome, answered_ends, writing_of}
+use Rattle.statement_core.proofs.Finishing.{never_short, none_of_table, needs_none_of, is_commit, left_ends, over_of, with_outcome, answered_ends, writing_of, loading_of}
 use Rattle.statement_core.proofs.Leaving.{settled_never, never_left}
 use Rattle.statement_core.proofs.Reorganizes.{table_other}
 use Rattle.statement_core.proofs.finish.settle.Goals as goal
@@ -74,6 +74,27 @@ returns-in-Writes-clause-left c = λ groups is.
     let d' = with_outcome begin changes held c.args.session b done.2 c.args.outcome (outcome.Writes x.writes x.present x.affected x.parcel) x.is done.3 in
     let w = writing_of begin changes held c.args.session b done.2 x.writes x.present x.affected x.parcel d' in
     absurd (never_left groups begin.schema changes held c.args.session b done.2 c.wrote.result c.wrote.new.held (c.wrote.ensures begin changes b done.2 w) (table_other b (write_of_table b w.writes)) is)
+
+pub returns-in-Load-clause-ends : goal.returns-in-Load-clause-ends
+returns-in-Load-clause-ends c = λ begin changes short d.
+    let held = c.args.held.now in
+    let b = c.args.bound.now in
+    let x = c.in-Load in
+    let d' = with_outcome begin changes held c.args.session b short c.args.outcome (outcome.Load x.keys x.parcel) x.is d in
+    c.loaded.ensures begin changes b short (loading_of begin changes held c.args.session b short x.keys x.parcel d')
+
+pub returns-in-Load-clause-left : goal.returns-in-Load-clause-left
+returns-in-Load-clause-left c = λ groups is.
+    let done = c.requires.done in
+    let begin = done.0 in
+    let changes = done.1 in
+    let held = c.args.held.now in
+    let b = c.args.bound.now in
+    let x = c.in-Load in
+    let d' = with_outcome begin changes held c.args.session b done.2 c.args.outcome (outcome.Load x.keys x.parcel) x.is done.3 in
+    let load = loading_of begin changes held c.args.session b done.2 x.keys x.parcel d' in
+    let w = load.is in
+    absurd (never_left groups begin.schema changes held c.args.session b done.2 c.loaded.result c.loaded.new.held (c.loaded.ensures begin changes b done.2 load) (table_other b (write_of_table b w.writes)) is)
 
 pub returns-in-Commit-clause-ends : goal.returns-in-Commit-clause-ends
 returns-in-Commit-clause-ends c = λ begin changes short d.
