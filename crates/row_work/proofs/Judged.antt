@@ -16,7 +16,6 @@ use Rattle.cs_model.specs.Obstacles as obstacles
 use Rattle.write_set.specs.declared.write.Write.{Write}
 use Rattle.edit_laws.specs.Edits.{edit_of, edits_of}
 use Rattle.group_view.specs.declared.view.Pinned.{Pinned}
-use Rattle.row_work.specs.declared.insert.InsertedRows.{InsertedRows}
 use Rattle.row_work.specs.Inserts.{Put, is_double, is_of, noted, put_keys, puts_as_edits, ArePuts, AreInserted, AreJudged}
 use Rattle.row_work.specs.Keyed.{would_stand_twice, Replaces}
 use Rattle.write_set.specs.Writes.{write_keys}
@@ -48,19 +47,19 @@ module _ (width : ℕ) (pinned : Pinned) (edits : List Edit) where
       step true false same rest = absurd (true≢false same)
       step false true same rest = absurd (true≢false (sym same))
 
-  inserted_are : (puts : List Put) (rows : InsertedRows) → ArePuts edits puts → edits_of rows.writes.items ≡ puts_as_edits puts → rows.present.items ≡ put_keys (filter (is_double (read_by width pinned)) puts)
-      → All (Replaces width pinned) rows.writes.items → rows.affected ≡ length edits → AreInserted width pinned edits rows
-  inserted_are puts rows are made present replaces affected =
-      let keys : write_keys rows.writes.items ≡ put_keys puts = edit_keys rows.writes.items ∙ ap keys_of made ∙ put_edit_keys puts in
+  inserted_are : (puts : List Put) (writes : List Write) (present : List Key) (count : ℕ) → ArePuts edits puts → edits_of writes ≡ puts_as_edits puts → present ≡ put_keys (filter (is_double (read_by width pinned)) puts)
+      → All (Replaces width pinned) writes → count ≡ length edits → AreInserted width pinned edits writes present count
+  inserted_are puts writes present count are made doubles replaces affected =
+      let keys : write_keys writes ≡ put_keys puts = edit_keys writes ∙ ap keys_of made ∙ put_edit_keys puts in
       record {
         keyed = record {
-          order = ascend_by rows.writes.items (put_keys puts) keys are.order;
+          order = ascend_by writes (put_keys puts) keys are.order;
           each = subst (All (Contains edits)) (sym made) are.each;
           every = subst (λ (list : List Key). All (λ (edit : Edit). Contains list edit.0) edits) (sym keys) are.every;
         };
         replaces = replaces;
         present =
-            present ∙ double_keys puts (recursion_from_All (λ (p : Put). p.twice ≡ stands_twice (obstacles.keys_of edits) p.key) puts are.twice)
+            doubles ∙ double_keys puts (recursion_from_All (λ (p : Put). p.twice ≡ stands_twice (obstacles.keys_of edits) p.key) puts are.twice)
             ∙ ap (filter (would_stand_twice width pinned edits)) (sym keys);
         affected = affected;
       }
@@ -129,7 +128,8 @@ none_judged pinned = record {
 }
 
 -- all rows: what is written of them, in any order of the edits
-pub all_judged : (width : ℕ) (pinned : Pinned) (edits others : List Edit) (rows : InsertedRows) → IsPermutation edits others → AreJudged pinned edits rows.writes.items rows.present.items → rows.affected ≡ length edits → AreInserted width pinned others rows
-all_judged width pinned edits others rows moved judged affected =
-    inserted_are width pinned others judged.puts rows (permuted edits others judged.puts moved judged.are) judged.made (judged.present width) (judged.replaces width)
+pub all_judged : (width : ℕ) (pinned : Pinned) (edits others : List Edit) (writes : List Write) (present : List Key) (count : ℕ) → IsPermutation edits others → AreJudged pinned edits writes present → count ≡ length edits
+    → AreInserted width pinned others writes present count
+all_judged width pinned edits others writes present count moved judged affected =
+    inserted_are width pinned others judged.puts writes present count (permuted edits others judged.puts moved judged.are) judged.made (judged.present width) (judged.replaces width)
     (affected ∙ sym (length_permutation edits others moved))

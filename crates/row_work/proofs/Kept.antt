@@ -1,11 +1,12 @@
 -- Writes by the keys of what was chosen.
 use Rattle.std.proofs.Common.{◌≡◌, ℕ, zero, suc, ◌+◌, ◌<◌, Bool, List, [], ◌∷◌, ◌++◌, length, get_or, take, map, refl, sym, ap, ◌∙◌, subst, append_assoc, arith}
 use Rattle.std.specs.Prelude.{Option, None, Some, IsSome, Result}
-use Rattle.std.specs.List.{All}
+use Rattle.std.specs.List.{All, Contains}
 use Rattle.std.specs.Map.{keys_of}
 use Rattle.std.specs.List.Sorted.{IsStrictlySortedBy}
 use Rattle.std.proofs.lemmas.List.{get_or-map, length-map, map-append}
 use Rattle.std.specs.Option.{option_to_list}
+use Rattle.std.proofs.lemmas.List.Elements.{All-contains_itself, All-cons, All-nil}
 use Rattle.std.proofs.lemmas.Map.Keys.{Less-from_sorted}
 use Rattle.std.proofs.lemmas.Option.{slice_get_read}
 use Rattle.edit_laws.proofs.Lists.{take_next}
@@ -18,7 +19,7 @@ use Rattle.cs_model.specs.Answers as spec
 use Rattle.cs_model.specs.Changes.{Edit, Table}
 use Rattle.write_set.specs.declared.write.Write.{Write}
 use Rattle.write_set.specs.Writes.{Ascend, write_keys}
-use Rattle.edit_laws.specs.Edits.{edits_of}
+use Rattle.edit_laws.specs.Edits.{edit_of, edits_of}
 use Rattle.group_view.specs.declared.view.Pinned.{Pinned}
 use Rattle.row_work.specs.declared.choose.Chosen.{Chosen}
 use Rattle.row_work.specs.declared.refusal.WriteRefusal.{WriteRefusal}
@@ -34,6 +35,15 @@ ascend_by writes keys same up i j d less inside =
     let high = get_or-map key writes j d d.key inside in
     let sorted = Less-from_sorted key_cmp (write_keys writes) i j d.key (subst (IsStrictlySortedBy key_cmp) (sym same) up) less (omega (arith, inside, length-map writes key)) in
     ap (λ (k : Key). key_cmp k (get_or writes j d).key) (sym low) ∙ ap (key_cmp (get_or (write_keys writes) i d.key)) (sym high) ∙ sorted
+
+-- the key of each write's edit is one of their keys
+each_key : (list : List Write) (keys : List Key) → All (Contains keys) (write_keys list) → All (λ (edit : Edit). Contains keys edit.0) (edits_of list)
+each_key [] keys all = All-nil (λ (edit : Edit). Contains keys edit.0)
+each_key (w ∷ list) keys all =
+    All-cons (λ (edit : Edit). Contains keys edit.0) (edit_of w) (edits_of list) (all 0 w.key (omega arith)) (each_key list keys (λ i d there. all (suc i) d (omega (arith, there))))
+
+pub every_key : (list : List Write) → All (λ (edit : Edit). Contains (write_keys list) edit.0) (edits_of list)
+every_key list = each_key list (write_keys list) (All-contains_itself (write_keys list))
 
 -- the keys of edits, and of what was chosen
 pub edit_keys : (writes : List Write) → write_keys writes ≡ keys_of (edits_of writes)

@@ -1,3 +1,4 @@
+pub mod Absence
 pub mod Answered
 pub mod Bounded
 pub mod Cells
@@ -10,6 +11,7 @@ pub mod Judged
 pub mod Kept
 pub mod KeptRange
 pub mod Known
+pub mod Loads
 pub mod NamedRows
 pub mod Narrow
 pub mod Ordered

@@ -71,10 +71,10 @@ last_within (k ∷ other ∷ keys) key last =
 
 -- ---- how often a key stands
 
-abbrev often : Key → List Key → ℕ
+abbrev pub often : Key → List Key → ℕ
 often key keys = how_many (λ other. same_key key other) keys
 
-twice_is : (keys : List Key) (key : Key) → stands_twice keys key ≡ ltb 1 (often key keys)
+pub twice_is : (keys : List Key) (key : Key) → stands_twice keys key ≡ ltb 1 (often key keys)
 twice_is keys key = ap (ltb 1) (count_by-how_many (λ other. same_key key other) keys)
 
 often_more : (key k : Key) (edits : List Edit) (row : Option (List Value)) → often key (keys_of (edits ++ (k, row) ∷ [])) ≡ often key (keys_of edits) + cond (same_key key k) 1 0

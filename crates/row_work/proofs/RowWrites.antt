@@ -34,7 +34,7 @@ module _ (schema : Schema) where
   as_all row_of n [] = refl
   as_all row_of n (x ∷ plan) = ap (row_onto n (as_write schema (row_of x))) (as_all row_of (n + 1) plan) ∙ onto n (row_of x) (rows_from row_of (n + 1) plan)
 
-  edits_as : (rows : List (List Value)) → spec.edits_of schema rows ≡ edits_of (map (write_of schema) rows)
+  pub edits_as : (rows : List (List Value)) → spec.edits_of schema rows ≡ edits_of (map (write_of schema) rows)
   edits_as [] = refl
   edits_as (row ∷ rows) = ap (λ (edits : List Edit). (key_in schema.key row, Some row) ∷ edits) (edits_as rows)
 

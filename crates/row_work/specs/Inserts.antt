@@ -8,12 +8,15 @@ use Rattle.cs_types.specs.Keys.{key_cmp, same_key}
 use Rattle.cs_types.specs.Rows.{key_in}
 use Rattle.cs_model.specs.declared.entry.Refusal.{Refusal}
 use Rattle.cs_model.specs.declared.expr.Expr.{Expr}
+use Rattle.cs_model.specs.Answers as spec
 use Rattle.cs_model.specs.Answers.{inserted_row}
 use Rattle.cs_model.specs.Changes.{Edit, Table}
 use Rattle.cs_model.specs.Obstacles.{has_row, keys_of, stands_twice}
+use Rattle.batch_compute.specs.Columns.{AreColumnsOf}
 use Rattle.edit_laws.specs.Edits.{edits_of}
 use Rattle.group_view.specs.declared.view.Pinned.{Pinned}
 use Rattle.row_work.specs.declared.insert.InsertedRows.{InsertedRows}
+use Rattle.row_work.specs.declared.load.LoadedColumns.{LoadedColumns}
 use Rattle.row_work.specs.declared.refusal.WriteRefusal.{WriteRefusal}
 use Rattle.row_work.specs.Gives.{RefusesRows}
 use Rattle.row_work.specs.Keyed.{would_stand_twice, AreKeyed, Replaces}
@@ -79,13 +82,22 @@ pub record AreJudged (pinned : Pinned) (edits : List Edit) (writes : List Write)
   pub present : (width : ℕ) → keys ≡ put_keys (filter (is_double (read_by width pinned)) puts)
 
 -- what is written of the edits: the writes, the keys that would stand twice, and how many rows
-pub record AreInserted (width : ℕ) (pinned : Pinned) (edits : List Edit) (inserted : InsertedRows) : Type 0 where
-  pub keyed : AreKeyed edits inserted.writes.items
-  pub replaces : All (Replaces width pinned) inserted.writes.items
-  pub present : inserted.present.items ≡ filter (would_stand_twice width pinned edits) (write_keys inserted.writes.items)
-  pub affected : inserted.affected ≡ length edits
+pub record AreInserted (width : ℕ) (pinned : Pinned) (edits : List Edit) (writes : List Write) (keys : List Key) (count : ℕ) : Type 0 where
+  pub keyed : AreKeyed edits writes
+  pub replaces : All (Replaces width pinned) writes
+  pub present : keys ≡ filter (would_stand_twice width pinned edits) (write_keys writes)
+  pub affected : count ≡ length edits
 
 -- that of the wanted edits, or their refusal
 abbrev pub GivesInserted : ℕ → Pinned → Result (List Edit) Refusal → Result InsertedRows WriteRefusal → Type 0
-GivesInserted width pinned wanted (Ok inserted) = (edits : List Edit) × (wanted ≡ Ok edits) × AreInserted width pinned edits inserted
+GivesInserted width pinned wanted (Ok rows) = (edits : List Edit) × (wanted ≡ Ok edits) × AreInserted width pinned edits rows.writes.items rows.present.items rows.affected
 GivesInserted width pinned wanted (Err e) = RefusesRows wanted e
+
+-- the wanted rows by columns, with their keys: their writes, in their order, are what is written of them. No key would stand twice, and none
+-- is in the table of the snapshot
+pub record IsLoadOf (schema : Schema) (pinned : Pinned) (wanted : Result (List (List Value)) Refusal) (loaded : LoadedColumns) : Type 0 where
+  pub rows : List (List Value)
+  pub written : wanted ≡ Ok rows
+  pub columns : AreColumnsOf (length schema.columns) rows loaded.columns.items
+  pub keys : loaded.keys.items ≡ map (key_in schema.key) rows
+  pub inserted : AreInserted (length schema.columns) pinned (spec.edits_of schema rows) (map (write_of schema) rows) [] (length rows)

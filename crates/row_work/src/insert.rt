@@ -114,7 +114,7 @@ fn add(
 fn judged(alloc: Global, pinned: &Pinned, rows: Vec<Write>) -> Result<InsertedRows, Memory>
     requires snapshot { HasSnapshot pinned.now }
     requires sorted { IsSortedByKey (λ (write : Write). write.key) key_cmp rows.items }
-    ensures { (width : ℕ) (edits : List Edit) → IsPermutation (edits_of rows.items) edits → IfOk result (AreInserted width pinned.now edits) }
+    ensures { (width : ℕ) (edits : List Edit) → IsPermutation (edits_of rows.items) edits → IfOk result (λ rows. AreInserted width pinned.now edits rows.writes.items rows.present.items rows.affected) }
 {
     let affected = rows.len() as u64;
     let mut writes = Vec::with_capacity(alloc, rows.len())?;

@@ -1,9 +1,9 @@
 -- The outcomes of what was begun.
-use Rattle.std.proofs.Common.{◌≡◌, ℕ, zero, suc, Bool, true, false, ◌&&◌, ◌||◌, cond, List, [], ◌∷◌, length, get_or, map, filter, refl, sym, ap, ◌∙◌, subst, arith}
+use Rattle.std.proofs.Common.{◌≡◌, ℕ, Bool, true, false, ◌&&◌, ◌||◌, cond, List, [], length, get_or, map, filter, sym, ap, ◌∙◌, subst}
 use Rattle.std.specs.Prelude.{Option, None, Some, Result, Ok, Err}
-use Rattle.std.specs.List.{All, Contains}
+use Rattle.std.specs.List.{All}
 use Rattle.std.proofs.lemmas.List.{length-map}
-use Rattle.std.proofs.lemmas.List.Elements.{All-contains_itself, All-cons, All-nil}
+use Rattle.std.proofs.lemmas.List.Elements.{All-contains_itself}
 use Rattle.cs_types.specs.declared.Key.{Key}
 use Rattle.cs_model.specs.Answers.{writes}
 use Rattle.cs_model.specs.Changes.{Edit, Table}
@@ -14,27 +14,17 @@ use Rattle.write_set.specs.Writes.{Ascend, write_keys}
 use Rattle.edit_laws.specs.Edits.{edit_of, edits_of}
 use Rattle.log_laws.specs.Started.{Begun, snapshot_table, seen_by}
 use Rattle.group_book.specs.Commits.{Sizes}
+use Rattle.group_book.proofs.Lists.{every_one}
 use Rattle.group_view.specs.declared.claim.Parcel.{Parcel}
 use Rattle.group_view.specs.declared.view.Pinned.{Pinned}
-use Rattle.row_work.specs.declared.insert.InsertedRows.{InsertedRows}
 use Rattle.row_work.specs.Inserts.{AreInserted}
 use Rattle.row_work.specs.Keyed.{Replaces}
 use Rattle.row_work.proofs.Fits.{Fits}
+use Rattle.row_work.proofs.Kept.{every_key}
+use Rattle.row_work.proofs.Loads.{none_kept}
 use Rattle.statement_core.specs.Begun.{MayWork, Pins}
 use Rattle.statement_core.specs.Outcomes.{width_of, GivesWrites, IsParcelled}
 use Rattle.statement_work.proofs.Seen.{read_is, shown_is}
-
-each_key : (list : List Write) (keys : List Key) → All (Contains keys) (write_keys list) → All (λ (edit : Edit). Contains keys edit.0) (edits_of list)
-each_key [] keys all = All-nil (λ (edit : Edit). Contains keys edit.0)
-each_key (w ∷ list) keys all =
-    All-cons (λ (edit : Edit). Contains keys edit.0) (edit_of w) (edits_of list) (all 0 w.key (omega arith)) (each_key list keys (λ i d there. all (suc i) d (omega (arith, there))))
-
-every_key : (list : List Write) → All (λ (edit : Edit). Contains (write_keys list) edit.0) (edits_of list)
-every_key list = each_key list (write_keys list) (All-contains_itself (write_keys list))
-
-none_kept : (p : Key → Bool) → ((key : Key) → p key ≡ false) → (keys : List Key) → filter p keys ≡ []
-none_kept p none [] = refl
-none_kept p none (key ∷ keys) = rw (none key) (none_kept p none keys)
 
 module _ (sizes : Sizes) (begun : Begun) (pinned : Pinned) (pins : Pins begun pinned) (work : MayWork begun) where
   replaced : (list : List Write) → All (Replaces (width_of begun) pinned) list → All (λ (write : Write). write.replaces ≡ has_row (snapshot_table begun) write.key) list
@@ -53,16 +43,17 @@ module _ (sizes : Sizes) (begun : Begun) (pinned : Pinned) (pins : Pins begun pi
       each = All-contains_itself (edits_of list);
       every = every_key list;
       replaces = replaced list replaces;
-      twice = none ∙ sym (none_kept (is_present begun.bound (edits_of list) (seen_by begun)) (λ key. ap (λ t. t && (has_row (seen_by begun) key || stands_twice (keys_of (edits_of list)) key)) other) (write_keys list));
+      twice = none ∙ sym (none_kept (is_present begun.bound (edits_of list) (seen_by begun)) (write_keys list)
+          (every_one (λ key. is_present begun.bound (edits_of list) (seen_by begun) key ≡ false) (λ key. ap (λ t. t && (has_row (seen_by begun) key || stands_twice (keys_of (edits_of list)) key)) other) (write_keys list)));
       count = count ∙ sym (length-map list edit_of);
       parcelled = parcelled;
     };
   }
 
   -- of an INSERT
-  pub insert_gives : (edits : List Edit) (rows : InsertedRows) → is_insert begun.bound ≡ true → writes begun.schema (seen_by begun) begun.bound ≡ Ok edits → All (Fits begun.schema) edits → AreInserted (width_of begun) pinned edits rows
-      → (parcel : Option Parcel) → IsParcelled sizes begun rows.writes.items rows.present.items parcel → GivesWrites sizes begun rows.writes.items rows.present.items rows.affected parcel
-  insert_gives edits rows is defined fits inserted parcel parcelled = record {
+  pub insert_gives : (edits : List Edit) (list : List Write) (present : List Key) (affected : ℕ) → is_insert begun.bound ≡ true → writes begun.schema (seen_by begun) begun.bound ≡ Ok edits → All (Fits begun.schema) edits
+      → AreInserted (width_of begun) pinned edits list present affected → (parcel : Option Parcel) → IsParcelled sizes begun list present parcel → GivesWrites sizes begun list present affected parcel
+  insert_gives edits list present affected is defined fits inserted parcel parcelled = record {
     edits = edits;
     defined = defined;
     fit = λ i d there. (fits i d there).0;
@@ -71,11 +62,11 @@ module _ (sizes : Sizes) (begun : Begun) (pinned : Pinned) (pins : Pins begun pi
       order = inserted.keyed.order;
       each = inserted.keyed.each;
       every = inserted.keyed.every;
-      replaces = replaced rows.writes.items inserted.replaces;
+      replaces = replaced list inserted.replaces;
       twice =
           inserted.present
-          ∙ ap (λ (t : Table). filter (λ key. has_row t key || stands_twice (keys_of edits) key) (write_keys rows.writes.items)) (read_is begun pinned pins work)
-          ∙ ap (λ (t : Bool). filter (λ key. t && (has_row (seen_by begun) key || stands_twice (keys_of edits) key)) (write_keys rows.writes.items)) (sym is);
+          ∙ ap (λ (t : Table). filter (λ key. has_row t key || stands_twice (keys_of edits) key) (write_keys list)) (read_is begun pinned pins work)
+          ∙ ap (λ (t : Bool). filter (λ key. t && (has_row (seen_by begun) key || stands_twice (keys_of edits) key)) (write_keys list)) (sym is);
       count = inserted.affected;
       parcelled = parcelled;
     };

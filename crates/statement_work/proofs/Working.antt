@@ -1,9 +1,10 @@
 -- What the work on a started statement gives.
-use Rattle.std.proofs.Common.{◌≡◌, ◌∙◌, ℕ, List, [], length, true, false, refl, sym, ap, subst}
+use Rattle.std.proofs.Common.{◌≡◌, ◌∙◌, ℕ, List, [], length, map, true, false, refl, sym, ap, subst}
 use Rattle.std.specs.Prelude.{Option, None, Some, Result, Ok, Err, IfSome}
 use Rattle.std.specs.List.{All}
 use Rattle.std.specs.Map.{values_of}
 use Rattle.cs_types.specs.declared.Loose.{Loose}
+use Rattle.cs_types.specs.declared.Key.{Key}
 use Rattle.cs_types.specs.declared.Schema.{Schema}
 use Rattle.cs_types.specs.Schemas.{IsSchema}
 use Rattle.cs_model.specs.declared.entry.Bound.{Bound}
@@ -15,6 +16,7 @@ use Rattle.cs_model.specs.declared.plan.InsertPlan.{InsertPlan}
 use Rattle.cs_model.specs.declared.plan.Query.{Query}
 use Rattle.cs_model.specs.declared.plan.UpdatePlan.{UpdatePlan}
 use Rattle.cs_model.specs.declared.pred.Pred.{Pred}
+use Rattle.cs_model.specs.Answers as spec
 use Rattle.cs_model.specs.Answers.{edits_by, inserted, updated, deleted, writes}
 use Rattle.cs_model.specs.Changes.{Edit, Table}
 use Rattle.cs_model.specs.Held.{IsFit}
@@ -31,8 +33,8 @@ use Rattle.group_book.specs.Commits.{Sizes}
 use Rattle.group_view.specs.declared.claim.Parcel.{Parcel}
 use Rattle.group_view.specs.declared.view.Pinned.{Pinned}
 use Rattle.group_view.specs.Parcels.{IsParcelFor}
-use Rattle.row_work.specs.declared.insert.InsertedRows.{InsertedRows}
-use Rattle.row_work.specs.Inserts.{AreInserted}
+use Rattle.row_work.specs.declared.load.LoadedColumns.{LoadedColumns}
+use Rattle.row_work.specs.Inserts.{write_of, AreInserted, IsLoadOf}
 use Rattle.row_work.specs.Keyed.{Replaces}
 use Rattle.row_work.specs.Reads.{read_by}
 use Rattle.row_work.proofs.Fits.{delete_fits, insert_fits, update_fits, Fits}
@@ -42,11 +44,11 @@ use Rattle.statement_core.specs.declared.started.Started.{Started}
 use Rattle.statement_core.specs.Begun.{Pins}
 use Rattle.statement_core.specs.Counted.{outcome_counts, condition_of, ArePinnedCounts, AreCountsOf}
 use Rattle.statement_core.specs.Outcomes.{GivesOn, IsDecided}
-use Rattle.tuple_mover.specs.Inserts.{FitsIn}
+use Rattle.tuple_mover.specs.Inserts.{AreRowsOf, FitsIn}
 use Rattle.statement_work.specs.Clerks.{IsBegun, NeedsParcel}
 use Rattle.statement_work.proofs.Given.{among_fit}
 use Rattle.statement_work.proofs.Outcomes.{changes_give, insert_gives}
-use Rattle.statement_work.proofs.Parcelled.{fits_in}
+use Rattle.statement_work.proofs.Parcelled.{fits_in, rows_in}
 use Rattle.statement_work.proofs.Seen.{read_is, seen_fits}
 use Rattle.statement_work.proofs.Taken.{pins_of}
 
@@ -86,17 +88,33 @@ module _ (begun : Begun) (started : Started) where
     insert_whole edits given = insert_fits (schema_in started) (is_schema (Insert plan) is) plan edits given
 
     module _ (pinned : Pinned) (there : started.pinned ≡ Some pinned) (edits : List Edit) (given : edits_by (schema_in started) (inserted (schema_in started) plan) ≡ Ok edits)
-        (rows : InsertedRows) (are : AreInserted (width_in started) pinned edits rows) where
-      pub insert_parcel : All (FitsIn (schema_in started)) (edits_of rows.writes.items)
-      insert_parcel = among_fit (schema_in started) edits rows.writes.items (insert_whole edits given) are.keyed.each
+        (list : List Write) (present : List Key) (affected : ℕ) (are : AreInserted (width_in started) pinned edits list present affected) where
+      pub insert_parcel : All (FitsIn (schema_in started)) (edits_of list)
+      insert_parcel = among_fit (schema_in started) edits list (insert_whole edits given) are.keyed.each
 
-      pub insert_needs : (sizes : Sizes) → NeedsParcel sizes begun rows.writes.items rows.present.items rows.affected
+      pub insert_needs : (sizes : Sizes) → NeedsParcel sizes begun list present affected
       insert_needs sizes = record {
         long = is.long;
         write = insert_write;
-        gives = insert_gives sizes begun pinned (pins_of begun started (Insert plan) is refl pinned there) is.work edits rows (ap is_insert is.bound) (insert_defined ∙ given)
-            (subst (λ s. All (Fits s) edits) is.hands.schema (insert_whole edits given)) (subst (λ (s : Schema). AreInserted (length s.columns) pinned edits rows) is.hands.schema are);
+        gives = insert_gives sizes begun pinned (pins_of begun started (Insert plan) is refl pinned there) is.work edits list present affected (ap is_insert is.bound) (insert_defined ∙ given)
+            (subst (λ s. All (Fits s) edits) is.hands.schema (insert_whole edits given)) (subst (λ (s : Schema). AreInserted (length s.columns) pinned edits list present affected) is.hands.schema are);
       }
+
+    -- by columns
+
+    module _ (pinned : Pinned) (there : started.pinned ≡ Some pinned) (loaded : LoadedColumns) (are : IsLoadOf (schema_in started) pinned (inserted (schema_in started) plan) loaded) where
+      load_defined : edits_by (schema_in started) (inserted (schema_in started) plan) ≡ Ok (spec.edits_of (schema_in started) are.rows)
+      load_defined = ap (edits_by (schema_in started)) are.written
+
+      pub load_rows : AreRowsOf (schema_in started) loaded.keys.items loaded.columns.items are.rows
+      load_rows = record {
+        fit = rows_in (schema_in started) are.rows (λ i d at. (insert_whole (spec.edits_of (schema_in started) are.rows) load_defined i d at).0);
+        held = are.columns;
+        keyed = are.keys;
+      }
+
+      pub load_needs : (sizes : Sizes) → NeedsParcel sizes begun (map (write_of (schema_in started)) are.rows) [] (length are.rows)
+      load_needs = insert_needs pinned there (spec.edits_of (schema_in started) are.rows) load_defined (map (write_of (schema_in started)) are.rows) [] (length are.rows) are.inserted
 
   -- ---- an UPDATE or a DELETE
 

@@ -1,5 +1,5 @@
 // The desk of the program.
-ghost use Rattle.std.specs.Prelude.{◌≡◌, ◌≤◌, IsSome, Some};
+ghost use Rattle.std.specs.Prelude.{◌≡◌, ◌≤◌, IfSome, IsSome, Some};
 ghost use Rattle.cs_model.specs.declared.entry.Bound.TheVariants as bound;
 ghost use Rattle.log_laws.specs.Started.{Begun};
 ghost use Rattle.statement_core.specs.Counted.{AreCountsOf};
@@ -9,11 +9,12 @@ ghost use Rattle.statement_work.specs.Clerks.{IsBegun};
 
 use crate::turn::NoTurn;
 use crate::workers::answer;
-use crate::writes::{changed, refused, valued, written};
+use crate::writes::{changed, packed, refused, valued, written};
+use batch_compute::series_len;
 use cs_base::Memory;
 use cs_model::{AnswerRefusal, Bound, InsertPlan, Pred, Query, Reply, UpdatePlan};
 use group_view::{Claim, Pinned, Product};
-use row_work::{deleted, inserted, updated};
+use row_work::{deleted, inserted, loaded, updated};
 use statement_core::{Desk, Outcome, Started};
 use std::alloc::Global;
 use std::sync::Wait;
@@ -48,8 +49,35 @@ fn pinned_of(started: &Started) -> &Pinned
     }
 }
 
-/// The outcome of an INSERT.
-fn insert(alloc: Global, started: &Started, plan: &InsertPlan) -> Outcome
+/// Whether an INSERT is over a series of at least so many numbers.
+fn has_series(plan: &InsertPlan, least: u64) -> bool {
+    match plan.series {
+        Some((start, stop)) => series_len(start, stop) >= least as u128,
+        None => false,
+    }
+}
+
+/// The outcome of an INSERT by columns, where its transaction ends with it and it is over a series from which rows load directly. None
+/// where its rows are not had so, or one of them is not put at a new key.
+fn insert_columns(alloc: Global, started: &Started, plan: &InsertPlan) -> Option<Outcome>
+    requires terms { AreTerms started.now.terms.value }
+    requires begun { (begun : Begun) × IsBegun begun started.now (bound.Insert plan.now) }
+    ensures counted { IfSome result (AreCountsOf started.now) }
+    ensures gives { IfSome result (λ outcome. (begun : Begun) → IsBegun begun started.now (bound.Insert plan.now) → GivesOn (sizes_of started.now.terms.value) begun outcome) }
+{
+    let terms = &*started.terms;
+    if !started.implicit || !has_series(plan, terms.direct_rows) {
+        return None;
+    }
+    match loaded(alloc, &terms.schema, plan, pinned_of(started)) {
+        Ok(Some(rows)) => Some(packed(alloc, terms, rows)),
+        Ok(None) => None,
+        Err(Memory) => Some(Outcome::Short),
+    }
+}
+
+/// The outcome of an INSERT, row by row.
+fn insert_rows(alloc: Global, started: &Started, plan: &InsertPlan) -> Outcome
     requires terms { AreTerms started.now.terms.value }
     requires begun { (begun : Begun) × IsBegun begun started.now (bound.Insert plan.now) }
     ensures counted { AreCountsOf started.now result }
@@ -59,6 +87,19 @@ fn insert(alloc: Global, started: &Started, plan: &InsertPlan) -> Outcome
     match inserted(alloc, &terms.schema, plan, pinned_of(started)) {
         Ok(rows) => written(alloc, terms, started.implicit, rows),
         Err(refusal) => refused(refusal),
+    }
+}
+
+/// The outcome of an INSERT, by columns where they are had.
+fn insert(alloc: Global, started: &Started, plan: &InsertPlan) -> Outcome
+    requires terms { AreTerms started.now.terms.value }
+    requires begun { (begun : Begun) × IsBegun begun started.now (bound.Insert plan.now) }
+    ensures counted { AreCountsOf started.now result }
+    ensures gives { (begun : Begun) → IsBegun begun started.now (bound.Insert plan.now) → GivesOn (sizes_of started.now.terms.value) begun result }
+{
+    match insert_columns(alloc, started, plan) {
+        Some(outcome) => outcome,
+        None => insert_rows(alloc, started, plan),
     }
 }
 

@@ -1,5 +1,6 @@
 // The outcomes of writes.
-ghost use Rattle.std.specs.Prelude.{◌≡◌, [], false, length, true, All, None};
+ghost use Rattle.std.specs.Prelude.{◌≡◌, [], false, length, map, true, All, List, None};
+ghost use Rattle.cs_types.specs.declared.Value.{Value};
 ghost use Rattle.cs_types.specs.Schemas.{IsSchema};
 ghost use Rattle.cs_model.specs.Answers.{writes};
 ghost use Rattle.cs_model.specs.Kinds.{is_write};
@@ -7,18 +8,19 @@ ghost use Rattle.group_book.specs.Commits.{Sizes};
 ghost use Rattle.edit_laws.specs.Edits.{edits_of};
 ghost use Rattle.log_laws.specs.Started.{Begun, seen_by};
 ghost use Rattle.row_work.specs.Gives.{RefusesRows};
+ghost use Rattle.row_work.specs.Inserts.{write_of};
 ghost use Rattle.statement_core.specs.Counted.{outcome_counts};
 ghost use Rattle.statement_core.specs.Outcomes.{GivesOn};
 ghost use Rattle.statement_core.specs.Terms.{sizes_of, AreTerms};
 ghost use Rattle.statement_work.specs.Clerks.{NeedsParcel};
-ghost use Rattle.tuple_mover.specs.Inserts.{FitsIn};
+ghost use Rattle.tuple_mover.specs.Inserts.{AreRowsOf, FitsIn};
 
 use cs_base::Memory;
 use cs_model::{Refusal, Reply};
-use row_work::{InsertedRows, WriteRefusal};
+use row_work::{InsertedRows, LoadedColumns, WriteRefusal};
 use statement_core::{Outcome, Terms};
 use std::alloc::Global;
-use tuple_mover::parcel_of;
+use tuple_mover::{parcel_of, parcel_of_columns};
 use write_set::Write;
 
 /// The reply of a value refusal.
@@ -103,4 +105,28 @@ pub fn changed(alloc: Global, terms: &Terms, implicit: bool, writes: Vec<Write>)
             affected,
         },
     )
+}
+
+/// The outcome of the rows of an INSERT by columns, which are put at new keys in a transaction that ends with the statement: with the
+/// parcel that their commit takes.
+pub fn packed(alloc: Global, terms: &Terms, rows: LoadedColumns) -> Outcome
+    requires terms { AreTerms terms.now }
+    requires schema { IsSchema terms.now.schema.value }
+    requires rows { (written : List (List Value)) × AreRowsOf terms.now.schema.value rows.keys.items rows.columns.items written }
+    ensures untold { outcome_counts result ≡ None }
+    ensures gives { (begun : Begun) (written : List (List Value)) → begun.implicit ≡ true → begun.schema ≡ terms.now.schema.value → AreRowsOf terms.now.schema.value rows.keys.items rows.columns.items written
+        → NeedsParcel (sizes_of terms.now) begun (map (write_of terms.now.schema.value) written) [] (length written) → GivesOn (sizes_of terms.now) begun result }
+{
+    let LoadedColumns { keys, columns } = rows;
+    match parcel_of_columns(
+        alloc,
+        &terms.schema,
+        &keys,
+        columns,
+        terms.group_rows,
+        terms.direct_rows,
+    ) {
+        Ok(parcel) => Outcome::Load { keys, parcel },
+        Err(Memory) => Outcome::Short,
+    }
 }

@@ -38,4 +38,4 @@ returns c = λ width edits moved.
     let all = sym (append-nil done) ∙ ap (λ items. done ++ items) (sym none) ∙ c.loop-row.invariant.rest in
     let are = subst (λ (list : List Write). AreJudged c.args.pinned.now (edits_of list) c.loop-row.writes.items c.loop-row.present.items) all c.loop-row.invariant.are in
     let long = length-map rows edit_of in
-    all_judged width c.args.pinned.now (edits_of rows) edits _ moved are (search (rules, long))
+    all_judged width c.args.pinned.now (edits_of rows) edits c.loop-row.writes.items c.loop-row.present.items _ moved are (search (rules, long))

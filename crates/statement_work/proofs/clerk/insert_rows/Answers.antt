@@ -13,7 +13,7 @@ use Rattle.statement_core.specs.Terms.{sizes_of}
 use Rattle.tuple_mover.specs.Inserts.{FitsIn}
 use Rattle.statement_work.proofs.Taken.{may_read_it}
 use Rattle.statement_work.proofs.Working.{insert_defined, insert_needs, insert_parcel, insert_write, untold}
-use Rattle.statement_work.proofs.clerk.insert.Goals as goal
+use Rattle.statement_work.proofs.clerk.insert_rows.Goals as goal
 
 pub inserted-requires : goal.inserted-requires
 inserted-requires c =
@@ -29,7 +29,7 @@ written-requires-clause-fit c =
     let rows = c.in-Ok.rows in
     let same = c.deref.ensures ∙ ap (λ (t : Terms). t.schema.value) c.deref-terms.ensures in
     let given = subst (λ (s : Schema). GivesInserted (length s.columns) pinned (edits_by s (inserted s plan)) (Ok rows)) same c.in-Ok.ensures in
-    subst (λ (t : Terms). All (FitsIn t.schema.value) (edits_of rows.writes.items)) (sym c.deref-terms.ensures) (insert_parcel b.0 c.args.started.now plan b.1 pinned c.pinned_of.ensures given.0 given.1 rows given.2)
+    subst (λ (t : Terms). All (FitsIn t.schema.value) (edits_of rows.writes.items)) (sym c.deref-terms.ensures) (insert_parcel b.0 c.args.started.now plan b.1 pinned c.pinned_of.ensures given.0 given.1 rows.writes.items rows.present.items rows.affected given.2)
 
 pub returns-in-Ok-clause-gives : goal.returns-in-Ok-clause-gives
 returns-in-Ok-clause-gives c = λ begun is.
@@ -40,7 +40,7 @@ returns-in-Ok-clause-gives c = λ begun is.
     let given = subst (λ (s : Schema). GivesInserted (length s.columns) pinned (edits_by s (inserted s plan)) (Ok rows)) same c.in-Ok.ensures in
     subst (λ (t : Terms). GivesOn (sizes_of t) begun c.written.result) c.deref-terms.ensures
     (c.written.ensures.gives begun (sym is.hands.implicit) (sym is.hands.schema ∙ ap (λ (t : Terms). t.schema.value) (sym c.deref-terms.ensures))
-    (insert_needs begun c.args.started.now plan is pinned c.pinned_of.ensures given.0 given.1 rows given.2 (sizes_of c.deref-terms.result.now)))
+    (insert_needs begun c.args.started.now plan is pinned c.pinned_of.ensures given.0 given.1 rows.writes.items rows.present.items rows.affected given.2 (sizes_of c.deref-terms.result.now)))
 
 pub returns-in-Err-clause-gives : goal.returns-in-Err-clause-gives
 returns-in-Err-clause-gives c = λ begun is.
