@@ -34,6 +34,7 @@ over_of : (b : Bound) (o : Outcome) → (o ≡ outcome.Nothing → reorganizes b
 over_of b outcome.Nothing none = none refl
 over_of b (outcome.Answer r) none = tt
 over_of b (outcome.Writes list present affected parcel) none = tt
+over_of b (outcome.Load keys parcel) none = tt
 over_of b (outcome.Commit parcel) none = tt
 over_of b (outcome.Left groups) none = tt
 over_of b outcome.Short none = tt
@@ -42,6 +43,7 @@ gives_none : (origin : Ground) (log : List Entry) (session : ℕ) (o : Outcome) 
 gives_none origin log session outcome.Nothing of = refl
 gives_none origin log session (outcome.Answer r) of = refl
 gives_none origin log session (outcome.Writes list present affected parcel) of = refl
+gives_none origin log session (outcome.Load keys parcel) of = refl
 gives_none origin log session (outcome.Commit parcel) of = refl
 gives_none origin log session (outcome.Left groups) of = absurd of
 gives_none origin log session outcome.Short of = short_none origin log session
@@ -96,6 +98,7 @@ module _ (origin : Ground) (before : List Entry) (session : ℕ) where
   left_by now log outcome.Nothing same x = tt
   left_by now log (outcome.Answer r) same x = tt
   left_by now log (outcome.Writes list present affected parcel) same x = tt
+  left_by now log (outcome.Load keys parcel) same x = tt
   left_by now log (outcome.Commit parcel) same x = tt
   left_by now log (outcome.Left groups) same x =
       let both = x.holds in subst (λ g. LeavesBy g log session (outcome.Left groups)) (sym same) (subst (λ es. LeavesBy origin es session (outcome.Left groups)) (sym x.is) both.1)
@@ -114,6 +117,7 @@ module _ (origin : Ground) (before : List Entry) (session : ℕ) where
   tells_by moves outcome.Nothing r x told = none_tells moves r x told
   tells_by moves (outcome.Answer given) r x told = none_tells moves r x told
   tells_by moves (outcome.Writes list present affected parcel) r x told = none_tells moves r x told
+  tells_by moves (outcome.Load keys parcel) r x told = none_tells moves r x told
   tells_by moves (outcome.Commit parcel) r x told = none_tells moves r x told
   tells_by moves (outcome.Left groups) r x told = subst (TellsOf origin before session moves) (sym told) x.0
   tells_by moves outcome.Short r x told = subst (TellsOf origin before session moves) (sym told) x

@@ -48,6 +48,7 @@ abbrev pub GivesBy : Ground → List Entry → ℕ → Outcome → List Entry �
 GivesBy origin before session outcome.Nothing moves = moves ≡ []
 GivesBy origin before session (outcome.Answer r) moves = moves ≡ []
 GivesBy origin before session (outcome.Writes list present affected parcel) moves = moves ≡ []
+GivesBy origin before session (outcome.Load keys parcel) moves = moves ≡ []
 GivesBy origin before session (outcome.Commit parcel) moves = moves ≡ []
 GivesBy origin before session (outcome.Left groups) moves = LeavesBoth origin before session groups moves
 GivesBy origin before session outcome.Short moves = StopsShort origin before session moves

@@ -32,6 +32,7 @@ pub desk_left : (origin : Ground) (log : List Entry) (session : ℕ) (o : Outcom
 desk_left origin log session outcome.Nothing of = tt
 desk_left origin log session (outcome.Answer r) of = tt
 desk_left origin log session (outcome.Writes list present affected parcel) of = tt
+desk_left origin log session (outcome.Load keys parcel) of = tt
 desk_left origin log session (outcome.Commit parcel) of = tt
 desk_left origin log session (outcome.Left groups) of = absurd of
 desk_left origin log session outcome.Short of = tt
@@ -41,6 +42,7 @@ pub some_over : (b : Bound) (o : Outcome) → (o ≡ outcome.Nothing → ⊥) �
 some_over b outcome.Nothing some = absurd (some refl)
 some_over b (outcome.Answer r) some = tt
 some_over b (outcome.Writes list present affected parcel) some = tt
+some_over b (outcome.Load keys parcel) some = tt
 some_over b (outcome.Commit parcel) some = tt
 some_over b (outcome.Left groups) some = tt
 some_over b outcome.Short some = tt

@@ -145,6 +145,7 @@ module _ (n : ℕ) (own : List (ℕ × List Event)) (seen found now : List Event
   left_on origin outcome.Nothing left = tt
   left_on origin (outcome.Answer r) left = tt
   left_on origin (outcome.Writes list present affected parcel) left = tt
+  left_on origin (outcome.Load keys parcel) left = tt
   left_on origin (outcome.Commit parcel) left = tt
   left_on origin (outcome.Left groups) left =
       subst (λ log. LeavesBy origin log n (outcome.Left groups)) (sym entries_now) (leaves_on origin (entries_in seen) n groups (entries_in rest) no_work_between no_turn_between left)

@@ -48,7 +48,7 @@ fn started_in(step: &Step, session: u32) -> Option<&[u8]>
 fn may_commit(outcome: &Outcome) -> bool {
     match outcome {
         Outcome::Writes { parcel, .. } => parcel.is_some(),
-        Outcome::Commit(_) => true,
+        Outcome::Load { .. } | Outcome::Commit(_) => true,
         Outcome::Nothing | Outcome::Answer(_) | Outcome::Left(_) | Outcome::Short => false,
     }
 }
