@@ -22,7 +22,7 @@ use Rattle.cs_model.specs.declared.plan.Query.{Query}
 use Rattle.cs_model.specs.Cells.{loose_in}
 use Rattle.cs_model.specs.Text.{IsPrintableRow}
 use Rattle.cs_model.specs.declared.answer_refusal.AnswerRefusal.{AnswerRefusal}
-use Rattle.cs_model.specs.Queries.{keeps, kept, row_order, group_order, before, values_from, group_row, rows_from, grouped_answer, plain_answer, answer, Gives}
+use Rattle.cs_model.specs.Queries.{keeps, kept, row_order, group_order, before, values_from, group_row, answer_rows, grouped_answer, plain_answer, answer, Gives}
 use Rattle.cs_model.specs.Groups.{cells_of, same_cells, each_once, Group, groups_of, place_of}
 use Rattle.cs_model.specs.Items.{is_null, present, lesser, greater, least_of, greatest_of, shown_if, of_sum, of_sum_in, sum_of, group_item, row_item}
 use Rattle.cs_model.specs.Order.{comes_before, put, in_order}
@@ -204,11 +204,11 @@ module _ (schema : Schema) where
   abbrev RowPrints : Result (List Loose) ℕ → Type 0
   RowPrints r = (values : List Loose) → r ≡ Ok values → All IsPrintable values
 
-  rows_print : (n : ℕ) (list : List (Result (List Loose) ℕ)) (rows : List (List Loose)) → All RowPrints list → rows_from n list ≡ Ok rows → All IsPrintableRow rows
+  rows_print : (n : ℕ) (list : List (Result (List Loose) ℕ)) (rows : List (List Loose)) → All RowPrints list → answer_rows n list ≡ Ok rows → All IsPrintableRow rows
   rows_print n [] rows all is = let same : [] ≡ rows = cc in subst (All IsPrintableRow) same (All-nil IsPrintableRow)
   rows_print n (Err e ∷ rest) rows all is = absurd (cc)
   rows_print n (Ok row ∷ rest) rows all is =
-      before_print IsPrintableRow (ℕ × ℕ) row (rows_from (n + 1) rest) rows (all 0 (Ok row) (omega arith) row refl) (λ more. rows_print (n + 1) rest more (λ k d lt. all (suc k) d (omega arith))) is
+      before_print IsPrintableRow (ℕ × ℕ) row (answer_rows (n + 1) rest) rows (all 0 (Ok row) (omega arith) row refl) (λ more. rows_print (n + 1) rest more (λ k d lt. all (suc k) d (omega arith))) is
 
   module _ (query : Query) where
     group_prints : (group : Group) → GroupPrints query.groups group → RowPrints (group_row schema query group)
