@@ -67,7 +67,7 @@ fn mask_of<V: Verdicts>(
     if let Some(set) = shown {
         let mut there = [false; 1024];
         set.put_mask(from, count, &mut there);
-        keep_where(&mut mask, &there, true);
+        keep_where(&mut mask[..count], &there[..count], true);
     }
     mask
 }

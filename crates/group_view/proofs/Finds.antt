@@ -19,7 +19,7 @@ use Rattle.group_view.specs.declared.view.GroupView.{GroupView}
 use Rattle.group_view.specs.declared.view.Place.{Place}
 use Rattle.group_view.specs.declared.parts.GroupPart.{GroupPart}
 use Rattle.group_view.specs.Parts.{Rowed, packed_versions, rowed_in, stored_version, stored_versions}
-use Rattle.group_view.specs.Views.{buffer_of, HidesAll, HidesEach, Shows, ShowsAt}
+use Rattle.group_view.specs.Views.{buffer_of, HidesAll, Shows, ShowsAt}
 use Rattle.group_view.proofs.Versions.{version_in, packed_key, packed_within}
 
 -- ---- one position
@@ -209,18 +209,16 @@ module _ (view : GroupView) (key : Key) (s : ℕ) where
   pub Shows-in : (group position : ℕ) (part : ℕ × GroupPart) → slice_get view.groups group ≡ Some part → ShowsAt (buffer_of view) key s (rowed_in part.1) position → Shows view key s record { group = group; position = position }
   Shows-in group position part here shown = rw here shown
 
-  -- a group more that hides it
-  pub hides_more : (group : ℕ) (part : ℕ × GroupPart) → slice_get view.groups group ≡ Some part → ((place : Place) → place.group < group → Shows view key s place → ⊥) → HidesAll (buffer_of view) key s (rowed_in part.1)
-      → (place : Place) → place.group < group + 1 → Shows view key s place → ⊥
-  hides_more group part here before hidden place below shown = elim (cases_lt place.group group) [
-    | inl lt ↦ before place lt shown
-    | inr ge ↦
-        let same : group ≡ place.group = omega (arith, below, ge) in
-        hidden place.position (rw (rw same at here) at shown)
-  ]
+  -- no place past the groups shows it
+  pub hides_past : (place : Place) → length view.groups ≤ place.group → Shows view key s place → ⊥
+  hides_past place past shown = let none = rw (slice_get_past view.groups place.group past) at shown in cc
 
-  pub hides_each : ((place : Place) → place.group < length view.groups → Shows view key s place → ⊥) → HidesEach view key s
-  hides_each before place shown = elim (cases_lt place.group (length view.groups)) [
-    | inl lt ↦ before place lt shown
-    | inr ge ↦ let past = rw (slice_get_past view.groups place.group ge) at shown in cc
+  -- a group more that hides it, before those that do
+  pub hides_more : (group : ℕ) (part : ℕ × GroupPart) → slice_get view.groups group ≡ Some part → ((place : Place) → group < place.group → Shows view key s place → ⊥) → HidesAll (buffer_of view) key s (rowed_in part.1)
+      → (place : Place) → group ≤ place.group → Shows view key s place → ⊥
+  hides_more group part here after hidden place above shown = elim (cases_lt group place.group) [
+    | inl lt ↦ after place lt shown
+    | inr ge ↦
+        let same : group ≡ place.group = omega (arith, above, ge) in
+        hidden place.position (rw (rw same at here) at shown)
   ]

@@ -122,14 +122,18 @@ impl GroupView {
         self.version(place).is_visible(&self.buffer, s)
     }
 
-    /// The place of a version of the key that the snapshot `s` sees. None exactly where it sees none.
+    /// The place of a version of the key that the snapshot `s` sees. None exactly where it sees none. The newest groups come first,
+    /// as most rows that are there stand in these where rows are changed often.
     pub fn lookup(&self, key: Key, s: u64) -> Option<Place>
         requires { All (λ group. IsFitting group.1) self.now.groups }
         ensures found { IfSome result (Shows self.now key s) }
         ensures none { IfNone result (HidesEach self.now key s) }
     {
-        for (group, part) in self.groups.as_slice().iter().enumerate() {
-            if let Some(position) = part.1.find(&self.buffer, key, s) {
+        let mut group = self.groups.len();
+        while group > 0 {
+            group -= 1;
+            let part = &self.groups.at(group).1;
+            if let Some(position) = part.find(&self.buffer, key, s) {
                 return Some(Place { group, position });
             }
         }
