@@ -88,7 +88,7 @@ fn share_part(alloc: Global, content: &mut GroupContent) -> Result<Option<GroupP
 }
 
 /// Adds a share of a group to the parts of a view, if the view shows the group.
-fn add_share(
+fn add_part(
     alloc: Global,
     group: &mut Group,
     parts: &mut Items<(u64, GroupPart)>,
@@ -104,6 +104,25 @@ fn add_share(
         parts.push((group.id, part))?;
     }
     Ok(())
+}
+
+/// The same, and at once where the group is no more than a place or what is left of one, as most become.
+fn add_share(
+    alloc: Global,
+    group: &mut Group,
+    parts: &mut Items<(u64, GroupPart)>,
+) -> Result<(), Memory>
+    requires { IsFittingContent group.old.content }
+    ensures seen { seen group.new ≡ seen group.old }
+    ensures kept { IsFittingContent group.new.content }
+    ensures parts { OnOk result (map part_entry parts.new ≡ map part_entry parts.old ++ map entry_of (filter shows (seen group.old ∷ []))) }
+    ensures packed { OnOk result (packed_parts parts.new ≡ packed_parts parts.old ++ packed_seen (filter shows (seen group.old ∷ []))) }
+    ensures fitting { All (λ part. IsFitting part.1) parts.old → All (λ part. IsFitting part.1) parts.new }
+{
+    match &group.content {
+        GroupContent::Invisible | GroupContent::Tombstone { .. } => Ok(()),
+        _ => add_part(alloc, group, parts),
+    }
 }
 
 /// Shares of all groups that a view shows, in order.

@@ -28,9 +28,7 @@ pub fn positions_read(
 {
     match pinned.view.group(group) {
         GroupRef::Store(store) => positions_in_store(alloc, pinned, store, bounds),
-        GroupRef::Packed(packed, marks) => {
-            positions_in_range(alloc, pinned, group, packed, marks, bounds)
-        }
+        GroupRef::Packed(packed, _) => positions_in_range(alloc, pinned, group, packed, bounds),
     }
 }
 

@@ -11,7 +11,6 @@ use crate::bounds::{ALL, Bounds};
 use batch_scan::key_seen;
 use cs_base::Memory;
 use cs_types::Key;
-use delete_bitmap::Marks;
 use group_view::{Pinned, Place};
 use row_group::{Packed, Places};
 use std::alloc::Global;
@@ -80,17 +79,7 @@ fn read_positions(
 const SCANNED: usize = 256;
 
 /// So few rows are found by their keys in any group: a scan by codes takes more time than that for its masks and tables alone.
-const FEW: usize = 8;
-
-/// So many positions are looked at one by one in a group with no more than `FEW` rows left: next to all of them have ended.
-const ENDED: usize = 64;
-
-/// How many positions of some keys are looked at one by one, at most.
-fn most_by_key(packed: &Packed, marks: &Marks) -> usize {
-    let left = (packed.len() as u64).saturating_sub(marks.count());
-    let few = if left <= FEW as u64 { ENDED } else { FEW };
-    (packed.len() / SCANNED).max(few)
-}
+const FEW: usize = 16;
 
 /// The positions of the versions that are read in a packed group of the view, of these keys alone, in no order. None where so many of
 /// its rows are of these keys that a scan of all takes less time.
@@ -99,7 +88,6 @@ pub fn positions_in_range(
     pinned: &Pinned,
     group: usize,
     packed: &Packed,
-    marks: &Marks,
     bounds: Bounds,
 ) -> Result<Option<Vec<usize>>, Memory>
     requires { HasKeysOf pinned.now group packed.now }
@@ -109,7 +97,7 @@ pub fn positions_in_range(
         return Ok(None);
     }
     let places = places_within(packed, bounds);
-    if places.to - places.from > most_by_key(packed, marks) {
+    if places.to - places.from > (packed.places().len() / SCANNED).max(FEW) {
         return Ok(None);
     }
     let positions = read_positions(alloc, pinned, group, packed, places)?;
