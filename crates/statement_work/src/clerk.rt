@@ -33,6 +33,7 @@ impl Clerk {
     /// The desk of the program, with so many workers for a scan, 1 to 16.
     pub fn new(workers: u32) -> Clerk
         requires { (1 ≤ workers) × (workers ≤ 16) }
+        ensures { result.workers ≡ workers }
     {
         Clerk { workers }
     }
