@@ -70,7 +70,7 @@ fn columns_over(
 /// The rows are those of `inserted` (Microsoft's page on INSERT: each value by its column's type, and NULL in a column that is not
 /// named).
 ///
-/// None says only that the rows are not made in this way: the plan has no series, or one of more than 2^20 numbers, or not each value
+/// None says only that the rows are not made in this way: the plan has no series, or one of more than 2^24 numbers, or not each value
 /// is a whole number of 64 bits, computed from such numbers, or NULL as it stands, and one that its column keeps. `Memory` where there
 /// is no room for the columns.
 pub fn series_columns(

@@ -12,8 +12,10 @@
 mod arithmetic;
 mod column;
 mod columns;
+mod each;
 mod numbers;
 mod value;
+mod values;
 
 pub use column::series_cell;
 pub use columns::{first_row, given, series_columns};

@@ -7,7 +7,7 @@ use cs_base::Memory;
 use std::alloc::Global;
 
 /// How many numbers a series may have whose rows are made by columns.
-const MOST: u128 = 1 << 20;
+const MOST: u128 = 1 << 24;
 
 /// How many numbers a series has: at most 2^64.
 pub fn series_len(start: i64, stop: i64) -> u128

@@ -1,5 +1,5 @@
 // What is read of one place, and done to it.
-ghost use Rattle.std.specs.Prelude.{◌≡◌, Some, IfSome, IfNone, IfOk, OnOk, OnErr};
+ghost use Rattle.std.specs.Prelude.{◌≡◌, ◌↔◌, [], Some, IsTrue, IfSome, IfNone, IfOk, OnOk, OnErr};
 ghost use Rattle.txn_table.specs.Txns.{deepened, fixed, widened, snapshot_of, depth_of, own_of, Owns, OwnsAs};
 
 use crate::txn::Txn;
@@ -65,6 +65,16 @@ fn number_where_owned(txn: &Txn, key: Key) -> Option<u64>
     match txn.own.find(key) {
         None => None,
         Some(_) => Some(txn.number),
+    }
+}
+
+/// Whether there is no transaction, or it has no own writes.
+pub fn writes_nothing(txn: &Option<Txn>) -> bool
+    ensures { IsTrue result ↔ (own_of txn.now ≡ []) }
+{
+    match txn {
+        None => true,
+        Some(txn) => txn.own.is_empty(),
     }
 }
 

@@ -1,9 +1,9 @@
 // The transactions by session.
-ghost use Rattle.std.specs.Prelude.{◌≡◌, ◌≢◌, ℕ, ◌<◌, ◌≤◌, IfSome, IfNone};
-ghost use Rattle.txn_table.specs.Txns.{txn_at, Owns, IsHolder, snapshots_in, lesser_of};
+ghost use Rattle.std.specs.Prelude.{◌≡◌, ◌≢◌, ℕ, ◌<◌, ◌≤◌, [], true, false, IfSome, IfNone};
+ghost use Rattle.txn_table.specs.Txns.{txn_at, own_of, Owns, IsHolder, snapshots_in, lesser_of};
 ghost use Rattle.cs_model.specs.Floors.{IsFloor};
 
-use crate::changes::{number_of_owner, snapshot_of_txn};
+use crate::changes::{number_of_owner, snapshot_of_txn, writes_nothing};
 use crate::txn::Txn;
 use cs_types::Key;
 
@@ -22,6 +22,22 @@ pub fn holder_in(places: &[Option<Txn>], key: Key, but: u32) -> Option<u64>
         }
     }
     None
+}
+
+/// Whether another session's transaction has own writes.
+pub fn others_write_in(places: &[Option<Txn>], but: u32) -> bool
+    ensures some { result ≡ true → (other : ℕ) × (other ≢ but) × (own_of (txn_at places.now other) ≢ []) }
+    ensures none { result ≡ false → (other : ℕ) → other ≢ but → own_of (txn_at places.now other) ≡ [] }
+{
+    for (session, place) in places.iter().enumerate() {
+        if session == but as usize {
+            continue;
+        }
+        if !writes_nothing(place) {
+            return true;
+        }
+    }
+    false
 }
 
 fn lesser(least: Option<u64>, other: Option<u64>) -> Option<u64>

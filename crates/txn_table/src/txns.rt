@@ -1,5 +1,5 @@
 use crate::changes::{deepen_txn, depth_of_txn, fix_txn, share_own, snapshot_of_txn, stage_txn};
-use crate::places::{floor_in, holder_in};
+use crate::places::{floor_in, holder_in, others_write_in};
 use crate::txn::Txn;
 use cs_base::Memory;
 use cs_types::Key;
@@ -26,7 +26,7 @@ impl Model for Txns {
 }
 
 impl Txns {
-    ghost use Rattle.std.specs.Prelude.{◌≡◌, ◌≢◌, ℕ, ◌+◌, ◌-◌, ◌^◌, ◌<◌, None, Some, IsSome, IfSome, IfNone, IfOk, OnOk, OnErr};
+    ghost use Rattle.std.specs.Prelude.{◌≡◌, ◌≢◌, ℕ, ◌+◌, ◌-◌, ◌^◌, ◌<◌, [], true, false, None, Some, IsSome, IfSome, IfNone, IfOk, OnOk, OnErr};
     ghost use Rattle.txn_table.specs.Txns.{IsSession, txn_of, with, opened, deepened, fixed, widened, snapshot_of, depth_of, own_of, Owns, IsHolder, snapshots_in};
     ghost use Rattle.cs_model.specs.Floors.{IsFloor};
 
@@ -143,6 +143,14 @@ impl Txns {
         ensures none { IfNone result ((other : ℕ) → other ≢ but → ¬ Owns (txn_of self.now other) key) }
     {
         holder_in(&self.places, key, but)
+    }
+
+    /// Whether an open transaction of a session other than `but` has own writes.
+    pub fn others_write(&self, but: u32) -> bool
+        ensures some { result ≡ true → (other : ℕ) × (other ≢ but) × (own_of (txn_of self.now other) ≢ []) }
+        ensures none { result ≡ false → (other : ℕ) → other ≢ but → own_of (txn_of self.now other) ≡ [] }
+    {
+        others_write_in(&self.places, but)
     }
 
     /// The least snapshot of the open transactions, or the clock where none has one.

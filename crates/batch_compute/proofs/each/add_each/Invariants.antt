@@ -1,0 +1,11 @@
+use Rattle.std.proofs.Common.{◌≡◌, ℕ, ◌<◌, ◌≤◌, Ok}
+use Rattle.cs_types.specs.declared.Loose.TheVariants.{Number}
+use Rattle.cs_model.specs.Expressions.{sum}
+use Rattle.batch_compute.specs.Values.{at}
+use Rattle.batch_compute.proofs.each.add_each.Given as goal
+
+abbrev pub invariant-loop-i : goal.invariant-loop-i
+invariant-loop-i l = record {
+  done : (k : ℕ) → k < l.i → sum l.minus (at l.fn.totals k) (at l.numbers k) ≡ Ok (Number (at l.totals k) 0);
+  left : (k : ℕ) → l.i ≤ k → at l.totals k ≡ at l.fn.totals k;
+}
