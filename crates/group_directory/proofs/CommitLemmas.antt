@@ -17,7 +17,7 @@ use Rattle.group_view.specs.declared.groups.GroupList.{GroupList}
 use Rattle.group_view.specs.Books.{group_of, claim_of, book_of}
 use Rattle.group_view.specs.Views.{endings_of}
 use Rattle.group_view.specs.Lists.{IsOpenAt, IsFittingContent, IsHeld}
-use Rattle.group_directory.specs.Committing.{Load, loaded, IsUnmarked, IsRoomy, HasRoom, places}
+use Rattle.group_directory.specs.Committing.{NewGroup, new_groups, IsUnmarked, IsRoomy, HasRoom, places}
 use Rattle.group_directory.proofs.OpenLemmas.{IsShut, split, opens, opens_in, is_opened-open, opened-shut, places-shut, roomy-shut}
 use Rattle.group_directory.proofs.EndLemmas.{live_kept}
 use Rattle.group_directory.proofs.LoadLemmas.{shut_loaded, fitting_loaded, grown}
@@ -57,10 +57,10 @@ opened_more groups more (Some at) some_open shut_more =
 abbrev Fits : Group → Type 0
 Fits group = IsFittingContent group.content
 
-pub held_loaded : (old new : GroupList) (loads : List Load) → IsHeld old → All IsUnmarked loads → new.groups.items ≡ old.groups.items ++ loaded old.next loads → new.opened ≡ old.opened → new.claims ≡ old.claims → IsHeld new
+pub held_loaded : (old new : GroupList) (loads : List NewGroup) → IsHeld old → All IsUnmarked loads → new.groups.items ≡ old.groups.items ++ new_groups old.next loads → new.opened ≡ old.opened → new.claims ≡ old.claims → IsHeld new
 held_loaded old new loads held unmarked items opened claims = record {
-  fitting = subst (λ (gs : List Group). All Fits gs) (sym items) (All-from_recursion Fits (old.groups.items ++ loaded old.next loads) (all-append Fits old.groups.items (loaded old.next loads) (recursion_from_All Fits old.groups.items held.fitting) (fitting_loaded old.next loads (recursion_from_All IsUnmarked loads unmarked))));
-  opened = subst (λ (gs : List Group). IsOpenAt gs new.opened) (sym items) (subst (λ (at : Option ℕ). IsOpenAt (old.groups.items ++ loaded old.next loads) at) (sym opened) (opened_more old.groups.items (loaded old.next loads) old.opened held.opened (shut_loaded old.next loads)));
+  fitting = subst (λ (gs : List Group). All Fits gs) (sym items) (All-from_recursion Fits (old.groups.items ++ new_groups old.next loads) (all-append Fits old.groups.items (new_groups old.next loads) (recursion_from_All Fits old.groups.items held.fitting) (fitting_loaded old.next loads (recursion_from_All IsUnmarked loads unmarked))));
+  opened = subst (λ (gs : List Group). IsOpenAt gs new.opened) (sym items) (subst (λ (at : Option ℕ). IsOpenAt (old.groups.items ++ new_groups old.next loads) at) (sym opened) (opened_more old.groups.items (new_groups old.next loads) old.opened held.opened (shut_loaded old.next loads)));
   lent = rw claims held.lent;
 }
 
@@ -71,11 +71,11 @@ roomy_shut : (group_rows rows : ℕ) (groups : List Group) → AllByRecursion Is
 roomy_shut group_rows rows [] shut = tt
 roomy_shut group_rows rows (group ∷ groups) shut = (roomy-shut group_rows rows group.content shut.0, roomy_shut group_rows rows groups shut.1)
 
-pub room_loaded : (group_rows rows count : ℕ) (old new : GroupList) (pool : List Store) (loads : List Load) → new.groups.items ≡ old.groups.items ++ loaded old.next loads
+pub room_loaded : (group_rows rows count : ℕ) (old new : GroupList) (pool : List Store) (loads : List NewGroup) → new.groups.items ≡ old.groups.items ++ new_groups old.next loads
     → vec_len new.groups ≡ vec_len old.groups + count → vec_capacity new.groups ≡ vec_capacity old.groups → new.next ≡ old.next + count
     → HasRoom group_rows rows count old pool → HasRoom group_rows rows 0 new pool
 room_loaded group_rows rows count old new pool loads items len capacity next room =
-    let more = loaded old.next loads in
+    let more = new_groups old.next loads in
     let shut = shut_loaded old.next loads in
     let same : places group_rows (map group_of new.groups.items) ≡ places group_rows (map group_of old.groups.items) =
     ap (λ (gs : List Group). places group_rows (map group_of gs)) items
@@ -91,12 +91,12 @@ room_loaded group_rows rows count old new pool loads items len capacity next roo
     }
 
 -- the book of the list with the loads
-pub book_grown : (old new : GroupList) (loads : List Load) (count : ℕ) → new.groups.items ≡ old.groups.items ++ loaded old.next loads → new.next ≡ old.next + count → new.buffer.entries ≡ old.buffer.entries → new.claims.items ≡ old.claims.items
-    → book_of new ≡ grown (book_of old) (map group_of old.groups.items ++ map group_of (loaded old.next loads)) (old.next + count)
+pub book_grown : (old new : GroupList) (loads : List NewGroup) (count : ℕ) → new.groups.items ≡ old.groups.items ++ new_groups old.next loads → new.next ≡ old.next + count → new.buffer.entries ≡ old.buffer.entries → new.claims.items ≡ old.claims.items
+    → book_of new ≡ grown (book_of old) (map group_of old.groups.items ++ map group_of (new_groups old.next loads)) (old.next + count)
 book_grown old new loads count items next buffer claims = λ i. record { groups = groups i; buffer = endings_of (buffer i); claims = map claim_of (claims i); next = next i }
   where
-    groups : map group_of new.groups.items ≡ map group_of old.groups.items ++ map group_of (loaded old.next loads)
-    groups = ap (map group_of) items ∙ map-append group_of old.groups.items (loaded old.next loads)
+    groups : map group_of new.groups.items ≡ map group_of old.groups.items ++ map group_of (new_groups old.next loads)
+    groups = ap (map group_of) items ∙ map-append group_of old.groups.items (new_groups old.next loads)
 
 -- ---- keys without a live version in the open store
 
@@ -104,11 +104,11 @@ opened-append : (xs ys : List book.Group) → opened (xs ++ ys) ≡ opened xs ++
 opened-append [] ys = refl
 opened-append (x ∷ xs) ys = ap (λ (more : List Version). opened_in x.content ++ more) (opened-append xs ys) ∙ sym (append_assoc (opened_in x.content) (opened xs) (opened ys))
 
-pub opened_loaded : (groups : List Group) (id : ℕ) (loads : List Load) → opened (map group_of (groups ++ loaded id loads)) ≡ opened (map group_of groups)
+pub opened_loaded : (groups : List Group) (id : ℕ) (loads : List NewGroup) → opened (map group_of (groups ++ new_groups id loads)) ≡ opened (map group_of groups)
 opened_loaded groups id loads =
-    ap opened (map-append group_of groups (loaded id loads))
-    ∙ opened-append (map group_of groups) (map group_of (loaded id loads))
-    ∙ ap (λ (more : List Version). opened (map group_of groups) ++ more) (opened-shut (loaded id loads) (shut_loaded id loads))
+    ap opened (map-append group_of groups (new_groups id loads))
+    ∙ opened-append (map group_of groups) (map group_of (new_groups id loads))
+    ∙ ap (λ (more : List Version). opened (map group_of groups) ++ more) (opened-shut (new_groups id loads) (shut_loaded id loads))
     ∙ append-nil (opened (map group_of groups))
 
 opened_in-ended : (g : Version → Version) (one : Content) → opened_in (with_opened (map g) one) ≡ map g (opened_in one)
@@ -146,8 +146,8 @@ dead_ended replaced c key vs among = step (is_one_of replaced key) refl (has_liv
     step false t_is false l_is = live_kept replaced key c vs t_is ∙ l_is
     step false t_is true l_is = absurd (apart (sym (among l_is) ∙ t_is))
 
-pub dead_commit : (replaced : List Key) (c : ℕ) (key : Key) (old ends : GroupList) (loads : List Load) → book_of ends ≡ after_ends replaced c (book_of old) → (has_live key (opened (map group_of old.groups.items)) ≡ true → is_one_of replaced key ≡ true)
-    → has_live key (opened (map group_of (ends.groups.items ++ loaded ends.next loads))) ≡ false
+pub dead_commit : (replaced : List Key) (c : ℕ) (key : Key) (old ends : GroupList) (loads : List NewGroup) → book_of ends ≡ after_ends replaced c (book_of old) → (has_live key (opened (map group_of old.groups.items)) ≡ true → is_one_of replaced key ≡ true)
+    → has_live key (opened (map group_of (ends.groups.items ++ new_groups ends.next loads))) ≡ false
 dead_commit replaced c key old ends loads is among =
     ap (has_live key) (opened_loaded ends.groups.items ends.next loads
     ∙ ap (λ (whole : Book). opened whole.groups) is

@@ -22,7 +22,7 @@ use Rattle.group_view.specs.Parts.{Rowed}
 use Rattle.group_view.specs.Views.{endings_of}
 use Rattle.group_view.specs.Books.{book_of, claim_of, content_of, group_of, rowed_in_content, versions_of}
 use Rattle.group_view.specs.Lists.{is_listed, listed, IsHeld, IsOpenAt}
-use Rattle.group_directory.specs.Committing.{Load}
+use Rattle.group_directory.specs.Committing.{NewGroup}
 use Rattle.group_directory.specs.Installing.{held_by, ids_of, new_rows, new_versions, IsFilled, buried, placed, with_new, HasPlace, IsOldOrNew}
 use Rattle.group_directory.proofs.Books.{book_is, all-mapped}
 use Rattle.group_directory.proofs.Held.{Fits, Lends}
@@ -91,7 +91,7 @@ module _ (ids : List ℕ) (fresh : Option ℕ) where
   abbrev entombed : Group → Group
   entombed g = record g { content = Tombstone (total (content_of g.content)) (deleted (content_of g.content)) }
 
-  group_placed : (load : Load) (g : Group) → (is_fresh fresh (group_of g) ≡ true → is_id_of ids (group_of g) ≡ false)
+  group_placed : (load : NewGroup) (g : Group) → (is_fresh fresh (group_of g) ≡ true → is_id_of ids (group_of g) ≡ false)
       → group_of (placed fresh load (buried ids g)) ≡ replaced_group ids fresh (new_versions (Some load)) (group_of g)
   group_placed load g apart = step (is_id_of ids (group_of g)) refl (is_fresh fresh (group_of g)) refl
     where
@@ -102,7 +102,7 @@ module _ (ids : List ℕ) (fresh : Option ℕ) where
       step false source true new = rw (source, new) refl
       step false source false new = rw (source, new) refl
 
-  pub groups_placed : (load : Load) (gs : List Group) → AllByRecursion (λ g. is_fresh fresh (group_of g) ≡ true → is_id_of ids (group_of g) ≡ false) gs
+  pub groups_placed : (load : NewGroup) (gs : List Group) → AllByRecursion (λ g. is_fresh fresh (group_of g) ≡ true → is_id_of ids (group_of g) ≡ false) gs
       → map group_of (map (placed fresh load) (map (buried ids) gs)) ≡ map (replaced_group ids fresh (new_versions (Some load))) (map group_of gs)
   groups_placed load [] apart = refl
   groups_placed load (g ∷ gs) apart = (let first = group_placed load g apart.0 in let rest = groups_placed load gs apart.1 in λ i. first i ∷ rest i)
@@ -140,7 +140,7 @@ module _ (ids : List ℕ) (fresh : Option ℕ) where
       step true is = cc
       step false is = is
 
-  open_placed : (load : Load) (g : Group) → opens (placed fresh load g) ≡ true → opens g ≡ true
+  open_placed : (load : NewGroup) (g : Group) → opens (placed fresh load g) ≡ true → opens g ≡ true
   open_placed load g = step (is_fresh fresh (group_of g))
     where
       step : (f : Bool) → opens (cond f (record g { content = Compressed load.0 load.1 }) g) ≡ true → opens g ≡ true
@@ -154,7 +154,7 @@ module _ (ids : List ℕ) (fresh : Option ℕ) where
       step true = tt
       step false = fits
 
-  fits_placed : (load : Load) → IsFilled (Some load) → (g : Group) → Fits g → Fits (placed fresh load g)
+  fits_placed : (load : NewGroup) → IsFilled (Some load) → (g : Group) → Fits g → Fits (placed fresh load g)
   fits_placed load filled g fits = step (is_fresh fresh (group_of g))
     where
       step : (f : Bool) → Fits (cond f (record g { content = Compressed load.0 load.1 }) g)
@@ -172,7 +172,7 @@ fewer_open f back (g ∷ gs) = step (opens (f g)) (opens g) (back g) (fewer_open
     step false false h rest = omega (arith, rest)
 
 -- the groups of a list after an install
-abbrev pub grown : List ℕ → Option ℕ → Option Load → List Group → List Group
+abbrev pub grown : List ℕ → Option ℕ → Option NewGroup → List Group → List Group
 grown ids fresh load gs = with_new fresh load (map (buried ids) gs)
 
 module _ (ids : List ℕ) (fresh : Option ℕ) (gs : List Group) where
@@ -182,11 +182,11 @@ module _ (ids : List ℕ) (fresh : Option ℕ) (gs : List Group) where
   few_graves : (opened : Option ℕ) → IsOpenAt gs opened → how_many opens graves ≤ 1
   few_graves opened is = let one = one_open gs opened is in let less = fewer_open (buried ids) (open_buried ids fresh) gs in omega (arith, one, less)
 
-  pub grown_open : (opened : Option ℕ) → IsOpenAt gs opened → (load : Option Load) → IsOpenAt (grown ids fresh load gs) (position opens (grown ids fresh load gs))
+  pub grown_open : (opened : Option ℕ) → IsOpenAt gs opened → (load : Option NewGroup) → IsOpenAt (grown ids fresh load gs) (position opens (grown ids fresh load gs))
   grown_open opened is None = open_here (grown ids fresh None gs) (position opens (grown ids fresh None gs)) refl (let few = few_graves opened is in let less = count_filter opens (λ g. not (is_fresh fresh (group_of g))) graves in omega (arith, few, less))
   grown_open opened is (Some load) = open_here (grown ids fresh (Some load) gs) (position opens (grown ids fresh (Some load) gs)) refl (let few = few_graves opened is in let less = fewer_open (placed fresh load) (open_placed ids fresh load) graves in omega (arith, few, less))
 
-  pub grown_fits : (load : Option Load) → IsFilled load → All Fits gs → All Fits (grown ids fresh load gs)
+  pub grown_fits : (load : Option NewGroup) → IsFilled load → All Fits gs → All Fits (grown ids fresh load gs)
   grown_fits None filled fits = All-filter (λ g. not (is_fresh fresh (group_of g))) Fits graves (All-map Fits (buried ids) gs (All-weaker Fits (λ g. Fits (buried ids g)) (fits_buried ids fresh) gs fits))
   grown_fits (Some load) filled fits =
       All-map Fits (placed fresh load) graves (All-weaker Fits (λ g. Fits (placed fresh load g)) (fits_placed ids fresh load filled) graves (All-map Fits (buried ids) gs (All-weaker Fits (λ g. Fits (buried ids g)) (fits_buried ids fresh) gs fits)))
@@ -195,7 +195,7 @@ module _ (ids : List ℕ) (fresh : Option ℕ) (gs : List Group) where
   some_left [] some = absurd (omega (arith, some))
   some_left (row ∷ rows) some = refl
 
-  pub grown_groups : (load : Option Load) → IsFilled load → AllByRecursion (λ g. is_fresh fresh (group_of g) ≡ true → is_id_of ids (group_of g) ≡ false) gs
+  pub grown_groups : (load : Option NewGroup) → IsFilled load → AllByRecursion (λ g. is_fresh fresh (group_of g) ≡ true → is_id_of ids (group_of g) ≡ false) gs
       → map group_of (grown ids fresh load gs) ≡ map (replaced_group ids fresh (new_versions load)) (cond (is_none_left (new_versions load)) (without_fresh fresh (map group_of gs)) (map group_of gs))
   grown_groups None filled apart = groups_gone ids fresh gs
   grown_groups (Some load) filled apart = groups_placed ids fresh load gs apart ∙ ap (λ t. map (replaced_group ids fresh (new_versions (Some load))) (cond t (without_fresh fresh (map group_of gs)) (map group_of gs))) (sym (some_left (new_rows (Some load)) filled.0))
@@ -231,7 +231,7 @@ module _ (old : List (ℕ × List Rowed)) where
       step true false is rest = rw is rest
       step false s is rest = rest
 
-  placed_shown : (fresh : Option ℕ) (load : Load) (gs : List Group) → AllByRecursion Shown gs → AllByRecursion (IsOldOrNew old fresh (Some load)) (listed (map (placed fresh load) gs))
+  placed_shown : (fresh : Option ℕ) (load : NewGroup) (gs : List Group) → AllByRecursion Shown gs → AllByRecursion (IsOldOrNew old fresh (Some load)) (listed (map (placed fresh load) gs))
   placed_shown fresh load [] all = tt
   placed_shown fresh load (g ∷ gs) all = step (is_fresh fresh (group_of g)) refl (is_listed g.content) refl (placed_shown fresh load gs all.1)
     where
@@ -241,19 +241,19 @@ module _ (old : List (ℕ × List Rowed)) where
       step false new true is rest = rw is (inl (all.0 is), rest)
       step false new false is rest = rw is rest
 
-pub grown_listed : (ids : List ℕ) (fresh : Option ℕ) (load : Option Load) (gs : List Group) → All (IsOldOrNew (listed gs) fresh load) (listed (grown ids fresh load gs))
+pub grown_listed : (ids : List ℕ) (fresh : Option ℕ) (load : Option NewGroup) (gs : List Group) → All (IsOldOrNew (listed gs) fresh load) (listed (grown ids fresh load gs))
 grown_listed ids fresh load gs = step load
   where
     all : AllByRecursion (Shown (listed gs)) (map (buried ids) gs)
     all = shown_graves (listed gs) ids gs (shown_all (listed gs) gs (recursion_from_All (Contains (listed gs)) (listed gs) (All-contains_itself (listed gs))))
 
-    step : (load : Option Load) → All (IsOldOrNew (listed gs) fresh load) (listed (grown ids fresh load gs))
+    step : (load : Option NewGroup) → All (IsOldOrNew (listed gs) fresh load) (listed (grown ids fresh load gs))
     step None = All-from_recursion _ _ (kept_shown (listed gs) fresh (λ g. not (is_fresh fresh (group_of g))) (map (buried ids) gs) all)
     step (Some load) = All-from_recursion _ _ (placed_shown (listed gs) fresh load (map (buried ids) gs) all)
 
 -- ---- the list
 
-module _ (old new : GroupList) (actor : Actor) (held : Actor × Claim) (load : Option Load) (is : held_by actor old.claims.items ≡ Some held)
+module _ (old new : GroupList) (actor : Actor) (held : Actor × Claim) (load : Option NewGroup) (is : held_by actor old.claims.items ≡ Some held)
     (groups : new.groups.items ≡ grown (ids_of held.1.view.groups) held.1.fresh load old.groups.items) (claims : new.claims.items ≡ filter (λ (other : Actor × Claim). not (same_actor other.0 actor)) old.claims.items) (filled : IsFilled load) where
   pub installed_held : new.opened ≡ position opens new.groups.items → IsHeld old → IsHeld new
   installed_held opened h = record {

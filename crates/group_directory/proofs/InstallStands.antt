@@ -35,7 +35,7 @@ use Rattle.group_view.specs.Laws.{IsRowOf}
 use Rattle.group_view.specs.Claims.{padded_rowed, lent_entries, kept_rowed, rowed_of_packed, IsMadeOf, IsProductOf}
 use Rattle.group_directory.specs.declared.directory.Directory.{Directory}
 use Rattle.group_directory.specs.Rows.{rooted_in}
-use Rattle.group_directory.specs.Committing.{Load}
+use Rattle.group_directory.specs.Committing.{NewGroup}
 use Rattle.group_directory.specs.Lent.{GroupsStay}
 use Rattle.group_directory.specs.Stands.{width_in, listed_rows, IsLoanOf, Stands}
 use Rattle.group_directory.specs.Laws.{width_of, MayBeList}
@@ -71,13 +71,13 @@ padded_versions width (r ∷ rows) = ap (λ l. r.version ∷ l) (padded_versions
 made_is : (held : Actor × Claim) → made_of (claim_of held) ≡ versions_of (kept_rowed held.1)
 made_is held = sym (kept_versions held.1.floor (lent_entries held.1) (rowed_of held.1.view))
 
-pub made_versions : (held : Actor × Claim) (load : Option Load) → IsMadeOf held.1 load → IsPermutation (made_of (claim_of held)) (new_versions load)
+pub made_versions : (held : Actor × Claim) (load : Option NewGroup) → IsMadeOf held.1 load → IsPermutation (made_of (claim_of held)) (new_versions load)
 made_versions held None none = subst (λ l. IsPermutation l []) (sym (made_is held ∙ ap versions_of none)) (IsPermutation-refl [])
 made_versions held (Some load) is =
     subst (λ l. IsPermutation l (new_versions (Some load))) (padded_versions (width_of held.1) (kept_rowed held.1) ∙ sym (made_is held))
     (IsPermutation-map (λ (rowed : Rowed). rowed.version) (map (padded_rowed (width_of held.1)) (kept_rowed held.1)) (rowed_of_packed load.0.value load.1.value) is.0)
 
-pub made_filled : (claim : Claim) (load : Option Load) → IsMadeOf claim load → IsFilled load
+pub made_filled : (claim : Claim) (load : Option NewGroup) → IsMadeOf claim load → IsFilled load
 made_filled claim None none = tt
 made_filled claim (Some load) is =
     (omega (arith, is.1, length_permutation (map (padded_rowed (width_of claim)) (kept_rowed claim)) (rowed_of_packed load.0.value load.1.value) is.0, length-map (kept_rowed claim) (padded_rowed (width_of claim))), is.2.fitting)
@@ -146,15 +146,15 @@ module _ (d : Directory) (cs : List Change) (j : Stands d cs) (actor : Actor) (h
   -- ---- an install
 
   -- the new group is a packed one of the table
-  pub made_packed : (load : Option Load) → IsMadeOf held.1 load → IfSome load (λ group. IsPackedGroup d.schema.value group.0.value)
+  pub made_packed : (load : Option NewGroup) → IsMadeOf held.1 load → IfSome load (λ group. IsPackedGroup d.schema.value group.0.value)
   made_packed None none = tt
   made_packed (Some load) made = subst (λ (schema : Schema). IsPackedGroup schema load.0.value) loan.of_table (let for_claim = made.2 in for_claim.packed)
 
-  made_listed : (load : Option Load) → IsMadeOf held.1 load → All (IsRowOf (width_in d) cs) (new_rows load)
+  made_listed : (load : Option NewGroup) → IsMadeOf held.1 load → All (IsRowOf (width_in d) cs) (new_rows load)
   made_listed None none = All-nil (IsRowOf (width_in d) cs)
   made_listed (Some load) made = made_rows d cs j held load there made
 
-  pub stands_installed : (list : GroupList) (load : Option Load) → makes_group (choice_of held.1.choice) ≡ true → IsMadeOf held.1 load → IsHeld list
+  pub stands_installed : (list : GroupList) (load : Option NewGroup) → makes_group (choice_of held.1.choice) ≡ true → IsMadeOf held.1 load → IsHeld list
       → All (IsOldOrNew (listed d.list.groups.items) held.1.fresh load) (listed list.groups.items) → ArePacked d.schema.value (packed_in list.groups.items) → list.claims.items ≡ others
       → book_of list ≡ installed_with (new_versions load) (claim_of held) (book_of d.list) → Stands (record d { list = list }) cs
   stands_installed list load makes made keeps rows packed claims same =
@@ -220,7 +220,7 @@ module _ (d : Directory) (actor : Actor) (product : Product) (given : IfSome (he
   product_is held is = of_held (λ (h : Actor × Claim). IsProductOf h.1 product) (held_by actor d.list.claims.items) held is given
 
   -- of compress, rebuild and merge
-  module _ (load : Option Load) (spent : List (Key × ℕ)) (same : product ≡ Group load spent) where
+  module _ (load : Option NewGroup) (spent : List (Key × ℕ)) (same : product ≡ Group load spent) where
     group_is : (held : Actor × Claim) → held_by actor d.list.claims.items ≡ Some held → IsProductOf held.1 (Group load spent)
     group_is held is = subst (IsProductOf held.1) same (product_is held is)
 

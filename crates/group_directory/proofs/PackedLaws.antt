@@ -34,7 +34,7 @@ use Rattle.group_view.specs.Lists.{is_open, is_listed, packed_content, packed_of
 use Rattle.group_view.specs.Parcels.{HasOneBegin}
 use Rattle.group_directory.specs.Claiming.{PartValue, valued}
 use Rattle.group_directory.specs.Claiming.PartValue.{PackedValue, StoreValue}
-use Rattle.group_directory.specs.Committing.{Load, loaded, rebased, packed_groups, IsLoadOf}
+use Rattle.group_directory.specs.Committing.{NewGroup, new_groups, rebased, packed_groups, IsNewGroupOf}
 use Rattle.group_directory.specs.Installing as install
 use Rattle.group_directory.specs.Rows.{Seen, seen, is_shown, shows, entry_of, packed_seen, part_entry}
 use Rattle.group_directory.specs.Settling as settle
@@ -131,7 +131,7 @@ module _ (P : ℕ × packed.Packed → Type 0) where
       step true = tt
       step false = all
 
-  placed_one : (fresh : Option ℕ) (load : Load) → ((id : ℕ) → P (id, load.0.value)) → (g : Group) → AllByRecursion P (packed_of g) → AllByRecursion P (packed_of (install.placed fresh load g))
+  placed_one : (fresh : Option ℕ) (load : NewGroup) → ((id : ℕ) → P (id, load.0.value)) → (g : Group) → AllByRecursion P (packed_of g) → AllByRecursion P (packed_of (install.placed fresh load g))
   placed_one fresh load new g all = step (is_fresh fresh (group_of g))
     where
       step : (t : Bool) → AllByRecursion P (packed_of (cond t (record g { content = Compressed load.0 load.1 }) g))
@@ -139,7 +139,7 @@ module _ (P : ℕ × packed.Packed → Type 0) where
       step false = all
 
   -- an install leaves groups of before, and puts the new one in its place
-  pub packed_installed : (ids : List ℕ) (fresh : Option ℕ) (load : Option Load) (gs : List Group) → IfSome load (λ new. (id : ℕ) → P (id, new.0.value)) → All P (packed_in gs)
+  pub packed_installed : (ids : List ℕ) (fresh : Option ℕ) (load : Option NewGroup) (gs : List Group) → IfSome load (λ new. (id : ℕ) → P (id, new.0.value)) → All P (packed_in gs)
       → All P (packed_in (install.with_new fresh load (map (install.buried ids) gs)))
   packed_installed ids fresh None gs new all =
       All-from_recursion P (packed_in (filter (λ (group : Group). not (is_fresh fresh (group_of group))) (map (install.buried ids) gs)))
@@ -148,13 +148,13 @@ module _ (P : ℕ × packed.Packed → Type 0) where
       All-from_recursion P (packed_in (map (install.placed fresh load) (map (install.buried ids) gs)))
       (each_made (install.placed fresh load) (map (install.buried ids) gs) (placed_one fresh load new) (each_made (install.buried ids) gs (buried_one ids) (recursion_from_All P (packed_in gs) all)))
 
-pub tables_installed : (schema : Schema) (ids : List ℕ) (fresh : Option ℕ) (load : Option Load) (old new : List Group) → new ≡ install.with_new fresh load (map (install.buried ids) old) → ArePacked schema (packed_in old)
+pub tables_installed : (schema : Schema) (ids : List ℕ) (fresh : Option ℕ) (load : Option NewGroup) (old new : List Group) → new ≡ install.with_new fresh load (map (install.buried ids) old) → ArePacked schema (packed_in old)
     → IfSome load (λ made. IsPackedGroup schema made.0.value) → ArePacked schema (packed_in new)
 tables_installed schema ids fresh load old new is all made =
     subst (λ (gs : List Group). ArePacked schema (packed_in gs)) (sym is)
     (packed_installed (λ (entry : ℕ × packed.Packed). IsPackedGroup schema entry.1) ids fresh load old (each load made) all)
   where
-    each : (o : Option Load) → IfSome o (λ made. IsPackedGroup schema made.0.value) → IfSome o (λ new. (id : ℕ) → IsPackedGroup schema new.0.value)
+    each : (o : Option NewGroup) → IfSome o (λ made. IsPackedGroup schema made.0.value) → IfSome o (λ new. (id : ℕ) → IsPackedGroup schema new.0.value)
     each None is = tt
     each (Some one) is = λ id. is
 
@@ -207,22 +207,22 @@ packed_shared parts others same = sym (values_packed others) ∙ ap (flat_map va
 
 -- ---- direct groups
 
-packed_loaded : (c id : ℕ) (groups : List packed.Packed) (loads : List Load) → AllZip (IsLoadOf c) groups loads → packed_groups (loaded id loads) ≡ map (rebased c) groups
+packed_loaded : (c id : ℕ) (groups : List packed.Packed) (loads : List NewGroup) → AllZip (IsNewGroupOf c) groups loads → packed_groups (new_groups id loads) ≡ map (rebased c) groups
 packed_loaded c id [] [] all = refl
 packed_loaded c id [] (load ∷ loads) all = absurd all
 packed_loaded c id (group ∷ groups) [] all = absurd all
 packed_loaded c id (group ∷ groups) (load ∷ loads) all =
-    ap (λ (first : packed.Packed). first ∷ packed_groups (loaded (id + 1) loads)) all.0.0 ∙ ap (λ (rest : List packed.Packed). rebased c group ∷ rest) (packed_loaded c (id + 1) groups loads all.1)
+    ap (λ (first : packed.Packed). first ∷ packed_groups (new_groups (id + 1) loads)) all.0.0 ∙ ap (λ (rest : List packed.Packed). rebased c group ∷ rest) (packed_loaded c (id + 1) groups loads all.1)
 
 abbrev group_in : ℕ × packed.Packed → packed.Packed
 group_in entry = entry.1
 
-pub packed_commit : (c : ℕ) (old room ends loads after : List Group) (id : ℕ) (groups : List packed.Packed) (made : List Load) → packed_in room ≡ packed_in old → packed_in ends ≡ packed_in room → loads ≡ ends ++ loaded id made
-    → AllZip (IsLoadOf c) groups made → packed_in after ≡ packed_in loads → packed_groups after ≡ packed_groups old ++ map (rebased c) groups
+pub packed_commit : (c : ℕ) (old room ends loads after : List Group) (id : ℕ) (groups : List packed.Packed) (made : List NewGroup) → packed_in room ≡ packed_in old → packed_in ends ≡ packed_in room → loads ≡ ends ++ new_groups id made
+    → AllZip (IsNewGroupOf c) groups made → packed_in after ≡ packed_in loads → packed_groups after ≡ packed_groups old ++ map (rebased c) groups
 packed_commit c old room ends loads after id groups made same_room same_ends is zip same_after =
-    ap (map group_in) (same_after ∙ ap packed_in is ∙ flat_map-append packed_of ends (loaded id made))
-    ∙ map-append group_in (packed_in ends) (packed_in (loaded id made))
-    ∙ ap (λ (gs : List packed.Packed). gs ++ packed_groups (loaded id made)) (ap (map group_in) (same_ends ∙ same_room))
+    ap (map group_in) (same_after ∙ ap packed_in is ∙ flat_map-append packed_of ends (new_groups id made))
+    ∙ map-append group_in (packed_in ends) (packed_in (new_groups id made))
+    ∙ ap (λ (gs : List packed.Packed). gs ++ packed_groups (new_groups id made)) (ap (map group_in) (same_ends ∙ same_room))
     ∙ ap (λ (gs : List packed.Packed). packed_groups old ++ gs) (packed_loaded c id groups made zip)
 
 -- where all begins are one, the order is that of the cells

@@ -27,7 +27,7 @@ use Rattle.group_view.specs.Lists.{is_listed, listed, IsHeld}
 use Rattle.group_directory.specs.declared.committing.CommitRefusal.{CommitRefusal}
 use Rattle.group_directory.specs.declared.committing.CommitRefusal.TheVariants as refusal
 use Rattle.group_view.specs.Parcels.{keys_in, packed_keys, packed_rows, IsParcelOf}
-use Rattle.group_directory.specs.Committing.{Origin, origin_of, origins, new_origin, Load, loaded, IsLoadOf, places, stores_opened, after_parcel}
+use Rattle.group_directory.specs.Committing.{Origin, origin_of, origins, new_origin, NewGroup, new_groups, IsNewGroupOf, places, stores_opened, after_parcel}
 use Rattle.group_directory.proofs.PutLemmas.{origins-append}
 use Rattle.group_directory.proofs.LoadLemmas.{origins_loaded, book_with_loads, grown}
 use Rattle.group_directory.proofs.CommitLemmas.{one_open, book_grown}
@@ -73,15 +73,15 @@ origins_kept old new same = sym (origins_listed new) ∙ ap origins_in same ∙ 
 
 -- ---- the rows
 
-pub origins_commit : (c : ℕ) (old room ends loads after : List Group) (id : ℕ) (groups : List Packed) (made : List Load) (rest : List (Key × List Value)) → listed room ≡ listed old → origins ends ≡ origins room → loads ≡ ends ++ loaded id made → AllZip (IsLoadOf c) groups made
+pub origins_commit : (c : ℕ) (old room ends loads after : List Group) (id : ℕ) (groups : List Packed) (made : List NewGroup) (rest : List (Key × List Value)) → listed room ≡ listed old → origins ends ≡ origins room → loads ≡ ends ++ new_groups id made → AllZip (IsNewGroupOf c) groups made
     → IsPermutation (origins loads ++ map (new_origin c) rest) (origins after) → IsPermutation (origins old ++ map (new_origin c) (packed_rows groups ++ rest)) (origins after)
 origins_commit c old room ends loads after id groups made rest same_room same_ends is zip moved =
     subst (λ (xs : List Origin). IsPermutation xs (origins after)) whole moved
   where
     first : origins loads ≡ origins old ++ map (new_origin c) (packed_rows groups)
     first =
-        ap origins is ∙ origins-append ends (loaded id made)
-        ∙ ap (λ (xs : List Origin). xs ++ origins (loaded id made)) (same_ends ∙ origins_kept old room same_room)
+        ap origins is ∙ origins-append ends (new_groups id made)
+        ∙ ap (λ (xs : List Origin). xs ++ origins (new_groups id made)) (same_ends ∙ origins_kept old room same_room)
         ∙ ap (λ (xs : List Origin). origins old ++ xs) (origins_loaded c id groups made zip)
 
     whole : origins loads ++ map (new_origin c) rest ≡ origins old ++ map (new_origin c) (packed_rows groups ++ rest)
@@ -92,12 +92,12 @@ origins_commit c old room ends loads after id groups made rest same_room same_en
 
 -- ---- the book
 
-pub book_loads : (c : ℕ) (old new : GroupList) (groups : List Packed) (loads : List Load) (count : ℕ) → AllZip (IsLoadOf c) groups loads → count ≡ length loads
-    → new.groups.items ≡ old.groups.items ++ loaded old.next loads → new.next ≡ old.next + count → new.buffer.entries ≡ old.buffer.entries → new.claims.items ≡ old.claims.items
+pub book_loads : (c : ℕ) (old new : GroupList) (groups : List Packed) (loads : List NewGroup) (count : ℕ) → AllZip (IsNewGroupOf c) groups loads → count ≡ length loads
+    → new.groups.items ≡ old.groups.items ++ new_groups old.next loads → new.next ≡ old.next + count → new.buffer.entries ≡ old.buffer.entries → new.claims.items ≡ old.claims.items
     → book_of new ≡ after_loads c (map packed_keys groups) (book_of old)
 book_loads c old new groups loads count zip is items next buffer claims =
     book_grown old new loads count items next buffer claims
-    ∙ ap (λ (n : ℕ). grown (book_of old) (map group_of old.groups.items ++ map group_of (loaded old.next loads)) (old.next + n)) is
+    ∙ ap (λ (n : ℕ). grown (book_of old) (map group_of old.groups.items ++ map group_of (new_groups old.next loads)) (old.next + n)) is
     ∙ book_with_loads c groups loads (book_of old) zip
 
 -- ---- the ids

@@ -109,28 +109,28 @@ IsReadyFor keys (Tombstone total deleted) = Unit {0}
 abbrev pub not_live : List Version → List Key → List Key
 not_live versions keys = filter (λ key. not (has_live key versions)) keys
 
--- ---- direct groups
+-- ---- new groups
 
--- a direct group with its bitmap
-abbrev pub Load : Type 0
-Load = Arc Packed Global × Arc Marks Global
+-- shares of a packed group, of a commit or of an install, and of its bitmap
+abbrev pub NewGroup : Type 0
+NewGroup = Arc Packed Global × Arc Marks Global
 
--- the groups that the loads become, with ids from this one on
-abbrev pub loaded : ℕ → List Load → List Group
-loaded id [] = []
-loaded id (load ∷ loads) = record { id = id; content = Compressed load.0 load.1 } ∷ loaded (id + 1) loads
+-- the groups of the list that these become, with ids from this one on
+abbrev pub new_groups : ℕ → List NewGroup → List Group
+new_groups id [] = []
+new_groups id (first ∷ rest) = record { id = id; content = Compressed first.0 first.1 } ∷ new_groups (id + 1) rest
 
 -- no row has ended
-abbrev pub IsUnmarked : Load → Type 0
-IsUnmarked load = let packed = load.0.value in load.1.value ≡ replicate (length packed.rows) None
+abbrev pub IsUnmarked : NewGroup → Type 0
+IsUnmarked new = let packed = new.0.value in new.1.value ≡ replicate (length packed.rows) None
 
 -- the group with this begin for each row
 abbrev pub rebased : ℕ → Packed → Packed
 rebased c group = record group { rows = map (begun_at c) group.rows; base = c }
 
--- the load is the group with this begin
-abbrev pub IsLoadOf : ℕ → Packed → Load → Type 0
-IsLoadOf c group load = (load.0.value ≡ rebased c group) × IsUnmarked load
+-- it is the group with this begin, and no row has ended
+abbrev pub IsNewGroupOf : ℕ → Packed → NewGroup → Type 0
+IsNewGroupOf c group new = (new.0.value ≡ rebased c group) × IsUnmarked new
 
 -- the COMPRESSED groups of a list, without their bitmaps
 abbrev pub packed_groups : List Group → List Packed

@@ -20,7 +20,7 @@ use Rattle.group_view.specs.Parts.{Rowed}
 use Rattle.group_view.specs.Views.{endings_of, buffer_of, rowed_of}
 use Rattle.group_view.specs.Books.{versions_of, content_of, group_of, book_of, StandsAsLent}
 use Rattle.group_view.specs.Claims.{lent_entries, rowed_of_packed, IsProductOf}
-use Rattle.group_directory.specs.Committing.{Load}
+use Rattle.group_directory.specs.Committing.{NewGroup}
 
 -- the claim that an actor holds
 abbrev pub held_by : Actor → List (Actor × Claim) → Option (Actor × Claim)
@@ -33,15 +33,15 @@ ids_of parts = map (λ (part : ℕ × _). part.0) parts
 -- ---- a new group
 
 -- its versions with their rows; there are none where there is no group
-abbrev pub new_rows : Option Load → List Rowed
+abbrev pub new_rows : Option NewGroup → List Rowed
 new_rows None = []
 new_rows (Some load) = rowed_of_packed load.0.value load.1.value
 
-abbrev pub new_versions : Option Load → List Version
+abbrev pub new_versions : Option NewGroup → List Version
 new_versions load = versions_of (new_rows load)
 
 -- it has a version, and a place in its bitmap for each row
-abbrev pub IsFilled : Option Load → Type 0
+abbrev pub IsFilled : Option NewGroup → Type 0
 IsFilled None = Unit {0}
 IsFilled (Some load) = let group = load.0.value in (0 < length (rowed_of_packed load.0.value load.1.value)) × (length load.1.value ≡ length group.rows)
 
@@ -50,11 +50,11 @@ abbrev pub buried : List ℕ → kept.Group → kept.Group
 buried ids group = if is_id_of ids (group_of group) then record group { content = Tombstone (total (content_of group.content)) (deleted (content_of group.content)) } else group
 
 -- the group of the fresh id gets the new group
-abbrev pub placed : Option ℕ → Load → kept.Group → kept.Group
+abbrev pub placed : Option ℕ → NewGroup → kept.Group → kept.Group
 placed fresh load group = if is_fresh fresh (group_of group) then record group { content = Compressed load.0 load.1 } else group
 
 -- it stands in its place; where there is none, the place goes
-abbrev pub with_new : Option ℕ → Option Load → List kept.Group → List kept.Group
+abbrev pub with_new : Option ℕ → Option NewGroup → List kept.Group → List kept.Group
 with_new fresh None groups = filter (λ (group : kept.Group). not (is_fresh fresh (group_of group))) groups
 with_new fresh (Some load) groups = map (placed fresh load) groups
 
@@ -64,7 +64,7 @@ pub record HasPlace (groups : List book.Group) (claim : book.Claim) : Type 0 whe
   pub apart : All (λ (group : book.Group). is_fresh claim.fresh group ≡ true → is_id_of claim.sources group ≡ false) groups
 
 -- the entries of a group that a view shows are old ones, or those of the new group
-abbrev pub IsOldOrNew : List (ℕ × List Rowed) → Option ℕ → Option Load → ℕ × List Rowed → Type 0
+abbrev pub IsOldOrNew : List (ℕ × List Rowed) → Option ℕ → Option NewGroup → ℕ × List Rowed → Type 0
 IsOldOrNew old fresh load entry = Contains old entry ⊎ ((fresh ≡ Some entry.0) × (entry.1 ≡ new_rows load))
 
 -- ---- the bitmaps of a flush

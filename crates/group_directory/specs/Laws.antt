@@ -58,8 +58,8 @@ pub record MayStage (txns : ℕ → Option Txn) (changes : List Change) (session
   pub quiet : All (λ (write : Write). is_above (newest write.key changes) (Some s) ≡ false) writes
   pub replaces : All (λ (write : Write). write.replaces ≡ has_row (table changes s) write.key) writes
 
--- the writes may be committed by the session: no other open transaction has one of their keys, and each says whether its key is in
--- the table at the clock
+-- what the groups ask of writes that the session commits: no other open transaction has one of their keys, and each says whether its
+-- key is in the table at the clock; that no key has a change above the session's snapshot is judged before
 pub record MayCommit (txns : ℕ → Option Txn) (changes : List Change) (clock session : ℕ) (writes : List Write) : Type 0 where
   pub free : All (λ (write : Write). (other : ℕ) → other ≢ session → Owns (txns other) write.key → ⊥) writes
   pub replaces : All (λ (write : Write). write.replaces ≡ is_in_table changes clock write.key) writes

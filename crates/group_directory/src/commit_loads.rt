@@ -4,7 +4,7 @@ ghost use Rattle.std.specs.List.{AllZip};
 ghost use Rattle.delta_store.specs.Versions.{Store};
 ghost use Rattle.group_view.specs.Lists.{IsHeld};
 ghost use Rattle.group_view.specs.Parcels.{HasOneBegin};
-ghost use Rattle.group_directory.specs.Committing.{loaded, IsUnmarked, IsLoadOf, HasRoom};
+ghost use Rattle.group_directory.specs.Committing.{new_groups, IsUnmarked, IsNewGroupOf, HasRoom};
 
 use cs_base::{Items, Memory};
 use delete_bitmap::Marks;
@@ -16,7 +16,7 @@ use std::sync::Arc;
 /// The direct group with the begin `c`, and a bitmap in which no row has ended.
 fn load_of(alloc: Global, mut group: Packed, c: u64) -> Result<(Arc<Packed>, Arc<Marks>), Memory>
     requires { HasOneBegin group }
-    ensures { IfOk result (λ load. IsLoadOf c group load) }
+    ensures { IfOk result (λ load. IsNewGroupOf c group load) }
 {
     group.rebase(c);
     let marks = Marks::new(alloc, group.len())?;
@@ -31,7 +31,7 @@ pub(crate) fn loads_of(
     c: u64,
 ) -> Result<Vec<(Arc<Packed>, Arc<Marks>)>, Memory>
     requires { All HasOneBegin groups }
-    ensures { IfOk result (λ loads. AllZip (IsLoadOf c) groups loads.items) }
+    ensures { IfOk result (λ loads. AllZip (IsNewGroupOf c) groups loads.items) }
 {
     let mut loads = Vec::new(alloc);
     for group in groups.into_vec() {
@@ -46,7 +46,7 @@ pub(crate) fn load_groups(list: &mut GroupList, loads: Vec<(Arc<Packed>, Arc<Mar
     requires unmarked { All IsUnmarked loads.items }
     requires room { vec_len list.old.groups + vec_len loads ≤ vec_capacity list.old.groups }
     requires ids { list.old.next + vec_len loads < 2 ^ 64 }
-    ensures groups { list.new.groups.items ≡ list.old.groups.items ++ loaded list.old.next loads.items }
+    ensures groups { list.new.groups.items ≡ list.old.groups.items ++ new_groups list.old.next loads.items }
     ensures len { vec_len list.new.groups ≡ vec_len list.old.groups + vec_len loads }
     ensures capacity { vec_capacity list.new.groups ≡ vec_capacity list.old.groups }
     ensures next { list.new.next ≡ list.old.next + vec_len loads }

@@ -1,12 +1,12 @@
 use Rattle.std.proofs.Common.{◌≡◌, ◌+◌, ◌++◌, length, vec_len, vec_capacity}
 use Rattle.std.specs.Vec.Iter.{into_iter_items}
-use Rattle.group_directory.specs.Committing.{loaded}
+use Rattle.group_directory.specs.Committing.{new_groups}
 use Rattle.group_directory.proofs.commit_loads.load_groups.Given as goal
 
 -- what is left goes after as all did
 abbrev pub invariant-loop-packed : goal.invariant-loop-packed
 invariant-loop-packed l = record {
-  groups : l.list.groups.items ++ loaded l.list.next (into_iter_items l.packed-iterator) ≡ l.fn.list.groups.items ++ loaded l.fn.list.next l.fn.loads.items;
+  groups : l.list.groups.items ++ new_groups l.list.next (into_iter_items l.packed-iterator) ≡ l.fn.list.groups.items ++ new_groups l.fn.list.next l.fn.loads.items;
   len : vec_len l.list.groups + length (into_iter_items l.packed-iterator) ≡ vec_len l.fn.list.groups + vec_len l.fn.loads;
   capacity : vec_capacity l.list.groups ≡ vec_capacity l.fn.list.groups;
   next : l.list.next + length (into_iter_items l.packed-iterator) ≡ l.fn.list.next + vec_len l.fn.loads;
