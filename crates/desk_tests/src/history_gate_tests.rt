@@ -184,7 +184,7 @@ fn threads_keep_one_history<R: Threads + Wait + Sync>(
 
 #[test]
 fn one_history(rt: HostRuntime) -> Result<(), Fail> {
-    for count in [1, 2, 16, 64] {
+    for &count in &[1, 2, 16, 64] {
         for _ in 0..10 {
             assert!(rt; threads_keep_one_history(&rt, rt.alloc(), count)?);
         }

@@ -1,10 +1,10 @@
 // Texts whose reading is compared with what is expected, and long texts.
 ghost use Rattle.std.specs.Prelude.{◌≤◌, length};
 
-use std::alloc::{AllocError, Global};
+use cs_base::Memory;
+use std::alloc::Global;
 use std::fmt::Debug;
 use std::process::Abort;
-use std::test::Fail;
 use tsql_exprs::ReadRefusal;
 
 /// A way to read texts.
@@ -27,7 +27,7 @@ pub fn check<R: Reader>(
     rt: &impl Abort,
     alloc: Global,
     cases: &[(&[u8], &str)],
-) -> Result<(), Fail> {
+) -> Result<(), ReadRefusal> {
     for (text, expected) in cases {
         assert!(rt; text.len() <= 131_072);
         let printed = R::read(alloc, text)?;
@@ -61,7 +61,7 @@ pub fn repeated(
     unit: &[u8],
     count: usize,
     last: &[u8],
-) -> Result<Vec<u8>, AllocError> {
+) -> Result<Vec<u8>, Memory> {
     let mut bytes = Vec::new(alloc);
     bytes.extend_from_slice(first)?;
     for _ in 0..count {

@@ -3,7 +3,6 @@ use cs_model::{Bound, Refusal};
 use cs_types::{Bytes, Column, ColumnType, Schema};
 use std::alloc::Global;
 use std::process::Abort;
-use std::test::Fail;
 use tsql_binder::bind_text;
 
 /// What a text means, in short.
@@ -73,138 +72,138 @@ fn check(
     Ok(())
 }
 
-#[test]
-fn a_report_is_bound_by_select_of_all(rt: HostRuntime) -> Result<(), Fail> {
-    let schema = table(rt.alloc(), b"t")?;
-    let cases: [(&[u8], Meant); 10] = [
-        (
-            b"SELECT * FROM sys.dm_db_column_store_row_group_physical_stats",
-            Groups,
-        ),
-        (
-            b"select * from [SYS].[DM_db_column_store_row_group_physical_stats] ;",
-            Groups,
-        ),
-        (b"SELECT * FROM sys.column_store_segments", Segments),
-        (b"SELECT * FROM Sys . Column_Store_Segments", Segments),
-        (
-            b"SELECT k FROM sys.column_store_segments",
-            Refused(50001, 1),
-        ),
-        (
-            b"SELECT COUNT(*) FROM sys.column_store_segments",
-            Refused(50001, 1),
-        ),
-        (
-            b"SELECT * FROM sys.column_store_segments WHERE x = 1",
-            Refused(50001, 1),
-        ),
-        (
-            b"SELECT * FROM sys.column_store_segments GROUP BY k",
-            Refused(50001, 1),
-        ),
-        (
-            b"SELECT * FROM sys.column_store_segments ORDER BY k",
-            Refused(50001, 1),
-        ),
-        (
-            b"SELECT * FROM sys.column_store_segments WHERE",
-            Refused(102, 46),
-        ),
-    ];
-    check(&rt, rt.alloc(), &schema, &cases)?;
-    Ok(())
-}
+const REPORTS: [(&[u8], Meant); 10] = [
+    (
+        b"SELECT * FROM sys.dm_db_column_store_row_group_physical_stats",
+        Groups,
+    ),
+    (
+        b"select * from [SYS].[DM_db_column_store_row_group_physical_stats] ;",
+        Groups,
+    ),
+    (b"SELECT * FROM sys.column_store_segments", Segments),
+    (b"SELECT * FROM Sys . Column_Store_Segments", Segments),
+    (
+        b"SELECT k FROM sys.column_store_segments",
+        Refused(50001, 1),
+    ),
+    (
+        b"SELECT COUNT(*) FROM sys.column_store_segments",
+        Refused(50001, 1),
+    ),
+    (
+        b"SELECT * FROM sys.column_store_segments WHERE x = 1",
+        Refused(50001, 1),
+    ),
+    (
+        b"SELECT * FROM sys.column_store_segments GROUP BY k",
+        Refused(50001, 1),
+    ),
+    (
+        b"SELECT * FROM sys.column_store_segments ORDER BY k",
+        Refused(50001, 1),
+    ),
+    (
+        b"SELECT * FROM sys.column_store_segments WHERE",
+        Refused(102, 46),
+    ),
+];
 
 #[test]
-fn a_report_stands_behind_sys_in_a_select_alone(rt: HostRuntime) -> Result<(), Fail> {
+fn a_report_is_bound_by_select_of_all(rt: HostRuntime) -> Result<(), Memory> {
     let schema = table(rt.alloc(), b"t")?;
-    let cases: [(&[u8], Meant); 8] = [
-        (b"SELECT * FROM column_store_segments", Refused(208, 15)),
-        (b"SELECT * FROM dbo.column_store_segments", Refused(208, 15)),
-        (b"SELECT * FROM sys.column_store_segment", Refused(208, 15)),
-        (b"SELECT * FROM sys.t", Query),
-        (
-            b"INSERT INTO sys.column_store_segments VALUES (1)",
-            Refused(208, 13),
-        ),
-        (
-            b"UPDATE sys.column_store_segments SET x = 1",
-            Refused(208, 8),
-        ),
-        (b"DELETE FROM sys.column_store_segments", Refused(208, 13)),
-        (
-            b"ALTER INDEX ALL ON sys.column_store_segments REORGANIZE",
-            Refused(208, 20),
-        ),
-    ];
-    check(&rt, rt.alloc(), &schema, &cases)?;
-    Ok(())
+    check(&rt, rt.alloc(), &schema, &REPORTS)
 }
 
+const BEHIND_SYS: [(&[u8], Meant); 8] = [
+    (b"SELECT * FROM column_store_segments", Refused(208, 15)),
+    (b"SELECT * FROM dbo.column_store_segments", Refused(208, 15)),
+    (b"SELECT * FROM sys.column_store_segment", Refused(208, 15)),
+    (b"SELECT * FROM sys.t", Query),
+    (
+        b"INSERT INTO sys.column_store_segments VALUES (1)",
+        Refused(208, 13),
+    ),
+    (
+        b"UPDATE sys.column_store_segments SET x = 1",
+        Refused(208, 8),
+    ),
+    (b"DELETE FROM sys.column_store_segments", Refused(208, 13)),
+    (
+        b"ALTER INDEX ALL ON sys.column_store_segments REORGANIZE",
+        Refused(208, 20),
+    ),
+];
+
 #[test]
-fn a_table_may_have_the_name_of_a_report(rt: HostRuntime) -> Result<(), Fail> {
+fn a_report_stands_behind_sys_in_a_select_alone(rt: HostRuntime) -> Result<(), Memory> {
+    let schema = table(rt.alloc(), b"t")?;
+    check(&rt, rt.alloc(), &schema, &BEHIND_SYS)
+}
+
+const NAMED_AS_A_REPORT: [(&[u8], Meant); 6] = [
+    (b"SELECT * FROM sys.column_store_segments", Segments),
+    (
+        b"SELECT k FROM sys.column_store_segments",
+        Refused(50001, 1),
+    ),
+    (b"SELECT k FROM column_store_segments", Query),
+    (b"SELECT k FROM dbo.COLUMN_STORE_SEGMENTS", Query),
+    (b"DELETE FROM sys.column_store_segments", Other),
+    (
+        b"ALTER INDEX ALL ON sys.column_store_segments REORGANIZE",
+        Reorganize(false),
+    ),
+];
+
+#[test]
+fn a_table_may_have_the_name_of_a_report(rt: HostRuntime) -> Result<(), Memory> {
     let schema = table(rt.alloc(), b"column_store_segments")?;
-    let cases: [(&[u8], Meant); 6] = [
-        (b"SELECT * FROM sys.column_store_segments", Segments),
-        (
-            b"SELECT k FROM sys.column_store_segments",
-            Refused(50001, 1),
-        ),
-        (b"SELECT k FROM column_store_segments", Query),
-        (b"SELECT k FROM dbo.COLUMN_STORE_SEGMENTS", Query),
-        (b"DELETE FROM sys.column_store_segments", Other),
-        (
-            b"ALTER INDEX ALL ON sys.column_store_segments REORGANIZE",
-            Reorganize(false),
-        ),
-    ];
-    check(&rt, rt.alloc(), &schema, &cases)?;
-    Ok(())
+    check(&rt, rt.alloc(), &schema, &NAMED_AS_A_REPORT)
 }
 
-#[test]
-fn statistics_io_is_a_setting(rt: HostRuntime) -> Result<(), Fail> {
-    let schema = table(rt.alloc(), b"t")?;
-    let cases: [(&[u8], Meant); 4] = [
-        (b"SET STATISTICS IO ON", Setting(true)),
-        (b"set statistics io off", Setting(false)),
-        (b"SET STATISTICS TIME ON", Refused(102, 16)),
-        (b"SET LOCK_TIMEOUT 0", Other),
-    ];
-    check(&rt, rt.alloc(), &schema, &cases)?;
-    Ok(())
-}
+const SETTINGS: [(&[u8], Meant); 4] = [
+    (b"SET STATISTICS IO ON", Setting(true)),
+    (b"set statistics io off", Setting(false)),
+    (b"SET STATISTICS TIME ON", Refused(102, 16)),
+    (b"SET LOCK_TIMEOUT 0", Other),
+];
 
 #[test]
-fn a_reorganize_closes_the_open_store_where_it_says_on(rt: HostRuntime) -> Result<(), Fail> {
+fn statistics_io_is_a_setting(rt: HostRuntime) -> Result<(), Memory> {
     let schema = table(rt.alloc(), b"t")?;
-    let cases: [(&[u8], Meant); 9] = [
-        (b"ALTER INDEX ALL ON t REORGANIZE", Reorganize(false)),
-        (
-            b"ALTER INDEX ALL ON t REORGANIZE WITH (COMPRESS_ALL_ROW_GROUPS = ON)",
-            Reorganize(true),
-        ),
-        (
-            b"ALTER INDEX ALL ON t REORGANIZE WITH (COMPRESS_ALL_ROW_GROUPS = OFF)",
-            Reorganize(false),
-        ),
-        (
-            b"alter index cci on [T] reorganize with ( compress_all_row_groups = on ) ;",
-            Reorganize(true),
-        ),
-        (
-            b"ALTER INDEX [no such index] ON dbo.t REORGANIZE",
-            Reorganize(false),
-        ),
-        (b"ALTER INDEX [ALL] ON sys.t REORGANIZE", Reorganize(false)),
-        (b"ALTER INDEX ALL ON u REORGANIZE", Refused(208, 20)),
-        (
-            b"ALTER INDEX cci ON t.u REORGANIZE WITH (COMPRESS_ALL_ROW_GROUPS = ON)",
-            Refused(208, 20),
-        ),
-        (b"ALTER INDEX ALL ON u REBUILD", Refused(50001, 22)),
-    ];
-    check(&rt, rt.alloc(), &schema, &cases)?;
-    Ok(())
+    check(&rt, rt.alloc(), &schema, &SETTINGS)
+}
+
+const REORGANIZES: [(&[u8], Meant); 9] = [
+    (b"ALTER INDEX ALL ON t REORGANIZE", Reorganize(false)),
+    (
+        b"ALTER INDEX ALL ON t REORGANIZE WITH (COMPRESS_ALL_ROW_GROUPS = ON)",
+        Reorganize(true),
+    ),
+    (
+        b"ALTER INDEX ALL ON t REORGANIZE WITH (COMPRESS_ALL_ROW_GROUPS = OFF)",
+        Reorganize(false),
+    ),
+    (
+        b"alter index cci on [T] reorganize with ( compress_all_row_groups = on ) ;",
+        Reorganize(true),
+    ),
+    (
+        b"ALTER INDEX [no such index] ON dbo.t REORGANIZE",
+        Reorganize(false),
+    ),
+    (b"ALTER INDEX [ALL] ON sys.t REORGANIZE", Reorganize(false)),
+    (b"ALTER INDEX ALL ON u REORGANIZE", Refused(208, 20)),
+    (
+        b"ALTER INDEX cci ON t.u REORGANIZE WITH (COMPRESS_ALL_ROW_GROUPS = ON)",
+        Refused(208, 20),
+    ),
+    (b"ALTER INDEX ALL ON u REBUILD", Refused(50001, 22)),
+];
+
+#[test]
+fn a_reorganize_closes_the_open_store_where_it_says_on(rt: HostRuntime) -> Result<(), Memory> {
+    let schema = table(rt.alloc(), b"t")?;
+    check(&rt, rt.alloc(), &schema, &REORGANIZES)
 }

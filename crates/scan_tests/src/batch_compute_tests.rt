@@ -194,7 +194,7 @@ const CASES: [(
 #[test]
 fn series_are_columns(rt: HostRuntime) -> Result<(), Fail> {
     let alloc = rt.alloc();
-    for (kind, (start, stop), given, expected) in CASES {
+    for &(kind, (start, stop), given, expected) in &CASES {
         assert!(rt; kind.is_valid());
         let schema = table(alloc, kind)?;
         let plan = plan_of(alloc, start, stop, given)?;

@@ -302,7 +302,7 @@ fn check_count(
 fn rows_of_batches_are_kept(rt: HostRuntime) -> Result<(), Fail> {
     let alloc = rt.alloc();
     let schema = table(alloc)?;
-    for count in COUNTS {
+    for &count in &COUNTS {
         check_count(&rt, alloc, &schema, count)?;
     }
     Ok(())

@@ -25,7 +25,7 @@ fn five_rows() -> Rows {
 #[test]
 fn all_places_are_one_group(rt: HostRuntime) {
     let rows = five_rows();
-    for (count, wanted) in [(5, 4), (4, 3), (0, 0)] {
+    for &(count, wanted) in &[(5, 4), (4, 3), (0, 0)] {
         assert!(rt; chosen(&rows.mask, count) == wanted, "of {count}");
     }
     assert!(rt; sum_chosen(&rows.numbers, &rows.mask, 5, 1) == 2);

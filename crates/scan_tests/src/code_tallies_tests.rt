@@ -324,8 +324,8 @@ fn check_count(rt: &impl Abort, alloc: Global, case: &Case, count: u16) -> Resul
     let packed = packed.unwrap();
     let length = packed.len();
     let mut batch = Batch::new();
-    for asked in QUERIES {
-        for flags in FLAGS {
+    for &asked in &QUERIES {
+        for &flags in &FLAGS {
             let shown = shown_of(alloc, flags, length)?;
             check(rt, alloc, case, &packed, asked, shown.as_ref(), &mut batch)?;
         }
@@ -340,7 +340,7 @@ fn check_count(rt: &impl Abort, alloc: Global, case: &Case, count: u16) -> Resul
 #[test]
 fn codes_tally_as_rows_do(rt: HostRuntime) -> Result<(), Fail> {
     for case in &CASES {
-        for count in [1, 63, 1_023, 1_024, 1_025] {
+        for &count in &[1, 63, 1_023, 1_024, 1_025] {
             check_count(&rt, rt.alloc(), case, count)?;
         }
     }
@@ -423,7 +423,7 @@ fn sum_by_codes(
 
 #[test]
 fn sums_may_pass_their_range_on_the_way(rt: HostRuntime) -> Result<(), Fail> {
-    for (groups, sum) in SUMS {
+    for &(groups, sum) in &SUMS {
         let found = sum_by_codes(&rt, rt.alloc(), groups);
         assert!(rt; found == sum_of(rt.alloc(), sum), "{sum:?}");
     }
@@ -466,7 +466,7 @@ fn some_queries_go_by_rows(rt: HostRuntime) -> Result<(), Fail> {
     let case = CASES[3];
     let schema = table(alloc, case.kind)?;
     let packed = packed_of(&rt, alloc, &case, 63)?.ok_or("no group")?;
-    for (asked, by_codes) in WAYS {
+    for &(asked, by_codes) in &WAYS {
         assert!(rt;
             goes_by_codes(alloc, &schema, &packed, asked)? == by_codes,
             "{asked:?}"

@@ -111,7 +111,7 @@ fn check_codes<const W: usize>(rt: &impl Abort, alloc: Global, codes: &[u64]) ->
     assert!(rt; out.as_slice().split_first() == Some((&7, words)));
     check_bits(rt, codes, words, W);
     check_lanes::<W>(rt, codes, words);
-    for from in [0, 1, 63, 64, 65, 1000] {
+    for &from in &[0, 1, 63, 64, 65, 1000] {
         check_batch::<W>(rt, codes, words, from);
     }
     Ok(())
@@ -120,7 +120,7 @@ fn check_codes<const W: usize>(rt: &impl Abort, alloc: Global, codes: &[u64]) ->
 fn check_width<const W: usize>(rt: &impl Abort, alloc: Global) -> Result<(), Memory>
     requires { W ≤ 64 }
 {
-    for length in [0, 1, 63, 64, 65, 1025] {
+    for &length in &[0, 1, 63, 64, 65, 1025] {
         let codes = sample(alloc, W as u32, length)?;
         check_codes::<W>(rt, alloc, &codes)?;
     }

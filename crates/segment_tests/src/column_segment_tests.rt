@@ -118,7 +118,7 @@ fn check(
     for i in 0..cells.len() {
         assert!(rt; segment.cell(i).to_value(alloc)? == cells[i], "cell {i}");
     }
-    for from in [0, 1, 63, 64, 1000, 1024, 5000, usize::MAX] {
+    for &from in &[0, 1, 63, 64, 1000, 1024, 5000, usize::MAX] {
         check_batch(rt, alloc, &segment, cells, from)?;
         check_codes(rt, &segment, from);
     }
@@ -246,7 +246,7 @@ const CODED_NUMBERS: [Coded; 6] = [
 
 #[test]
 fn codes_of_numbers(rt: HostRuntime) -> Result<(), Fail> {
-    for coded in CODED_NUMBERS {
+    for &coded in &CODED_NUMBERS {
         check_coded(&rt, rt.alloc(), ColumnType::BigInt, coded)?;
     }
     Ok(())
@@ -278,7 +278,7 @@ const CODED_TEXTS: [Coded; 2] = [
 
 #[test]
 fn codes_of_texts(rt: HostRuntime) -> Result<(), Fail> {
-    for coded in CODED_TEXTS {
+    for &coded in &CODED_TEXTS {
         check_coded(&rt, rt.alloc(), ColumnType::VarChar { n: 9 }, coded)?;
     }
     Ok(())
@@ -301,7 +301,7 @@ fn in_turn(alloc: Global, length: i64, step: i64) -> Result<Vec<Value>, Memory> 
 fn check_edges(rt: &impl Abort, alloc: Global, cells: &[Value]) -> Result<(), Memory> {
     assert!(rt; cells.len() > 0 && are_kept(ColumnType::BigInt, cells));
     let segment = encode(alloc, ColumnType::BigInt, cells)?;
-    for from in [0, 1, 62, 63, 64, 65, 1022, 1023, 1024] {
+    for &from in &[0, 1, 62, 63, 64, 65, 1022, 1023, 1024] {
         check_codes(rt, &segment, from);
     }
     Ok(())
@@ -311,7 +311,7 @@ fn check_edges(rt: &impl Abort, alloc: Global, cells: &[Value]) -> Result<(), Me
 #[test]
 fn batches_at_edges(rt: HostRuntime) -> Result<(), Fail> {
     let alloc = rt.alloc();
-    for length in [1, 63, 64, 65, 1023, 1024, 1025] {
+    for &length in &[1, 63, 64, 65, 1023, 1024, 1025] {
         check_edges(&rt, alloc, &in_turn(alloc, length, 1)?)?;
         check_edges(&rt, alloc, &in_turn(alloc, length, i64::MAX / 3)?)?;
     }
@@ -405,7 +405,7 @@ const TEXTS: [Counted; 3] = [
 
 #[test]
 fn fewest_words(rt: HostRuntime) -> Result<(), Fail> {
-    for (runs, encoding, words) in NUMBERS {
+    for &(runs, encoding, words) in &NUMBERS {
         let cells = cells_of(rt.alloc(), runs)?;
         check(&rt, rt.alloc(), ColumnType::BigInt, &cells, encoding, words)?;
     }
@@ -415,7 +415,7 @@ fn fewest_words(rt: HostRuntime) -> Result<(), Fail> {
 #[test]
 fn texts(rt: HostRuntime) -> Result<(), Fail> {
     let kind = ColumnType::VarChar { n: 9 };
-    for (runs, encoding, words) in TEXTS {
+    for &(runs, encoding, words) in &TEXTS {
         let cells = cells_of(rt.alloc(), runs)?;
         check(&rt, rt.alloc(), kind, &cells, encoding, words)?;
     }

@@ -345,7 +345,7 @@ const NONE_KEPT: [Case; 2] = [
 
 #[test]
 fn no_version_makes_no_group(rt: HostRuntime) -> Result<(), Fail> {
-    for case in NONE_KEPT {
+    for &case in &NONE_KEPT {
         assert!(rt; group_of(&rt, rt.alloc(), case)?.is_none());
     }
     Ok(())
@@ -392,7 +392,7 @@ fn a_group_has_these_segments(rt: HostRuntime) -> Result<(), Fail> {
 #[test]
 fn a_group_finds_its_keys(rt: HostRuntime) -> Result<(), Fail> {
     let group = group_of(&rt, rt.alloc(), FOUR_ROWS)?.ok_or("no group")?;
-    for (key, from, to) in [(3, 2, 3), (5, 4, 4), (0, 0, 0)] {
+    for &(key, from, to) in &[(3, 2, 3), (5, 4, 4), (0, 0, 0)] {
         assert!(rt; group.find(Key(key)) == Places { from, to }, "of {key}");
     }
     assert!(rt; group.width() == 3 && group.stamped().len() == 0);

@@ -37,7 +37,7 @@ fn check_numbers(rt: &impl Abort, dict: &NumberDict, cells: &[Option<i64>], code
 
 #[test]
 fn numbers_are_sorted(rt: HostRuntime) -> Result<(), Fail> {
-    for (cells, wanted, has_null, codes) in NUMBERS {
+    for &(cells, wanted, has_null, codes) in &NUMBERS {
         let dict = numbers_of(rt.alloc(), cells)?;
         check_numbers(&rt, &dict, cells, codes);
         assert!(rt; dict.code_of(Some(5)).is_none() && dict.words() == wanted.len() as u64);
@@ -114,7 +114,7 @@ fn check_dict(rt: &impl Abort, alloc: Global, case: Texts) -> Result<(), Fail> {
 
 #[test]
 fn texts_are_sorted_and_joined(rt: HostRuntime) -> Result<(), Fail> {
-    for case in TEXTS {
+    for &case in &TEXTS {
         check_dict(&rt, rt.alloc(), case)?;
     }
     Ok(())

@@ -17,7 +17,7 @@ const CASES: [Case; 6] = [
 
 #[test]
 fn runs_are_maximal(rt: HostRuntime) -> Result<(), Fail> {
-    for (codes, run_codes, run_ends, words) in CASES {
+    for &(codes, run_codes, run_ends, words) in &CASES {
         let runs = runs_of(rt.alloc(), codes)?;
         assert!(rt; runs.words() == words, "of {codes:?}");
         // The fields, all of them.

@@ -43,7 +43,7 @@ const CASES: [Case; 13] = [
 
 #[test]
 fn cells_become_codes_and_come_back(rt: HostRuntime) {
-    for (cells, wanted, codes) in CASES {
+    for &(cells, wanted, codes) in &CASES {
         let found = scale_of(cells);
         assert!(rt;
             found.map(|it| (it.exponent, it.base, it.nulls)) == wanted,

@@ -205,7 +205,7 @@ const FIRST: [Chosen; 16] = [
 
 #[test]
 fn the_first_choice_is_made(rt: HostRuntime) -> Result<(), Fail> {
-    for (given, entries, claimed, choice) in FIRST {
+    for &(given, entries, claimed, choice) in &FIRST {
         let list = list_of(&rt, rt.alloc(), given, entries, claimed, 9)?;
         let made = next_work(&list, 10, 4, Actor::Mover(1));
         assert!(rt; made == choice, "{made:?} for {choice:?}");
@@ -262,7 +262,7 @@ const BOUNDED: [Bounded; 10] = [
 
 #[test]
 fn actors_and_ids_bound_it(rt: HostRuntime) -> Result<(), Fail> {
-    for (given, entries, next, actor, choice) in BOUNDED {
+    for &(given, entries, next, actor, choice) in &BOUNDED {
         let list = list_of(&rt, rt.alloc(), given, entries, &[], next)?;
         let made = next_work(&list, 10, 4, actor);
         assert!(rt; made == choice, "{made:?} for {choice:?}");

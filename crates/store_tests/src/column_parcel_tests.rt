@@ -129,7 +129,7 @@ fn same_parcels(rt: &impl Abort, left: &Parcel, right: &Parcel) -> Result<(), Me
 fn columns_load_as_their_writes_do(rt: HostRuntime) -> Result<(), Fail> {
     let alloc = rt.alloc();
     let schema = pair_table(alloc)?;
-    for (count, group_rows, direct_rows) in [
+    for &(count, group_rows, direct_rows) in &[
         (0, 3, 5),
         (4, 3, 5),
         (5, 3, 5),

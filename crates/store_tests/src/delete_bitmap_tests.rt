@@ -34,10 +34,10 @@ const GIVEN: [(usize, u64); 5] = [(3, 7), (0, 9), (4, 8), (3, 1), (5, 1)];
 #[test]
 fn ends_are_counted(rt: HostRuntime) -> Result<(), Fail> {
     let mut marks = marked(rt.alloc(), 5, &GIVEN)?;
-    for (floor, removable) in [(6, 0), (7, 1), (8, 2), (9, 3)] {
+    for &(floor, removable) in &[(6, 0), (7, 1), (8, 2), (9, 3)] {
         assert!(rt; marks.removable(floor) == removable, "at {floor}");
     }
-    for (floor, settled) in [(6, 0), (7, 1), (8, 1), (8, 0), (20, 1)] {
+    for &(floor, settled) in &[(6, 0), (7, 1), (8, 1), (8, 0), (20, 1)] {
         assert!(rt; marks.settle(floor) == settled, "at {floor}");
     }
     assert!(rt; marks.count() == 3 && marks.removable(0) == 3);
@@ -120,7 +120,7 @@ const AFTER_TWOS: [(usize, u64); 6] = [(0, 3), (1, 9), (2, 7), (3, 7), (4, 2), (
 #[test]
 fn batches_are_marked(rt: HostRuntime) -> Result<(), Fail> {
     let mut marks = marked(rt.alloc(), 6, &[(4, 2), (0, 3)])?;
-    for (first, second, commit, taken) in TWOS {
+    for &(first, second, commit, taken) in &TWOS {
         assert!(rt;
             mark_two(&mut marks, first, second, commit)? == taken,
             "at {commit}"
@@ -144,7 +144,7 @@ const AFTER_PAIRS: [(usize, u64); 6] = [(62, 4), (63, 2), (64, 7), (65, 3), (128
 #[test]
 fn batches_keep_their_commits(rt: HostRuntime) -> Result<(), Fail> {
     let mut marks = marked(rt.alloc(), 130, &[(63, 2), (128, 9)])?;
-    for (first, second, taken) in PAIRS {
+    for &(first, second, taken) in &PAIRS {
         assert!(rt; mark_pair(&mut marks, first, second)? == taken);
     }
     assert!(rt; marks.stamps() == AFTER_PAIRS.as_slice());
@@ -171,7 +171,7 @@ fn check_complement(rt: &impl Abort, alloc: Global, length: usize) -> Result<(),
     after.complement()?;
     let mut none = Positions::none(alloc, length);
     none.complement()?;
-    for position in [0, 3, 62, 63, 64, 127, 128, 1023, 1024, 1025] {
+    for &position in &[0, 3, 62, 63, 64, 127, 128, 1023, 1024, 1025] {
         let below = position < length;
         let complement = below && !before.contains(position);
         assert!(rt;
@@ -185,7 +185,7 @@ fn check_complement(rt: &impl Abort, alloc: Global, length: usize) -> Result<(),
 
 #[test]
 fn sets_have_complements(rt: HostRuntime) -> Result<(), Fail> {
-    for length in [0, 1, 64, 65, 1024, 1025] {
+    for &length in &[0, 1, 64, 65, 1024, 1025] {
         check_complement(&rt, rt.alloc(), length)?;
     }
     Ok(())
@@ -210,8 +210,8 @@ fn check_mask(rt: &impl Abort, positions: &Positions, length: usize, from: usize
 
 /// Masks from places beside the edges of words, of counts beside them.
 fn check_masks(rt: &impl Abort, positions: &Positions, length: usize) {
-    for from in [0, 1, 63, 64, 1000, usize::MAX] {
-        for count in [0, 1, 63, 64, 65, 1023, 1024] {
+    for &from in &[0, 1, 63, 64, 1000, usize::MAX] {
+        for &count in &[0, 1, 63, 64, 65, 1023, 1024] {
             check_mask(rt, positions, length, from, count);
         }
     }
@@ -219,7 +219,7 @@ fn check_masks(rt: &impl Abort, positions: &Positions, length: usize) {
 
 #[test]
 fn masks_are_put(rt: HostRuntime) -> Result<(), Fail> {
-    for length in [0, 1, 64, 65, 1024, 1025] {
+    for &length in &[0, 1, 64, 65, 1024, 1025] {
         let positions = spotted(rt.alloc(), length)?;
         check_masks(&rt, &positions, length);
     }
@@ -247,7 +247,7 @@ fn check_ended(rt: &impl Abort, alloc: Global, length: usize) -> Result<(), Memo
     let mut marks = Marks::new(alloc, length)?;
     let two = mark_two(&mut marks, 0, length.saturating_sub(1), 5)?;
     assert!(rt; two == (length > 1), "of {length}");
-    for s in [4, 5, 6] {
+    for &s in &[4, 5, 6] {
         let positions = ended_at(alloc, &marks, s)?;
         check_taken(rt, &positions, length, two && s > 4);
     }
@@ -258,7 +258,7 @@ fn check_ended(rt: &impl Abort, alloc: Global, length: usize) -> Result<(), Memo
 
 #[test]
 fn the_ended_are_taken(rt: HostRuntime) -> Result<(), Fail> {
-    for length in [0, 1, 2, 63, 64, 65, 1_000_000] {
+    for &length in &[0, 1, 2, 63, 64, 65, 1_000_000] {
         check_ended(&rt, rt.alloc(), length)?;
     }
     Ok(())
@@ -274,7 +274,7 @@ fn first_and_last(alloc: Global, length: usize) -> Result<(usize, u64, u64, u64)
 
 #[test]
 fn ends_stand_at_the_edges_of_words(rt: HostRuntime) -> Result<(), Fail> {
-    for counts in [
+    for &counts in &[
         (0, 0, 0, 0),
         (1, 1, 0, 0),
         (63, 2, 1, 1),

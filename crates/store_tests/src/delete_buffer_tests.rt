@@ -31,7 +31,7 @@ const LEAST: [(i64, u64, Option<u64>); 9] = [
 fn entries_are_found(rt: HostRuntime) -> Result<(), Fail> {
     let mut buffer = buffer_of(rt.alloc(), &[(7, 4), (-3, 9), (7, 2), (7, 6)])?;
     let copied = buffer.copy()?;
-    for (key, begin, end) in LEAST {
+    for &(key, begin, end) in &LEAST {
         assert!(rt;
             buffer.ends(Key(key), begin) == end,
             "of {key} above {begin}"
@@ -111,7 +111,7 @@ fn check_merged(rt: &impl Abort, alloc: Global, merged: Merged) -> Result<(), Me
 
 #[test]
 fn batches_are_merged(rt: HostRuntime) -> Result<(), Fail> {
-    for merged in MERGED {
+    for &merged in &MERGED {
         check_merged(&rt, rt.alloc(), merged)?;
     }
     Ok(())

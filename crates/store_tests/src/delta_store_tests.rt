@@ -122,7 +122,7 @@ fn expect_store(rt: &impl Abort, frozen: &Frozen, versions: &[Parts], ended: usi
 #[test]
 fn versions_come_and_end(rt: HostRuntime) -> Result<(), Fail> {
     let mut delta = filled(rt.alloc(), &PUTS)?;
-    for (key, commit, found) in [(-3, 8, true), (-3, 9, false), (8, 9, false)] {
+    for &(key, commit, found) in &[(-3, 8, true), (-3, 9, false), (8, 9, false)] {
         assert!(rt;
             end(&mut delta, key, commit)? == found,
             "of {key} at {commit}"
@@ -149,7 +149,7 @@ const ROUNDS: [(usize, u64); 5] = [(0, 1), (3, 11), (6, 21), (9, 31), (12, 41)];
 fn add_round(rt: &impl Abort, alloc: Global, delta: &mut Delta, commit: u64) -> Result<(), Memory> {
     let first = delta.len();
     assert!(rt; first < 100);
-    for key in [5, -2, 8] {
+    for &key in &[5, -2, 8] {
         put(delta, alloc, key, 0, commit)?;
     }
     let places = [
@@ -165,7 +165,7 @@ fn add_round(rt: &impl Abort, alloc: Global, delta: &mut Delta, commit: u64) -> 
 /// A store with five versions of each of the three keys.
 fn five_rounds(rt: &impl Abort, alloc: Global) -> Result<Frozen, Memory> {
     let mut delta = Delta::new(alloc);
-    for (first, commit) in ROUNDS {
+    for &(first, commit) in &ROUNDS {
         assert!(rt; delta.len() == first);
         add_round(rt, alloc, &mut delta, commit)?;
     }
@@ -188,10 +188,10 @@ const EARLIER: [(usize, Option<usize>); 9] = [
 #[test]
 fn five_versions_of_a_key(rt: HostRuntime) -> Result<(), Fail> {
     let frozen = five_rounds(&rt, rt.alloc())?;
-    for (i, place) in EARLIER {
+    for &(i, place) in &EARLIER {
         expect_earlier(&rt, &frozen, i, place);
     }
-    for (begin, place) in [(0, 0), (1, 3), (10, 3), (11, 6), (40, 12), (41, 15)] {
+    for &(begin, place) in &[(0, 0), (1, 3), (10, 3), (11, 6), (40, 12), (41, 15)] {
         assert!(rt; frozen.first_after(begin) == place, "after {begin}");
     }
     Ok(())
@@ -210,7 +210,7 @@ const NO_ORDER: [(i64, i64, u64); 6] = [
 #[test]
 fn versions_before_have_ended(rt: HostRuntime) -> Result<(), Fail> {
     let frozen = filled(rt.alloc(), &NO_ORDER)?.freeze();
-    for (i, commit) in [(0, 0), (1, 0), (2, 9), (3, 9), (4, 8), (5, 9)] {
+    for &(i, commit) in &[(0, 0), (1, 0), (2, 9), (3, 9), (4, 8), (5, 9)] {
         assert!(rt; i < frozen.len());
         assert!(rt; frozen.ended_by(i) == commit, "at {i}");
     }
@@ -247,7 +247,7 @@ fn expect_share_stays(rt: &impl Abort, alloc: Global, last: u16) -> Result<(), M
     let mut delta = of_keys(alloc, last)?;
     let shared = delta.share()?;
     let again = delta.share()?;
-    for key in [0, i64::from(last)] {
+    for &key in &[0, i64::from(last)] {
         assert!(rt; end(&mut delta, key, 9000)?);
     }
     let next = i64::from(last) + 1;
@@ -260,7 +260,7 @@ fn expect_share_stays(rt: &impl Abort, alloc: Global, last: u16) -> Result<(), M
 
 #[test]
 fn chunk_edges(rt: HostRuntime) -> Result<(), Fail> {
-    for last in [1, 1022, 1023, 1024, 2046, 2047, 2048] {
+    for &last in &[1, 1022, 1023, 1024, 2046, 2047, 2048] {
         expect_share_stays(&rt, rt.alloc(), last)?;
     }
     Ok(())
@@ -312,7 +312,7 @@ fn expect_scattered(rt: &impl Abort, frozen: &Frozen, held: &Frozen) {
 
 #[test]
 fn keys_in_no_order(rt: HostRuntime) -> Result<(), Fail> {
-    for (every, from) in [(1, 2500), (7, 4), (1024, 1023), (5000, 4000)] {
+    for &(every, from) in &[(1, 2500), (7, 4), (1024, 1023), (5000, 4000)] {
         let (frozen, held) = scattered_keys(&rt, rt.alloc(), every, from)?;
         expect_scattered(&rt, &frozen, &held);
     }
@@ -338,7 +338,7 @@ fn expect_newest(
 /// A store of four keys, which finds none between two keys that are turned round, whatever it has.
 fn four_keys(rt: &impl Abort, alloc: Global) -> Result<Frozen, Memory> {
     let mut delta = Delta::new(alloc);
-    for (key, commit) in [(7, 1), (-3, 2), (7, 4), (9, 5), (-3, 6), (7, 7)] {
+    for &(key, commit) in &[(7, 1), (-3, 2), (7, 4), (9, 5), (-3, 6), (7, 7)] {
         put(&mut delta, alloc, key, 0, commit)?;
         expect_newest(rt, alloc, &delta.share()?, (8, 6), &[])?;
     }
@@ -365,7 +365,7 @@ const BETWEEN: [Between; 6] = [
 fn keys_between(rt: HostRuntime) -> Result<(), Fail> {
     let alloc = rt.alloc();
     let frozen = four_keys(&rt, alloc)?;
-    for (bounds, expected) in BETWEEN {
+    for &(bounds, expected) in &BETWEEN {
         expect_newest(&rt, alloc, &frozen, bounds, expected)?;
     }
     Ok(())

@@ -90,7 +90,7 @@ fn view_of(rt: &impl Abort, alloc: Global) -> Result<GroupView, Memory>
 #[test]
 fn snapshots_see_their_versions(rt: HostRuntime) -> Result<(), Fail> {
     let view = view_of(&rt, rt.alloc())?;
-    for (key, s, found) in [
+    for &(key, s, found) in &[
         (1, 2, None),
         (1, 5, Some((0, 0))),
         (1, 6, Some((0, 2))),
@@ -125,7 +125,7 @@ fn view_of_versions(alloc: Global) -> Result<GroupView, Memory>
 #[test]
 fn older_snapshots_see_older_versions(rt: HostRuntime) -> Result<(), Fail> {
     let view = view_of_versions(rt.alloc())?;
-    for (s, found) in [
+    for &(s, found) in &[
         (2, None),
         (3, Some(0)),
         (5, Some(0)),
@@ -157,7 +157,7 @@ fn expect_parts(rt: &impl Abort, view: GroupView) {
 fn views_give_their_parts(rt: HostRuntime) -> Result<(), Fail> {
     let view = view_of(&rt, rt.alloc())?;
     assert!(rt; view.len() == 2 && !view.is_empty() && view.floor() == 3 && view.clock() == 12);
-    for (group, id, store) in [(0, 1, true), (1, 4, false)] {
+    for &(group, id, store) in &[(0, 1, true), (1, 4, false)] {
         assert!(rt; group < view.len() && view.id(group) == id);
         assert!(rt; matches!(view.group(group), GroupRef::Store(_)) == store);
     }

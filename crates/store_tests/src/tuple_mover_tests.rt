@@ -45,7 +45,7 @@ fn writes_of(alloc: Global, count: u8) -> Result<Vec<Write>, Memory>
 fn parcels_load_what_is_large(rt: HostRuntime) -> Result<(), Fail> {
     let alloc = rt.alloc();
     let schema = table(alloc)?;
-    for (count, groups, rest) in [(0, 0, 0), (4, 0, 4), (5, 1, 2), (8, 2, 2)] {
+    for &(count, groups, rest) in &[(0, 0, 0), (4, 0, 4), (5, 1, 2), (8, 2, 2)] {
         let writes = writes_of(alloc, count)?;
         let parcel = parcel_of(alloc, &schema, &writes, 3, 5)?;
         assert_eq!(rt; parcel.groups.len(), groups, "groups of {count}");

@@ -67,11 +67,11 @@ fn transactions_open_and_end(rt: HostRuntime) -> Result<(), Fail> {
     fix(&mut txns, 1, 3);
     fix(&mut txns, 1, 8);
     assert_eq!(rt; txns.floor(9), 3);
-    for key in [5, 2] {
+    for &key in &[5, 2] {
         delete(&mut txns, rt.alloc(), 64, key)?;
     }
     assert_eq!(rt; (txns.own(64)?.len(), txns.own(1)?.len()), (2, 0));
-    for (key, but, holder) in [(5, 1, Some(1)), (5, 64, None), (3, 1, None)] {
+    for &(key, but, holder) in &[(5, 1, Some(1)), (5, 64, None), (3, 1, None)] {
         assert_eq!(rt; txns.holder(Key(key), but), holder, "of {key}");
     }
     end(&mut txns, 1);

@@ -44,7 +44,7 @@ fn writes_are_staged(rt: HostRuntime) -> Result<(), Fail> {
     let mut own = Own::empty();
     assert!(rt; own.is_empty() && own.find(Key(1)).is_none());
     let mut first = Vec::new(alloc);
-    for key in [5, 2, 9, 2] {
+    for &key in &[5, 2, 9, 2] {
         first.push(write(alloc, key, Some(key))?)?;
     }
     own.stage(first)?;
@@ -54,7 +54,7 @@ fn writes_are_staged(rt: HostRuntime) -> Result<(), Fail> {
     second.push(write(alloc, 7, Some(70))?)?;
     own.stage(second)?;
     assert_eq!(rt; (own.len(), shared.len()), (4, 3));
-    for (key, place) in [
+    for &(key, place) in &[
         (2, Some(0)),
         (5, Some(1)),
         (7, Some(2)),
@@ -85,7 +85,7 @@ fn scattered(alloc: Global, number: i64) -> Result<Write, Memory> {
 fn many_writes_are_staged(rt: HostRuntime) -> Result<(), Fail> {
     let alloc = rt.alloc();
     let mut own = Own::empty();
-    for from in [0i64, 60, 7] {
+    for &from in &[0i64, 60, 7] {
         let mut writes = Vec::new(alloc);
         for i in 0..40 {
             writes.push(scattered(alloc, from.saturating_add(i))?)?;
@@ -173,9 +173,9 @@ fn is_list(own: &Own, count: usize) -> bool {
 #[test]
 fn chunks_have_edges(rt: HostRuntime) -> Result<(), Fail> {
     let alloc = rt.alloc();
-    for order in [Order::Up, Order::Down, Order::Scattered] {
-        for count in [1, 127, 128, 129, 256, 257, 1_000] {
-            for step in [1, 2, 40] {
+    for &order in &[Order::Up, Order::Down, Order::Scattered] {
+        for &count in &[1, 127, 128, 129, 256, 257, 1_000] {
+            for &step in &[1, 2, 40] {
                 let (own, _) = staged(alloc, order, count, step, false)?;
                 assert!(rt; is_list(&own, usize::from(count)), "{count} by {step}");
             }
@@ -188,8 +188,8 @@ fn chunks_have_edges(rt: HostRuntime) -> Result<(), Fail> {
 #[test]
 fn shares_stay(rt: HostRuntime) -> Result<(), Fail> {
     let alloc = rt.alloc();
-    for order in [Order::Up, Order::Down, Order::Scattered] {
-        for step in [1, 7] {
+    for &order in &[Order::Up, Order::Down, Order::Scattered] {
+        for &step in &[1, 7] {
             let (mut own, share) = staged(alloc, order, 300, step, true)?;
             for i in 0..300 {
                 let number = key_of(order, i);

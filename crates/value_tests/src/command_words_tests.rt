@@ -1,3 +1,4 @@
+use crate::made::same;
 use command_words::{Order, RunOptions, Workload};
 use std::alloc::Global;
 use std::process::Abort;
@@ -259,13 +260,13 @@ fn order(wanted: Wanted) -> Option<Order> {
 fn check(rt: &impl Abort, alloc: Global, text: &str, wanted: Wanted) -> Result<(), Fail> {
     let words = words_of(alloc, text)?;
     let read = Order::of_words(words.as_slice());
-    assert_eq!(rt; read, order(wanted), "{text}");
+    same(rt, &text, &read, &order(wanted));
     Ok(())
 }
 
 #[test]
 fn words_of_a_replay(rt: HostRuntime) -> Result<(), Fail> {
-    for (text, wanted) in REPLAY {
+    for &(text, wanted) in &REPLAY {
         check(&rt, rt.alloc(), text, wanted)?;
     }
     Ok(())
@@ -273,7 +274,7 @@ fn words_of_a_replay(rt: HostRuntime) -> Result<(), Fail> {
 
 #[test]
 fn words_of_a_run(rt: HostRuntime) -> Result<(), Fail> {
-    for (text, wanted) in RUN {
+    for &(text, wanted) in &RUN {
         check(&rt, rt.alloc(), text, wanted)?;
     }
     Ok(())
@@ -281,7 +282,7 @@ fn words_of_a_run(rt: HostRuntime) -> Result<(), Fail> {
 
 #[test]
 fn words_of_a_workload(rt: HostRuntime) -> Result<(), Fail> {
-    for (text, wanted) in GENERATE {
+    for &(text, wanted) in &GENERATE {
         check(&rt, rt.alloc(), text, wanted)?;
     }
     Ok(())
@@ -289,7 +290,7 @@ fn words_of_a_workload(rt: HostRuntime) -> Result<(), Fail> {
 
 #[test]
 fn words_of_a_load(rt: HostRuntime) -> Result<(), Fail> {
-    for (text, wanted) in LOAD {
+    for &(text, wanted) in &LOAD {
         check(&rt, rt.alloc(), text, wanted)?;
     }
     Ok(())
@@ -297,8 +298,8 @@ fn words_of_a_load(rt: HostRuntime) -> Result<(), Fail> {
 
 #[test]
 fn words_without_a_mode(rt: HostRuntime) -> Result<(), Fail> {
-    assert_eq!(rt; Order::of_words(&[]), None);
-    for (text, wanted) in OTHER {
+    same(&rt, &"no words", &Order::of_words(&[]), &None);
+    for &(text, wanted) in &OTHER {
         check(&rt, rt.alloc(), text, wanted)?;
     }
     Ok(())

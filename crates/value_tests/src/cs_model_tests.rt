@@ -1,3 +1,4 @@
+use crate::made::same_text;
 use cs_base::{Items, Memory};
 use cs_model::{Actor, Bound, Entry, GroupLine, GroupState, Refusal, Reply, Work, print_entry};
 use cs_types::{Line, Schema};
@@ -46,9 +47,10 @@ fn entries_are_added_to_a_line(rt: HostRuntime) -> Result<(), Fail> {
         &Entry::End { session: 64 },
         &mut line,
     )?;
-    assert_eq!(rt;
+    same_text(
+        &rt,
         line.as_slice(),
-        b"1 s12.4 >\n2 s3.1 < ok 2 affected\n3 s12.4 < error 102 at 8\n10 s64 end\n".as_slice()
+        b"1 s12.4 >\n2 s3.1 < ok 2 affected\n3 s12.4 < error 102 at 8\n10 s64 end\n",
     );
     Ok(())
 }
@@ -70,41 +72,56 @@ fn text_of(alloc: Global, actor: Actor, works: &[Work]) -> Result<Line, Memory> 
     Ok(line)
 }
 
+/// The id of a new group.
+const FRESH: u64 = 18446744073709551615;
+
+const WORKS: [Work; 9] = [
+    Work::ClaimCompress {
+        source: 1,
+        fresh: FRESH,
+    },
+    Work::InstallCompress {
+        source: 1,
+        fresh: FRESH,
+        rows: 90,
+    },
+    Work::ReleaseCompress {
+        source: 1,
+        fresh: FRESH,
+    },
+    Work::ClaimRebuild {
+        source: 1,
+        fresh: FRESH,
+    },
+    Work::InstallRebuild {
+        source: 1,
+        fresh: FRESH,
+        rows: 90,
+    },
+    Work::ReleaseRebuild {
+        source: 1,
+        fresh: FRESH,
+    },
+    Work::ClaimMerge {
+        first: 3,
+        second: 4,
+        fresh: FRESH,
+    },
+    Work::InstallMerge {
+        first: 3,
+        second: 4,
+        fresh: FRESH,
+        rows: 90,
+    },
+    Work::ReleaseMerge {
+        first: 3,
+        second: 4,
+        fresh: FRESH,
+    },
+];
+
 #[test]
 fn work_on_groups_is_added_to_a_line(rt: HostRuntime) -> Result<(), Fail> {
-    let (source, first, second, fresh, rows) = (1, 3, 4, 18446744073709551615, 90);
-    let works = [
-        Work::ClaimCompress { source, fresh },
-        Work::InstallCompress {
-            source,
-            fresh,
-            rows,
-        },
-        Work::ReleaseCompress { source, fresh },
-        Work::ClaimRebuild { source, fresh },
-        Work::InstallRebuild {
-            source,
-            fresh,
-            rows,
-        },
-        Work::ReleaseRebuild { source, fresh },
-        Work::ClaimMerge {
-            first,
-            second,
-            fresh,
-        },
-        Work::InstallMerge {
-            first,
-            second,
-            fresh,
-            rows,
-        },
-        Work::ReleaseMerge {
-            first,
-            second,
-            fresh,
-        },
-    ];
     let text = b"8 m2 claim compress 1 to 18446744073709551615
 8 m2 install compress 1 to 18446744073709551615 rows 90
 8 m2 release compress 1 to 18446744073709551615
@@ -115,22 +132,23 @@ fn work_on_groups_is_added_to_a_line(rt: HostRuntime) -> Result<(), Fail> {
 8 m2 install merge 3 4 to 18446744073709551615 rows 90
 8 m2 release merge 3 4 to 18446744073709551615
 ";
-    let line = text_of(rt.alloc(), Actor::Mover(2), &works)?;
-    assert_eq!(rt; line.as_slice(), text.as_slice());
+    let line = text_of(rt.alloc(), Actor::Mover(2), &WORKS)?;
+    same_text(&rt, line.as_slice(), text);
     Ok(())
 }
 
+const COUNTED: [Work; 7] = [
+    Work::ClaimFlush { entries: 10 },
+    Work::InstallFlush { entries: 11 },
+    Work::ReleaseFlush { entries: 12 },
+    Work::Settle { ends: 13 },
+    Work::Clear { groups: 14 },
+    Work::Close { group: 0 },
+    Work::Memory,
+];
+
 #[test]
 fn work_that_is_counted_is_added_to_a_line(rt: HostRuntime) -> Result<(), Fail> {
-    let works = [
-        Work::ClaimFlush { entries: 10 },
-        Work::InstallFlush { entries: 11 },
-        Work::ReleaseFlush { entries: 12 },
-        Work::Settle { ends: 13 },
-        Work::Clear { groups: 14 },
-        Work::Close { group: 0 },
-        Work::Memory,
-    ];
     let text = b"8 s64 claim flush 10
 8 s64 install flush 11
 8 s64 release flush 12
@@ -139,22 +157,23 @@ fn work_that_is_counted_is_added_to_a_line(rt: HostRuntime) -> Result<(), Fail> 
 8 s64 close 0
 8 s64 memory
 ";
-    let line = text_of(rt.alloc(), Actor::Session(64), &works)?;
-    assert_eq!(rt; line.as_slice(), text.as_slice());
+    let line = text_of(rt.alloc(), Actor::Session(64), &COUNTED)?;
+    same_text(&rt, line.as_slice(), text);
     Ok(())
 }
 
+const GROUPS: [(u64, GroupState, u64, u64); 5] = [
+    (1, GroupState::Invisible, 0, 0),
+    (2, GroupState::Opened, 1, 0),
+    (3, GroupState::Closed, 1048576, 2),
+    (4, GroupState::Compressed, 18446744073709551615, 10),
+    (12, GroupState::Tombstone, 2, 1),
+];
+
 #[test]
 fn a_group_report_has_a_line_for_each_group(rt: HostRuntime) -> Result<(), Fail> {
-    let groups = [
-        (1, GroupState::Invisible, 0, 0),
-        (2, GroupState::Opened, 1, 0),
-        (3, GroupState::Closed, 1048576, 2),
-        (4, GroupState::Compressed, 18446744073709551615, 10),
-        (12, GroupState::Tombstone, 2, 1),
-    ];
     let mut lines = Items::new(rt.alloc());
-    for (id, state, total, deleted) in groups {
+    for &(id, state, total, deleted) in &GROUPS {
         lines.push(GroupLine {
             id,
             state,
@@ -174,7 +193,7 @@ fn a_group_report_has_a_line_for_each_group(rt: HostRuntime) -> Result<(), Fail>
   4, 3, COMPRESSED, 18446744073709551615, 10
   12, 4, TOMBSTONE, 2, 1
 ";
-    assert_eq!(rt; line.as_slice(), text.as_slice());
+    same_text(&rt, line.as_slice(), text);
     Ok(())
 }
 
@@ -197,6 +216,6 @@ fn a_report_without_lines_has_its_counts(rt: HostRuntime) -> Result<(), Fail> {
     print_entry(alloc, &schema, 2, 1, &groups, &mut line)?;
     print_entry(alloc, &schema, 4, 2, &segments, &mut line)?;
     let text = b"2 s1.1 < ok 0 groups, 0 buffered\n4 s1.2 < ok 0 segments\n";
-    assert_eq!(rt; line.as_slice(), text.as_slice());
+    same_text(&rt, line.as_slice(), text);
     Ok(())
 }

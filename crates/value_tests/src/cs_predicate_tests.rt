@@ -1,3 +1,4 @@
+use crate::made::same;
 use cs_base::{Boxed, Items, Memory};
 use cs_model::{Expr, ExprRefusal, Operand, Pred, Relation, Times, Truth};
 use cs_predicate::{compute, is_like, truth};
@@ -100,19 +101,18 @@ fn products_are_computed(rt: HostRuntime) -> Result<(), Fail> {
     let alloc = rt.alloc();
     let schema = decimals(alloc)?;
     let row = one_and_a_half(alloc)?;
-    for (left, times, right, expected) in PRODUCTS {
+    for &(left, times, right, expected) in &PRODUCTS {
         let expr = product(alloc, left, times, right)?;
         let computed = compute(&expr, &row, &schema);
-        assert_eq!(rt;
-            computed,
-            expected.map(whole),
-            "{left:?} {times:?} {right:?}"
-        );
+        same(&rt, &(left, times, right), &computed, &expected.map(whole));
     }
     let expr = null_and(alloc, product(alloc, Some(1), Times::Divide, Some(0))?)?;
-    assert_eq!(rt;
-        compute(&expr, &row, &schema),
-        Err(ExprRefusal::ZeroDivisor)
+    let computed = compute(&expr, &row, &schema);
+    same(
+        &rt,
+        &"NULL and a part",
+        &computed,
+        &Err(ExprRefusal::ZeroDivisor),
     );
     Ok(())
 }
@@ -131,8 +131,8 @@ const LIKES: [(&[u8], &[u8], bool); 8] = [
 
 #[test]
 fn texts_are_like_patterns(rt: HostRuntime) {
-    for (pattern, text, expected) in LIKES {
-        assert_eq!(rt; is_like(pattern, text), expected, "{pattern:?} {text:?}");
+    for &(pattern, text, expected) in &LIKES {
+        same(&rt, &(pattern, text), &is_like(pattern, text), &expected);
     }
 }
 
@@ -159,16 +159,17 @@ fn comparisons_have_three_truths(rt: HostRuntime) -> Result<(), Fail> {
     let alloc = rt.alloc();
     let schema = decimals(alloc)?;
     let row = one_and_a_half(alloc)?;
-    for (sign, number, expected) in COMPARISONS {
+    for &(sign, number, expected) in &COMPARISONS {
         let pred = Pred::Compare {
             left: Operand::Column(0),
             sign,
             right: Operand::Constant(literal(number)),
         };
-        assert_eq!(rt;
-            truth(&pred, &row, &schema),
-            expected,
-            "{sign:?} {number:?}"
+        same(
+            &rt,
+            &(sign, number),
+            &truth(&pred, &row, &schema),
+            &expected,
         );
     }
     Ok(())

@@ -1,5 +1,6 @@
 ghost use Rattle.std.specs.Prelude.{◌≡◌, IfOk};
 
+use crate::made::{same, same_text};
 use cs_base::{Items, Memory};
 use cs_types::{
     Bytes, Column, ColumnType, FIRST_DAY, Key, LAST_DAY, Line, Loose, Row, Schema, Value,
@@ -7,6 +8,7 @@ use cs_types::{
     read_date,
 };
 use std::alloc::Global;
+use std::process::Abort;
 use std::test::Fail;
 
 /// The bytes of a text.
@@ -93,7 +95,7 @@ const ENDS: [(ColumnType, i64, i64, ValueRefusal); 4] = [
 
 #[test]
 fn decimals_fit(rt: HostRuntime) {
-    for (p, places, m, s, expected) in DECIMALS {
+    for &(p, places, m, s, expected) in &DECIMALS {
         let kind = decimal(p, places);
         assert!(rt; kind.is_valid());
         let kept = fits(kind, false, Loose::Number { m, s });
@@ -101,26 +103,28 @@ fn decimals_fit(rt: HostRuntime) {
             Some(number) => Ok(Value::Number(number)),
             None => Err(ValueRefusal::Overflow),
         };
-        assert_eq!(rt; kept, number, "{m} over 10 to the {s}");
+        same(&rt, &(m, s), &kept, &number);
     }
 }
 
-/// What a column of an integer type keeps of a whole number.
-fn whole(kind: ColumnType, m: i128) -> Result<Value, ValueRefusal> {
-    if kind.is_valid() {
-        fits(kind, false, Loose::Number { m, s: 0 })
-    } else {
-        Err(ValueRefusal::NullHere)
-    }
+/// That a column of an integer type keeps this of a whole number.
+fn check_whole(rt: &impl Abort, kind: ColumnType, m: i128, expected: Result<Value, ValueRefusal>) {
+    assert!(rt; kind.is_valid());
+    same(
+        rt,
+        &m,
+        &fits(kind, false, Loose::Number { m, s: 0 }),
+        &expected,
+    );
 }
 
 #[test]
 fn integers_fit(rt: HostRuntime) {
-    for (kind, least, greatest, refusal) in ENDS {
-        assert_eq!(rt; whole(kind, least as i128), Ok(Value::Number(least)));
-        assert_eq!(rt; whole(kind, greatest as i128), Ok(Value::Number(greatest)));
-        assert_eq!(rt; whole(kind, least as i128 - 1), Err(refusal));
-        assert_eq!(rt; whole(kind, greatest as i128 + 1), Err(refusal));
+    for &(kind, least, greatest, refusal) in &ENDS {
+        check_whole(&rt, kind, least as i128, Ok(Value::Number(least)));
+        check_whole(&rt, kind, greatest as i128, Ok(Value::Number(greatest)));
+        check_whole(&rt, kind, least as i128 - 1, Err(refusal));
+        check_whole(&rt, kind, greatest as i128 + 1, Err(refusal));
     }
 }
 
@@ -129,12 +133,14 @@ fn texts_and_nulls_fit(rt: HostRuntime) -> Result<(), Fail> {
     let alloc = rt.alloc();
     let kind = ColumnType::VarChar { n: 3 };
     assert!(rt; kind.is_valid());
-    assert_eq!(rt; fits(kind, true, Loose::Null), Ok(Value::Null));
-    assert_eq!(rt; fits(kind, false, Loose::Null), Err(ValueRefusal::NullHere));
+    let null = fits(kind, true, Loose::Null);
+    same(&rt, &"NULL", &null, &Ok(Value::Null));
+    let no_null = fits(kind, false, Loose::Null);
+    same(&rt, &"NOT NULL", &no_null, &Err(ValueRefusal::NullHere));
     let kept = fits(kind, false, Loose::Text(bytes(alloc, b"abc")?));
-    assert_eq!(rt; kept, Ok(Value::Text(bytes(alloc, b"abc")?)));
+    same(&rt, &"abc", &kept, &Ok(Value::Text(bytes(alloc, b"abc")?)));
     let refused = fits(kind, false, Loose::Text(bytes(alloc, b"abcd")?));
-    assert_eq!(rt; refused, Err(ValueRefusal::TooLong));
+    same(&rt, &"abcd", &refused, &Err(ValueRefusal::TooLong));
     Ok(())
 }
 
@@ -165,8 +171,8 @@ const DATES: [(&[u8], Option<i64>); 21] = [
 
 #[test]
 fn dates_are_read(rt: HostRuntime) {
-    for (text, day) in DATES {
-        assert_eq!(rt; read_date(text), day);
+    for &(text, day) in &DATES {
+        same(&rt, &text, &read_date(text), &day);
     }
 }
 
@@ -186,10 +192,10 @@ const NUMBERS: [(i128, u8, &[u8]); 10] = [
 
 #[test]
 fn numbers_are_printed(rt: HostRuntime) -> Result<(), Fail> {
-    for (m, s, text) in NUMBERS {
+    for &(m, s, text) in &NUMBERS {
         let mut line = Line::new(rt.alloc());
         print_number(m, s, &mut line)?;
-        assert_eq!(rt; line.as_slice(), text);
+        same_text(&rt, line.as_slice(), text);
     }
     Ok(())
 }
@@ -224,12 +230,12 @@ const CELLS: [(ColumnType, i64, &[u8]); 11] = [
 
 #[test]
 fn cells_are_printed(rt: HostRuntime) -> Result<(), Fail> {
-    for (kind, number, text) in CELLS {
+    for &(kind, number, text) in &CELLS {
         let line = printed(rt.alloc(), kind, &Value::Number(number))?;
-        assert_eq!(rt; line.as_slice(), text);
+        same_text(&rt, line.as_slice(), text);
     }
     let null = printed(rt.alloc(), ColumnType::Date, &Value::Null)?;
-    assert_eq!(rt; null.as_slice(), b"NULL".as_slice());
+    same_text(&rt, null.as_slice(), b"NULL");
     Ok(())
 }
 
@@ -243,10 +249,10 @@ const TEXTS: [(&[u8], &[u8]); 4] = [
 
 #[test]
 fn texts_are_printed(rt: HostRuntime) -> Result<(), Fail> {
-    for (text, quoted) in TEXTS {
+    for &(text, quoted) in &TEXTS {
         let value = Value::Text(bytes(rt.alloc(), text)?);
         let line = printed(rt.alloc(), ColumnType::VarChar { n: 20 }, &value)?;
-        assert_eq!(rt; line.as_slice(), quoted);
+        same_text(&rt, line.as_slice(), quoted);
     }
     Ok(())
 }
@@ -257,13 +263,11 @@ fn loose_values_are_printed(rt: HostRuntime) -> Result<(), Fail> {
     print_loose(&Loose::Number { m: -5, s: 1 }, &mut line)?;
     print_loose(&Loose::Text(bytes(rt.alloc(), b"a'b")?), &mut line)?;
     print_loose(&Loose::Null, &mut line)?;
-    assert_eq!(rt; line.as_slice(), b"-0.5'a''b'NULL".as_slice());
+    same_text(&rt, line.as_slice(), b"-0.5'a''b'NULL");
     let loose = loose_of(decimal(3, 1), &Value::Number(25))?;
-    assert_eq!(rt; loose, Loose::Number { m: 25, s: 1 });
-    assert_eq!(rt;
-        loose_of(ColumnType::Date, &Value::Number(25))?,
-        Loose::Day(25)
-    );
+    same(&rt, &"a decimal", &loose, &Loose::Number { m: 25, s: 1 });
+    let day = loose_of(ColumnType::Date, &Value::Number(25))?;
+    same(&rt, &"a day", &day, &Loose::Day(25));
     Ok(())
 }
 
@@ -273,12 +277,10 @@ fn lines_grow(rt: HostRuntime) -> Result<(), Fail> {
     line.append(b"n ")?;
     line.append_number(u64::MAX)?;
     line.push(b'!')?;
-    assert_eq!(rt;
-        line.copy()?.into_bytes().as_slice(),
-        b"n 18446744073709551615!".as_slice()
-    );
+    let whole = line.copy()?.into_bytes();
+    same_text(&rt, whole.as_slice(), b"n 18446744073709551615!");
     line.truncate(1);
-    assert_eq!(rt; line.into_vec().as_slice(), b"n".as_slice());
+    same_text(&rt, line.into_vec().as_slice(), b"n");
     Ok(())
 }
 
@@ -286,10 +288,10 @@ fn lines_grow(rt: HostRuntime) -> Result<(), Fail> {
 fn ascending(alloc: Global) -> Result<Vec<Value>, Memory> {
     let mut values = Vec::new(alloc);
     values.push(Value::Null)?;
-    for number in [i64::MIN, -1, 0, i64::MAX] {
+    for &number in &[i64::MIN, -1, 0, i64::MAX] {
         values.push(Value::Number(number))?;
     }
-    for text in [b"".as_slice(), b" ", b"Z", b"a", b"aa", b"b", b"~"] {
+    for &text in &[b"".as_slice(), b" ", b"Z", b"a", b"aa", b"b", b"~"] {
         values.push(Value::Text(bytes(alloc, text)?))?;
     }
     Ok(values)
@@ -300,9 +302,9 @@ fn values_are_ordered(rt: HostRuntime) -> Result<(), Fail> {
     let values = ascending(rt.alloc())?;
     for (i, a) in values.iter().enumerate() {
         for (j, b) in values.iter().enumerate() {
-            assert_eq!(rt; compare(a, b), i.cmp(&j));
+            same(&rt, &(a, b), &compare(a, b), &i.cmp(&j));
         }
-        assert_eq!(rt; &a.copy()?, a);
+        same(&rt, &"a copy", &a.copy()?, a);
     }
     Ok(())
 }
@@ -310,18 +312,18 @@ fn values_are_ordered(rt: HostRuntime) -> Result<(), Fail> {
 #[test]
 fn rows_have_cells(rt: HostRuntime) -> Result<(), Fail> {
     let mut row = Row::new(rt.alloc());
-    for number in [7, 8, 9, 10, 11] {
-        assert_eq!(rt; row.cell(row.len()), &Value::Null);
+    for &number in &[7, 8, 9, 10, 11] {
+        same(&rt, &number, row.cell(row.len()), &Value::Null);
         row.push(Value::Number(number))?;
     }
-    assert_eq!(rt; row.cell(4), &Value::Number(11));
+    same(&rt, &"the last cell", row.cell(4), &Value::Number(11));
     let again = Row::from_vec(row.copy()?.into_vec()?);
     let version = Version {
         row,
         begin: 3,
         end: Some(4),
     };
-    assert_eq!(rt; version.copy()?.row, again);
+    same(&rt, &"a version", &version.copy()?.row, &again);
     Ok(())
 }
 
@@ -330,7 +332,7 @@ fn table(alloc: Global) -> Result<Schema, Memory>
     ensures { IfOk result (λ schema. schema.key ≡ 1) }
 {
     let mut columns = Items::new(alloc);
-    for name in [b"v".as_slice(), b"k"] {
+    for &name in &[b"v".as_slice(), b"k"] {
         columns.push(Column {
             name: bytes(alloc, name)?,
             kind: ColumnType::BigInt,
@@ -347,10 +349,10 @@ fn table(alloc: Global) -> Result<Schema, Memory>
 #[test]
 fn keys_are_found(rt: HostRuntime) -> Result<(), Fail> {
     let schema = table(rt.alloc())?;
-    assert_eq!(rt; &schema.copy()?, &schema);
+    same(&rt, &"a copy", &schema.copy()?, &schema);
     let mut row = Row::new(rt.alloc());
     row.push(Value::Number(7))?;
     row.push(Value::Number(-8))?;
-    assert_eq!(rt; key_of(&schema, &row), Key(-8));
+    same(&rt, &"a row", &key_of(&schema, &row), &Key(-8));
     Ok(())
 }

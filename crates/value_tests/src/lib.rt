@@ -15,3 +15,5 @@ mod cs_predicate_tests;
 mod cs_types_tests;
 #[cfg(test)]
 mod log_summary_tests;
+#[cfg(test)]
+mod made;

@@ -151,12 +151,12 @@ pub fn joined(
 
 /// Adds the forms with the constant at a place, alone and beside the next one.
 fn add_at(forms: &mut Vec<Form>, at: usize) -> Result<(), Memory> {
-    for sign in SIGNS {
+    for &sign in &SIGNS {
         forms.push(Form::Compare(sign, at))?;
         forms.push(Form::Turned(sign, at))?;
     }
     let next = at.saturating_add(1);
-    for negated in [false, true] {
+    for &negated in &[false, true] {
         forms.push(Form::Between(negated, at, next))?;
         forms.push(Form::Between(negated, next, at))?;
         forms.push(Form::Among(negated, at, next))?;
@@ -166,7 +166,7 @@ fn add_at(forms: &mut Vec<Form>, at: usize) -> Result<(), Memory> {
 
 /// Adds the forms with a pattern.
 fn add_patterns(forms: &mut Vec<Form>) -> Result<(), Memory> {
-    for pattern in PATTERNS {
+    for &pattern in &PATTERNS {
         forms.push(Form::Like(false, pattern))?;
         forms.push(Form::Like(true, pattern))?;
     }
@@ -175,7 +175,7 @@ fn add_patterns(forms: &mut Vec<Form>) -> Result<(), Memory> {
 
 /// Adds the forms without a constant.
 fn add_bare(forms: &mut Vec<Form>) -> Result<(), Memory> {
-    for sign in SIGNS {
+    for &sign in &SIGNS {
         forms.push(Form::Beside(sign))?;
     }
     forms.push(Form::IsNull(false))?;

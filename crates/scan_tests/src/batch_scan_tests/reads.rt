@@ -331,7 +331,7 @@ fn verdicts_are_truths(rt: HostRuntime) -> Result<(), Fail> {
     let alloc = rt.alloc();
     for case in &CASES {
         let preds = preds_of(alloc, case)?;
-        for count in COUNTS {
+        for &count in &COUNTS {
             check_group(&rt, alloc, case, &preds, count)?;
         }
     }
@@ -343,7 +343,7 @@ fn scans_give_the_rows_that_are_read(rt: HostRuntime) -> Result<(), Fail> {
     let alloc = rt.alloc();
     for case in &CASES {
         let preds = preds_of(alloc, case)?;
-        for (setting, read) in SETTINGS {
+        for &(setting, read) in &SETTINGS {
             let found = check(&rt, alloc, case, &preds, MANY, &setting)?;
             let kind = case.kind;
             assert!(rt; found == read, "{found} of {kind:?} for {read}");
@@ -357,7 +357,7 @@ fn scans_give_rows_of_each_batch(rt: HostRuntime) -> Result<(), Fail> {
     let alloc = rt.alloc();
     for case in &CASES {
         let preds = preds_of(alloc, case)?;
-        for count in COUNTS {
+        for &count in &COUNTS {
             let _read = check(&rt, alloc, case, &preds, count, &MIXED)?;
         }
     }

@@ -118,7 +118,7 @@ fn check_skip(rt: &impl Abort, alloc: Global, skip: Skip) -> Result<(), Memory> 
 
 #[test]
 fn groups_are_skipped_by_their_bounds(rt: HostRuntime) -> Result<(), Fail> {
-    for (case, form, skipped) in ALONE {
+    for &(case, form, skipped) in &ALONE {
         check_skip(&rt, rt.alloc(), (case, Joint::First, form, form, skipped))?;
     }
     Ok(())
@@ -126,7 +126,7 @@ fn groups_are_skipped_by_their_bounds(rt: HostRuntime) -> Result<(), Fail> {
 
 #[test]
 fn groups_are_skipped_by_their_parts(rt: HostRuntime) -> Result<(), Fail> {
-    for skip in JOINED {
+    for &skip in &JOINED {
         check_skip(&rt, rt.alloc(), skip)?;
     }
     Ok(())

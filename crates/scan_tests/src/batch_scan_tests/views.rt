@@ -141,7 +141,7 @@ fn store_of(rt: &impl Abort, alloc: Global, case: &Case) -> Result<GroupPart, Me
     ensures { IfOk result IsFitting }
 {
     let mut store = Delta::new(alloc);
-    for (key, row, commit) in STORED {
+    for &(key, row, commit) in &STORED {
         let row = case_row(rt, alloc, case, key, row)?;
         store.reserve(1)?;
         store.prepare_key(Key(key))?;
