@@ -25,7 +25,7 @@ use Rattle.edit_laws.specs.Edits.{edits_of}
 use Rattle.delete_buffer.specs.Entries.{Ascend}
 use Rattle.write_set.specs.declared.write.Write.{Write}
 use Rattle.txn_table.specs.declared.txn.Txn.{Txn}
-use Rattle.txn_table.specs.Txns.{Table, txn_of, Owns, OwnsAs, IsHolder}
+use Rattle.txn_table.specs.Txns.{Table, txn_of, own_of, Owns, OwnsAs, IsHolder}
 use Rattle.version_store.specs.declared.NewestChange.{NewestChange}
 use Rattle.version_store.specs.Newest.{Changes, above}
 use Rattle.group_book.specs.Commits.{is_one_of}
@@ -149,6 +149,20 @@ module _ (m : State) (session s : ℕ) (present : List Key) (key : Key) where
     pub no_obstacle : (found : Option Refusal) → is_some found ≡ false → IsChanged m.changes s key found → is_one_of present key ≡ false → IsObstacle m session (Some s) (is_one_of present) key None
     no_obstacle None none h is = (free_in, h, is)
     no_obstacle (Some refusal) none h is = absurd (cc none)
+
+-- no key has one, where no other transaction has own writes, no change is noted and no key is present
+pub never_obstacle : (m : State) (session s : ℕ) (key : Key) (table : Table) (pruned : ℕ) (noted : Changes) (present : List Key) → m.txns ≡ txns_of table → IsRecent pruned noted m.changes → pruned ≤ s
+    → ((other : ℕ) → other ≢ session → own_of (txn_of table other) ≡ []) → finite.len noted ≡ 0 → present ≡ [] → IsObstacle m session (Some s) (is_one_of present) key None
+never_obstacle m session s key table pruned noted present same recent low bare few none = no_obstacle m session s present key table same free None refl unchanged (ap (λ keys. is_one_of keys key) none)
+  where
+    free : IsFree (txns_of table) session key
+    free = free_is table key session (λ other apart owns. bare_owns (own_of (txn_of table other)) (bare other apart) owns)
+      where
+        bare_owns : (own : List Write) → own ≡ [] → Any (λ (write : Write). write.key ≡ key) own → ⊥
+        bare_owns own is (k, write, within, at, h) = omega (arith, within, ap length is)
+
+    unchanged : IsChanged m.changes s key None
+    unchanged = unchanged_at pruned s noted m.changes key recent low (ap (λ (map : Changes). above s (finite.get map key)) (finite.empty_of_len noted few) ∙ ap (above s) (finite.get-empty key_cmp key))
 
 -- ---- the least key that has one
 

@@ -1,6 +1,7 @@
 // The obstacle of a write: why it may not be laid over the own writes of its transaction.
-ghost use Rattle.std.specs.Prelude.{◌≡◌, ◌≤◌, ℕ, List, IsSome, IfSome, IfNone, Some};
+ghost use Rattle.std.specs.Prelude.{◌≡◌, ◌≤◌, ℕ, List, IsTrue, IsSome, IfSome, IfNone, None, Some};
 ghost use Rattle.std.specs.FinMap as finite;
+ghost use Rattle.cs_types.specs.declared.Key.{Key};
 ghost use Rattle.cs_model.specs.Changes.{Change};
 ghost use Rattle.cs_model.specs.Obstacles.{IsFree, IsJudged, IsLocked, IsObstacle};
 ghost use Rattle.cs_model.specs.State.{State};
@@ -78,6 +79,20 @@ impl Directory {
         None
     }
 
+    /// Whether no key has an obstacle, as is seen without a look at one: no other session's transaction has own writes, no change is
+    /// noted, and no key would stand twice.
+    fn has_no_obstacles(&self, session: u32, present: &[Key]) -> bool
+        ensures { IsTrue result → (m : State) (s : ℕ) (key : Key) → Stands self.now m.changes → m.txns ≡ txns_of self.now.txns → self.now.pruned ≤ s → IsObstacle m session (Some s) (is_one_of present.now) key None }
+    {
+        if !present.is_empty() {
+            return false;
+        }
+        if 0 < self.recent.len() {
+            return false;
+        }
+        !self.txns.others_write(session)
+    }
+
     /// The obstacle of a write of these keys in a session's transaction, which has a snapshot: that of the least key that has one.
     /// On one key it is 1222, where another open transaction has written the key; else 3960, where the key's newest change is above
     /// the snapshot; else 2627, where the key is one of those that an INSERT would make stand twice. Both lists ascend. None exactly
@@ -93,6 +108,9 @@ impl Directory {
         let Some(snapshot) = self.txns.snapshot(session) else {
             unreachable!();
         };
+        if self.has_no_obstacles(session, present) {
+            return None;
+        }
         for key in keys {
             let found = self.obstacle_at(session, snapshot, present, *key);
             if found.is_some() {
