@@ -23,7 +23,7 @@ fn is_cut(alloc: Global, bytes: &[u8], expected: &[Piece]) -> bool
     let Ok(found) = tokens(alloc, bytes) else {
         return false;
     };
-    for (token, piece) in found.iter().zip(expected) {
+    for (token, piece) in found.as_slice().iter().zip(expected) {
         if *token != token_of(*piece) {
             return false;
         }
@@ -325,7 +325,7 @@ fn the_longest_text(rt: HostRuntime) -> Result<(), TokenRefusal> {
     let last = token_of((Sign, 131_071, 131_072));
     let length = found.len();
     assert!(rt;
-        length == 131_072 && found.last() == Some(&last),
+        length == 131_072 && found.as_slice().last() == Some(&last),
         "{length}"
     );
     Ok(())
