@@ -356,3 +356,16 @@ fn keys_are_found(rt: HostRuntime) -> Result<(), Fail> {
     same(&rt, &"a row", &key_of(&schema, &row), &Key(-8));
     Ok(())
 }
+
+/// A cell that is taken out leaves NULL in its place, and past the end there is none.
+#[test]
+fn cells_are_taken_out(rt: HostRuntime) -> Result<(), Fail> {
+    let mut row = Row::new(rt.alloc());
+    row.push(Value::Number(7))?;
+    row.push(Value::Number(8))?;
+    same(&rt, &"the first cell", &row.take(0), &Value::Number(7));
+    same(&rt, &"what it left", &row.take(0), &Value::Null);
+    same(&rt, &"past the end", &row.take(2), &Value::Null);
+    same(&rt, &"the last cell", row.cell(1), &Value::Number(8));
+    Ok(())
+}
