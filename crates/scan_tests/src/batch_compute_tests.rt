@@ -188,7 +188,7 @@ const CASES: [(
     (ColumnType::Int, (1, 2), Given::Half, None),
     (ColumnType::Int, (1, 2), Given::AndNull, None),
     (ColumnType::VarChar { n: 1 }, (1, 2), Given::Text, None),
-    (ColumnType::Int, (1, 1_048_577), Given::Number, None),
+    (ColumnType::Int, (1, 16_777_217), Given::Number, None),
 ];
 
 #[test]
