@@ -213,7 +213,7 @@ fn share_sources(
     let mut parts = Items::new(alloc);
     for group in groups.iter_mut() {
         if is_next(sources, parts.len(), group.id) {
-            add_share(alloc, group, &mut parts)?;
+            add_part(alloc, group, &mut parts)?;
         }
     }
     Ok(parts)

@@ -10,15 +10,15 @@ use Rattle.group_directory.specs.Sharing.{picks}
 use Rattle.group_directory.proofs.Held.{Fits}
 use Rattle.group_directory.proofs.Mapped.{map-set_alike}
 use Rattle.group_directory.proofs.Shared.{next_picks, not_picked, picked_more, picked_shown}
-use Rattle.group_directory.proofs.share.share_sources.Goals.{then-is_next+in_ok-add_share, else-is_next}
+use Rattle.group_directory.proofs.share.share_sources.Goals.{then-is_next+in_ok-add_part, else-is_next}
 use Rattle.group_directory.proofs.share.share_sources.Goals as goal
 
 abbrev FitsPart : ℕ × GroupPart → Type 0
 FitsPart part = IsFitting part.1
 
-pub returns-in_err-add_share-clause-seen : goal.returns-in_err-add_share-clause-seen
-returns-in_err-add_share-clause-seen c =
-    map-set_alike seen c.loop-group.groups c.loop-group.group-index c.group-item.result c.add_share.new.group c.add_share.ensures.seen ∙ c.loop-group.invariant.alike
+pub returns-in_err-add_part-clause-seen : goal.returns-in_err-add_part-clause-seen
+returns-in_err-add_part-clause-seen c =
+    map-set_alike seen c.loop-group.groups c.loop-group.group-index c.group-item.result c.add_part.new.group c.add_part.ensures.seen ∙ c.loop-group.invariant.alike
 
 pub loop-group-preserved : goal.loop-group-preserved
 loop-group-preserved c =
@@ -33,20 +33,20 @@ loop-group-preserved c =
     let here = get_or_default gs i c.group-item.result g inside in
     let next = next_picks sources all gs i c.len.result g parts c.requires.named held.alike inside here held.parts c.len.ensures in
     elim c.if-is_next.branch [
-      | then-is_next+in_ok-add_share w ↦
+      | then-is_next+in_ok-add_part w ↦
           let picked : picks sources (seen g) ≡ true = sym next.0 ∙ sym c.is_next.ensures ∙ w.if-is_next.true in
           record {
-            alike = ap (map seen) w.groups-is ∙ map-set_alike seen gs i c.group-item.result w.add_share.new.group w.in_ok-add_share.ensures.seen ∙ held.alike;
-            kept = subst (All Fits) (sym w.groups-is) (All-set Fits gs i w.add_share.new.group w.in_ok-add_share.ensures.kept held.kept);
+            alike = ap (map seen) w.groups-is ∙ map-set_alike seen gs i c.group-item.result w.add_part.new.group w.in_ok-add_part.ensures.seen ∙ held.alike;
+            kept = subst (All Fits) (sym w.groups-is) (All-set Fits gs i w.add_part.new.group w.in_ok-add_part.ensures.kept held.kept);
             parts =
-                ap (map part_entry) w.parts-is ∙ w.in_ok-add_share.ensures.parts
+                ap (map part_entry) w.parts-is ∙ w.in_ok-add_part.ensures.parts
                 ∙ ap (λ (l : List Seen). map part_entry parts ++ map entry_of l) (picked_shown sources all i (seen g) c.requires.named next.1 next.2 picked)
                 ∙ picked_more (map entry_of) (map-append entry_of) (picks sources) all gs i g (map part_entry parts) held.alike inside here held.parts;
             packed =
-                ap packed_parts w.parts-is ∙ w.in_ok-add_share.ensures.packed
+                ap packed_parts w.parts-is ∙ w.in_ok-add_part.ensures.packed
                 ∙ ap (λ (l : List Seen). packed_parts parts ++ packed_seen l) (picked_shown sources all i (seen g) c.requires.named next.1 next.2 picked)
                 ∙ picked_more packed_seen (flat_map-append (λ (s : Seen). s.packed)) (picks sources) all gs i g (packed_parts parts) held.alike inside here held.packed;
-            fitting = subst (All FitsPart) (sym w.parts-is) (w.in_ok-add_share.ensures.fitting held.fitting);
+            fitting = subst (All FitsPart) (sym w.parts-is) (w.in_ok-add_part.ensures.fitting held.fitting);
           }
       | else-is_next w ↦
           let picked : picks sources (seen g) ≡ false = sym next.0 ∙ sym c.is_next.ensures ∙ w.if-is_next.false in
