@@ -7,7 +7,7 @@ use Rattle.cs_types.specs.declared.Key.{Key}
 use Rattle.cs_types.specs.Keys.{same_key}
 use Rattle.cs_types.proofs.KeyLemmas.{one_key}
 use Rattle.delta_store.specs.Filters.{slot_of, may_have, AreAllAdmitted}
-use Rattle.delta_store.specs.Index.{place_in}
+use Rattle.delta_store.specs.Index.{place_in, SetsOnly}
 use Rattle.delta_store.proofs.Pairs.{place_in-append}
 
 differ : true ≡ false → ⊥
@@ -36,19 +36,28 @@ module _ (marks : List Bool) (count at : ℕ) (key : Key) (sized : length marks 
   is_marked : get_or marked at true ≡ true
   is_marked = get_or-set_same marks at true true (omega (arith, sized, within))
 
-  added : IsTrue (may_have marked key)
+  pub added : IsTrue (may_have marked key)
   added = at_slot key ∙ ap (λ n. get_or marked n true) (sym is) ∙ is_marked
 
   -- what is not admitted then was not before
-  before : (q : Key) → may_have marked q ≡ false → may_have marks q ≡ false
+  pub before : (q : Key) → may_have marked q ≡ false → may_have marks q ≡ false
   before q none = elim (cases_eq (slot_of count q) at) [
     | inl same ↦ absurd (differ (sym (at_slot q ∙ ap (λ n. get_or marked n true) same ∙ is_marked) ∙ none))
     | inr differs ↦ ap (λ n. get_or marks (slot_of n q) true) sized ∙ sym (get_or-set_other marks at (slot_of count q) true true differs) ∙ sym (at_slot q) ∙ none
   ]
 
+-- one filter after a key was added, and the filter before it
+module _ (old new : List Bool) (key : Key) (added : IsTrue (may_have new key)) (kept : (q : Key) → may_have new q ≡ false → may_have old q ≡ false) where
   -- so the key's pair may stand after others
-  pub admitted-more : (pairs : List (Key × ℕ)) (place : ℕ) → AreAllAdmitted marks pairs → AreAllAdmitted marked (pairs ++ (key, place) ∷ [])
+  pub admitted-more : (pairs : List (Key × ℕ)) (place : ℕ) → AreAllAdmitted old pairs → AreAllAdmitted new (pairs ++ (key, place) ∷ [])
   admitted-more pairs place all q none =
       place_in-append pairs ((key, place) ∷ []) q
-      ∙ ap (λ o. option_or o (place_in ((key, place) ∷ []) q)) (all q (before q none))
-      ∙ ap (λ t. cond t (Some place) None) (other marked key q added none)
+      ∙ ap (λ o. option_or o (place_in ((key, place) ∷ []) q)) (all q (kept q none))
+      ∙ ap (λ t. cond t (Some place) None) (other new key q added none)
+
+  -- and the key may have a place among pairs, the others theirs
+  pub admitted-set : (pairs after : List (Key × ℕ)) (place : ℕ) → SetsOnly pairs after key place → AreAllAdmitted old pairs → AreAllAdmitted new after
+  admitted-set pairs after place sets all q none =
+      sets q
+      ∙ ap (λ t. cond t (Some place) (place_in pairs q)) (other new key q added none)
+      ∙ all q (kept q none)

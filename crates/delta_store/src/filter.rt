@@ -1,5 +1,5 @@
 // Which keys a run may have.
-ghost use Rattle.std.specs.Prelude.{◌≡◌, ◌<◌, IsTrue, IfOk};
+ghost use Rattle.std.specs.Prelude.{◌≡◌, ◌<◌, false, length, IsTrue, IfOk};
 ghost use Rattle.cs_types.specs.declared.Key.{Key};
 ghost use Rattle.delta_store.specs.Filters.{slot_of, may_have, AreAllAdmitted};
 
@@ -13,7 +13,7 @@ use std::marker::Model;
 const SLOTS: usize = 16;
 
 /// A filter of keys (Bloom, CACM 1970, with one hash function): a slot for each key, shared with others, is marked where one of them is
-/// among those that it was made of. One look at a slot without a mark tells that the key is none of them. Without slots it admits every
+/// among those that were added. One look at a slot without a mark tells that the key is none of them. Without slots it admits every
 /// key. Contracts see the marks.
 #[derive(Debug, Drop)]
 pub struct Filter {
@@ -38,20 +38,40 @@ impl Filter {
         }
     }
 
-    /// A filter that admits the keys of these pairs. The number of slots is odd, so that keys whose distances are powers of two reach
-    /// every slot.
-    pub fn of(alloc: Global, pairs: &[(Key, usize)]) -> Result<Filter, Memory>
-        ensures { IfOk result (λ filter. AreAllAdmitted filter pairs.now) }
+    /// A filter for so many keys, with the memory for the marks of all of them. The number of slots is odd, so that keys whose distances
+    /// are powers of two reach every slot.
+    pub fn for_keys(alloc: Global, keys: usize) -> Result<Filter, Memory>
+        ensures { IfOk result (λ filter. 0 < length filter) }
     {
-        let count = pairs.len().saturating_mul(SLOTS) | 1;
-        let mut slots = Positions::none(alloc, count);
-        for pair in pairs {
-            slots.insert(slot_of(pair.0, count))?;
-        }
+        let mut slots = Positions::none(alloc, keys.saturating_mul(SLOTS) | 1);
+        // The first mark takes the memory of all slots.
+        slots.insert(0)?;
         Ok(Filter { slots })
     }
 
-    /// Whether a key may be one of those that the filter was made of.
+    /// A filter that admits the keys of these pairs.
+    pub fn of(alloc: Global, pairs: &[(Key, usize)]) -> Result<Filter, Memory>
+        ensures { IfOk result (λ filter. AreAllAdmitted filter pairs.now) }
+    {
+        let mut filter = Filter::for_keys(alloc, pairs.len())?;
+        for pair in pairs {
+            filter.add(alloc, pair.0);
+        }
+        Ok(filter)
+    }
+
+    /// Admits one key more. It takes no memory; a filter whose slots could not be marked without would admit every key from then on.
+    pub fn add(&mut self, alloc: Global, key: Key)
+        ensures added { IsTrue (may_have self.new key) }
+        ensures kept { (other : Key) → may_have self.new other ≡ false → may_have self.old other ≡ false }
+    {
+        let count = self.slots.len();
+        if count > 0 && self.slots.insert(slot_of(key, count)).is_err() {
+            *self = Filter::new(alloc);
+        }
+    }
+
+    /// Whether a key may be one of those that were added.
     pub fn may_have(&self, key: Key) -> bool
         ensures { result ≡ may_have self.now key }
     {

@@ -9,7 +9,7 @@ use cs_types::Key;
 use std::alloc::Global;
 use std::marker::Model;
 
-/// A run that is sealed or merged has a filter if it has more keys than this.
+/// A run that is merged, or takes so many keys at once, has a filter if it has more keys than this.
 const UNFILTERED: usize = 1024;
 
 /// A place for each key of some, in the order of keys. Contracts see the pairs of key and place, and beside them `spare`,
@@ -17,8 +17,7 @@ const UNFILTERED: usize = 1024;
 #[derive(Debug, Drop)]
 pub struct Run {
     pairs: Vec<(Key, usize)>,
-    /// The keys that it may have. A look-up of any other one ends here, and reads no pair. A run of few keys, and one that is
-    /// still given places, admits every key.
+    /// The keys that it may have. A look-up of any other one ends here, and reads no pair. A run of few keys admits every key.
     filter: Filter,
 }
 
@@ -54,12 +53,15 @@ impl Run {
         self.pairs.len()
     }
 
-    /// Makes room for `n` keys. After `Memory` the pairs are as before.
+    /// Makes room for `n` keys, in the filter too where these are many and the first. After `Memory` the pairs are as before.
     pub fn reserve(&mut self, n: usize) -> Result<(), Memory>
         ensures room { OnOk result (n ≤ self.new.spare) }
         ensures pairs { self.new.pairs ≡ self.old.pairs }
     {
         self.pairs.reserve(n)?;
+        if self.pairs.is_empty() && UNFILTERED < n {
+            self.filter = Filter::for_keys(*self.pairs.allocator(), n)?;
+        }
         Ok(())
     }
 
@@ -83,7 +85,7 @@ impl Run {
         ensures pairs { SetsOnly self.old.pairs self.new.pairs key place }
         ensures room { self.old.spare ≤ self.new.spare + 1 }
     {
-        self.filter = Filter::new(*self.pairs.allocator());
+        self.filter.add(*self.pairs.allocator(), key);
         match self.search(key) {
             Ok(at) => {
                 self.pairs[at] = (key, place);
@@ -105,7 +107,7 @@ impl Run {
     }
 
     /// Gives a run of many keys, which is complete now, a filter of them.
-    pub fn add_filter(&mut self, alloc: Global) -> Result<(), Memory>
+    fn add_filter(&mut self, alloc: Global) -> Result<(), Memory>
         ensures { self.new.pairs ≡ self.old.pairs }
     {
         if UNFILTERED < self.pairs.len() {

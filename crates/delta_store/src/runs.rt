@@ -45,8 +45,8 @@ pub fn between(
     Ok(cut)
 }
 
-/// Puts the own run behind the others as their newest, a long one with a filter, and leaves an empty one in its place. Without a pair it
-/// does nothing. No pair is copied. After `Memory` all pairs are as before.
+/// Puts the own run behind the others as their newest, and leaves an empty one in its place. Without a pair it does nothing. No pair is
+/// copied or looked at. After `Memory` all pairs are as before.
 pub fn seal(runs: &mut Vec<Arc<Run>>, own: &mut Run, alloc: Global) -> Result<(), Memory>
     ensures pairs { own.new.pairs ++ pairs_of runs.new.items ≡ own.old.pairs ++ pairs_of runs.old.items }
     ensures own { OnOk result (own.new.pairs ≡ []) }
@@ -55,7 +55,6 @@ pub fn seal(runs: &mut Vec<Arc<Run>>, own: &mut Run, alloc: Global) -> Result<()
         return Ok(());
     }
     runs.reserve(1)?;
-    own.add_filter(alloc)?;
     match Arc::new(alloc, mem::replace(own, Run::new(alloc))) {
         Ok(run) => {
             runs.push_reserved(run);

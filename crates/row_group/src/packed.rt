@@ -149,7 +149,8 @@ impl Packed {
     }
 
     /// The places of a key among the positions by key, which hold the positions of all its rows. At once for a key below
-    /// the least or above the greatest; else by one binary search, and from there by steps that double.
+    /// the least or above the greatest; else by steps that double from where it would stand if the keys lay evenly, or by one binary
+    /// search.
     pub fn find(&self, key: Key) -> Places
         ensures { ArePlacesOf self.now key result.from result.to }
     {
@@ -157,7 +158,8 @@ impl Packed {
     }
 
     /// The places of a key, as `find` gives them. Where the keys at all places before `near` come before this one it takes
-    /// steps that double from there, so a walk over keys in order begins each search where the one before ended.
+    /// steps that double from there, or from a later place where the key may stand, so a walk over keys in order begins each search where
+    /// the one before ended or closer.
     pub fn find_near(&self, near: usize, key: Key) -> Places
         ensures { ArePlacesOf self.now key result.from result.to }
     {
@@ -194,10 +196,24 @@ impl Packed {
     fn first_near(&self, near: usize, key: Key) -> usize
         ensures { IsFirstPlace self.now key false result }
     {
-        if self.is_start(near, key) {
-            return self.place_from(near, key, false);
+        let guess = self.guess(key);
+        let (later, earlier) = (near.max(guess), near.min(guess));
+        if self.is_start(later, key) {
+            return self.place_from(later, key, false);
+        }
+        if self.is_start(earlier, key) {
+            return self.place_from(earlier, key, false);
         }
         self.first_place(0, self.places.len(), key, false)
+    }
+
+    /// The place that a key would have if the group's keys lay evenly between their least and their greatest. Any place will do, and
+    /// a search that begins there ends soon where they nearly do.
+    fn guess(&self, key: Key) -> usize {
+        match bounds_of(self.segment(self.key)) {
+            Some(bounds) => even_place(bounds, self.places.len(), key),
+            None => 0,
+        }
     }
 
     /// Whether a place is not past the last, and the keys at all places before it come before this one.
@@ -314,6 +330,14 @@ fn side_to(key: Key, bounds: (i64, i64)) -> Ordering
     } else {
         Ordering::Equal
     }
+}
+
+/// The place of a key among so many that lie evenly from the first bound to the second, and 0 where that takes more than 64 bits.
+fn even_place(bounds: (i64, i64), places: usize, key: Key) -> usize {
+    let span = bounds.1.wrapping_sub(bounds.0).cast_unsigned();
+    let above = key.0.wrapping_sub(bounds.0).cast_unsigned();
+    let scaled = above.checked_mul(places.saturating_sub(1) as u64).unwrap_or(0);
+    scaled.checked_div(span).unwrap_or(0) as usize
 }
 
 /// The begin that stands at a position, if one does.

@@ -1,6 +1,6 @@
-use Rattle.std.proofs.Common.{◌≡◌, length, take}
+use Rattle.std.proofs.Common.{take}
 use Rattle.delta_store.specs.Filters.{AreAllAdmitted}
 use Rattle.delta_store.proofs.filter.Filter.of.Given as goal
 
 abbrev pub invariant-loop-pair : goal.invariant-loop-pair
-invariant-loop-pair l = (length l.slots ≡ l.count) × AreAllAdmitted l.slots (take l.pair-index l.pairs)
+invariant-loop-pair l = AreAllAdmitted l.filter (take l.pair-index l.pairs)
