@@ -24,13 +24,14 @@ use std::alloc::Global;
 /// A position that is put into a set in the order of the keys takes about as much time as so many verdicts by codes.
 const SHARE: usize = 4;
 
-/// So many positions take no more time than what a scan by codes makes before its first verdict.
-const SOME: usize = 64;
+/// A range of at most so many positions is small: to put them into a set takes no more time than a scan by codes takes before its first
+/// verdict.
+const SMALL: usize = 64;
 
 /// Adds the rows of a packed group that are read and that the filter keeps, by codes, where the filter keeps the rows of a range of
 /// keys and no others: they are found by their keys, and no verdict is asked for. False where nothing has changed: the filter is
-/// another one, the keys are those of more than a quarter of the rows, and of more than `SOME`, the group has other than as many columns as the table, or as
-/// `tally_group` has it.
+/// another one, the range is neither small nor one of at most a quarter of the rows, the group has other than as many columns as the
+/// table, or as `tally_group` has it.
 pub fn tally_range(
     alloc: Global,
     partial: &mut Partial<'_>,
@@ -63,7 +64,7 @@ pub fn tally_range(
     if positions.is_empty() {
         return Ok(true);
     }
-    if positions.len() > (packed.len() / SHARE).max(SOME) {
+    if positions.len() > (packed.len() / SHARE).max(SMALL) {
         return Ok(false);
     }
     let shown = Shown::of(alloc, pinned, packed, marks)?;
