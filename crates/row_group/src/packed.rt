@@ -336,7 +336,9 @@ fn side_to(key: Key, bounds: (i64, i64)) -> Ordering
 fn even_place(bounds: (i64, i64), places: usize, key: Key) -> usize {
     let span = bounds.1.wrapping_sub(bounds.0).cast_unsigned();
     let above = key.0.wrapping_sub(bounds.0).cast_unsigned();
-    let scaled = above.checked_mul(places.saturating_sub(1) as u64).unwrap_or(0);
+    let scaled = above
+        .checked_mul(places.saturating_sub(1) as u64)
+        .unwrap_or(0);
     scaled.checked_div(span).unwrap_or(0) as usize
 }
 

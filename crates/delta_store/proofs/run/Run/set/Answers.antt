@@ -8,8 +8,7 @@ returns-in-Ok-clause-pairs c = rw (← c.self.view_is) (sets_only_set c.self.ins
 
 pub invariant_of-self-in-Ok : goal.invariant_of-self-in-Ok
 invariant_of-self-in-Ok c =
-    let pairs = c.self.inside.pairs.items in
-    (
+    let pairs = c.self.inside.pairs.items in (
       search rules,
       admitted-set c.self.inside.filter c.add.new.self c.args.key c.add.ensures.added c.add.ensures.kept pairs _ c.args.place (sets_only_set pairs c.self.invariant.0 c.args.key c.in-Ok.at c.in-Ok.ensures.found c.args.place) c.self.invariant.1,
     )
