@@ -60,8 +60,8 @@ asks_script options (OnThreads movers) came left s whole a = a
 -- where a read failed, nothing was added
 pub fault_ends : (options : RunOptions) (way : Way) (came : List ℕ) (left : Option (List ℕ)) (before now : ℕ)
     → EndsFor (order_of options way) came left [] before now status.ReadFault
-fault_ends options ByLine came left before now = (tt, refl)
-fault_ends options (OnThreads movers) came left before now = (tt, refl)
+fault_ends options ByLine came left before now = (refl, refl)
+fault_ends options (OnThreads movers) came left before now = (refl, refl)
 
 -- the status and what comes of it where a write of the whole text fails
 module _ (order : Order) (came : List ℕ) (left : Option (List ℕ)) (whole added : List ℕ) (before now : ℕ) (front : IsFront added whole) (rose : Rose before now) where

@@ -1,5 +1,5 @@
 -- The order that words are, from the one that they are read as.
-use Rattle.std.proofs.Common.{◌≡◌, Some, None, Option, refl, sym, ap, subst}
+use Rattle.std.proofs.Common.{◌≡◌, Some, None, Option, refl, sym, ap, subst, true, false}
 use Rattle.command_words.specs.declared.order.Order.{Order}
 use Rattle.command_words.specs.declared.order.RunOptions.{RunOptions}
 use Rattle.command_words.specs.Orders.{Words, IsOrder, AreInRange}
@@ -38,8 +38,8 @@ given_way words read only one other way given was is =
 
 -- nor are those that are read as an order that draws its script
 pub no_draw : (options : RunOptions) (way : Way) → DrawsScript (order_of options way) → ⊥
-no_draw options ByLine drawn = drawn
-no_draw options (OnThreads movers) drawn = drawn
+no_draw options ByLine drawn = let differs : true ≡ false = drawn in cc
+no_draw options (OnThreads movers) drawn = let differs : true ≡ false = drawn in cc
 
 pub no_script : (words : Words) (read : Option Order) → IsReadAs words read → (given : Order) → read ≡ Some given → DrawsScript given → (options : RunOptions) (way : Way) → IsOrder words (order_of options way) → ⊥
 no_script words read only given was drawn options way is = no_draw options way (subst DrawsScript (is_given words read only given (order_of options way) was is) drawn)

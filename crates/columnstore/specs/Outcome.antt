@@ -1,12 +1,13 @@
 -- What the program does: for which words and input it ends with which status, and what it has written then.
-use Rattle.std.specs.Prelude.{◌≡◌, ◌≢◌, ◌⊎◌, ℕ, ◌<◌, ◌≤◌, List, [], ◌∷◌, ◌++◌, length, codes, decimal, Option, ◌==◌, if◌then◌else◌}
+use Rattle.std.specs.Prelude.{◌≡◌, ◌≢◌, ◌⊎◌, ℕ, ◌<◌, ◌≤◌, List, [], ◌∷◌, ◌++◌, length, codes, decimal, Option, ◌==◌, if◌then◌else◌, true, false}
 use Rattle.cs_base.specs.Counts.{Rose}
 use Rattle.cs_outside.specs.Outside.{IsAtEnd}
 use Rattle.command_words.specs.declared.order.Order.{Order}
 use Rattle.command_words.specs.declared.order.Order.TheVariants.{Replay, Run, Generate, Load}
 use Rattle.command_words.specs.declared.order.RunOptions.{RunOptions}
 use Rattle.command_words.specs.declared.order.Workload.{Workload}
-use Rattle.command_words.specs.Orders.{Words, IsOrder}
+use Rattle.command_words.specs.Options.{reads_input}
+use Rattle.command_words.specs.Orders.{Words, IsOrder, mode_in}
 use Rattle.script_workload.specs.Workload.{workload}
 use Rattle.cs_model.specs.declared.entry.Entry.{Entry}
 use Rattle.cs_model.specs.State.{begin_of}
@@ -37,17 +38,11 @@ order_of options (OnThreads movers) = Run options movers
 
 -- the order reads the input
 abbrev pub ReadsInput : Order → Type 0
-ReadsInput (Replay options) = Unit {0}
-ReadsInput (Run options movers) = Unit {0}
-ReadsInput (Generate drawn) = ⊥
-ReadsInput (Load drawn options) = ⊥
+ReadsInput order = reads_input (mode_in order) ≡ true
 
 -- the order reads nothing: the script is drawn
 abbrev pub DrawsScript : Order → Type 0
-DrawsScript (Replay options) = ⊥
-DrawsScript (Run options movers) = ⊥
-DrawsScript (Generate drawn) = Unit {0}
-DrawsScript (Load drawn options) = Unit {0}
+DrawsScript order = reads_input (mode_in order) ≡ false
 
 -- the script of a workload
 abbrev pub drawn_script : Workload → List ℕ

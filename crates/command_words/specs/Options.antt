@@ -1,5 +1,5 @@
 -- The modes of the program, their options, and the values that these take.
-use Rattle.std.specs.Prelude.{ℕ, List, [], ◌∷◌, length, codes, Bool, ◌&&◌, nat_le}
+use Rattle.std.specs.Prelude.{ℕ, List, [], ◌∷◌, length, codes, Bool, true, false, ◌&&◌, nat_le}
 use Rattle.std.specs.List.{list_all}
 use Rattle.cs_types.specs.Calendar.{is_digit, digits_value}
 use Rattle.command_words.specs.declared.mode.Mode.{Mode}
@@ -12,7 +12,7 @@ pub record OptionRow : Type 0 where
   pub greatest : ℕ
   pub usual : ℕ
 
--- ---- the table
+-- ---- the table of options
 
 abbrev pub group_rows_row : OptionRow
 group_rows_row = record { name = codes "--group-rows"; least = 2; greatest = 1048576; usual = 1048576 }
@@ -35,23 +35,37 @@ sessions_row = record { name = codes "--sessions"; least = 1; greatest = 64; usu
 abbrev pub statements_row : OptionRow
 statements_row = record { name = codes "--statements"; least = 0; greatest = 200000; usual = 1000 }
 
+-- ---- the table of modes
+
+-- a line of it: the mode's word, its options, and whether it reads the input
+pub record ModeRow : Type 0 where
+  pub name : List ℕ
+  pub options : List OptionRow
+  pub reads_input : Bool
+
 -- the modes
 abbrev pub modes : List Mode
 modes = Replay ∷ Run ∷ Generate ∷ Load ∷ []
 
--- the word of a mode
-abbrev pub name_of : Mode → List ℕ
-name_of Replay = codes "replay"
-name_of Run = codes "run"
-name_of Generate = codes "generate"
-name_of Load = codes "load"
+-- the line of a mode
+abbrev pub line_of : Mode → ModeRow
+line_of Replay = record { name = codes "replay"; options = group_rows_row ∷ direct_rows_row ∷ workers_row ∷ []; reads_input = true }
+line_of Run = record { name = codes "run"; options = group_rows_row ∷ direct_rows_row ∷ workers_row ∷ movers_row ∷ []; reads_input = true }
+line_of Generate = record { name = codes "generate"; options = number_row ∷ sessions_row ∷ statements_row ∷ []; reads_input = false }
+line_of Load =
+    record { name = codes "load"; options = group_rows_row ∷ direct_rows_row ∷ workers_row ∷ number_row ∷ sessions_row ∷ statements_row ∷ []; reads_input = false }
 
--- the options of a mode
+-- its word
+abbrev pub name_of : Mode → List ℕ
+name_of mode = let line = line_of mode in line.name
+
+-- its options
 abbrev pub rows_of : Mode → List OptionRow
-rows_of Replay = group_rows_row ∷ direct_rows_row ∷ workers_row ∷ []
-rows_of Run = group_rows_row ∷ direct_rows_row ∷ workers_row ∷ movers_row ∷ []
-rows_of Generate = number_row ∷ sessions_row ∷ statements_row ∷ []
-rows_of Load = group_rows_row ∷ direct_rows_row ∷ workers_row ∷ number_row ∷ sessions_row ∷ statements_row ∷ []
+rows_of mode = let line = line_of mode in line.options
+
+-- whether it reads the input
+abbrev pub reads_input : Mode → Bool
+reads_input mode = let line = line_of mode in line.reads_input
 
 -- ---- values
 

@@ -53,6 +53,13 @@ order_with mode.Run value = order.Run (options_with value) (value movers_row)
 order_with mode.Generate value = order.Generate (workload_with value)
 order_with mode.Load value = order.Load (workload_with value) (options_with value)
 
+-- the mode of an order
+abbrev pub mode_in : Order → Mode
+mode_in (order.Replay options) = mode.Replay
+mode_in (order.Run options movers) = mode.Run
+mode_in (order.Generate workload) = mode.Generate
+mode_in (order.Load workload options) = mode.Load
+
 -- a value that an option may have
 abbrev pub IsWithin : OptionRow → ℕ → Type 0
 IsWithin row value = (row.least ≤ value) × (value ≤ row.greatest)

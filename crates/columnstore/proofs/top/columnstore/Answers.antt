@@ -1,4 +1,4 @@
-use Rattle.std.proofs.Common.{◌≡◌, map, string_bytes, [], refl, sym, subst}
+use Rattle.std.proofs.Common.{◌≡◌, map, string_bytes, [], refl, sym, subst, true, false}
 use Rattle.command_words.specs.declared.order.Order.TheVariants.{Replay, Run, Generate, Load}
 use Rattle.command_words.proofs.WordPairs.{in_range}
 use Rattle.script_reader.specs.Scripts.{IsScript}
@@ -46,13 +46,13 @@ pub returns-in-Some-Replay-clause-ends : goal.returns-in-Some-Replay-clause-ends
 returns-in-Some-Replay-clause-ends g c =
     let found = rw c.in-Some-Replay.field-0-is at c.in-Some-Replay.ensures.found in
     let ends = c.run_script.ensures.ends in
-    (ends.0, ends.1, ends.2, ends.3, served (Replay c.in-Some-Replay.options) found (λ drawn. absurd drawn) ends.4)
+    (ends.0, ends.1, ends.2, ends.3, served (Replay c.in-Some-Replay.options) found (λ drawn. let differs : true ≡ false = drawn in cc) ends.4)
 
 pub returns-in-Some-Run-clause-ends : goal.returns-in-Some-Run-clause-ends
 returns-in-Some-Run-clause-ends g c =
     let found = rw c.in-Some-Run.field-0-is at c.in-Some-Run.ensures.found in
     let ends = c.run_script-in-Some-Run.ensures.ends in
-    (ends.0, ends.1, ends.2, ends.3, served (Run c.in-Some-Run.options c.in-Some-Run.movers) found (λ drawn. absurd drawn) ends.4)
+    (ends.0, ends.1, ends.2, ends.3, served (Run c.in-Some-Run.options c.in-Some-Run.movers) found (λ drawn. let differs : true ≡ false = drawn in cc) ends.4)
 
 pub returns-in-Some-Replay-clause-complete : goal.returns-in-Some-Replay-clause-complete
 returns-in-Some-Replay-clause-complete g c = λ bytes options way script told is small reads.
@@ -71,12 +71,12 @@ returns-in-Some-Run-clause-complete g c = λ bytes options way script told is sm
 pub returns-in-Some-Replay-clause-untouched : goal.returns-in-Some-Replay-clause-untouched
 returns-in-Some-Replay-clause-untouched g c = λ none.
     let found = rw c.in-Some-Replay.field-0-is at c.in-Some-Replay.ensures.found in
-    absurd {A = c.run_script.new.input ≡ c.args.input.now} (none (Replay c.in-Some-Replay.options) found tt)
+    absurd {A = c.run_script.new.input ≡ c.args.input.now} (none (Replay c.in-Some-Replay.options) found refl)
 
 pub returns-in-Some-Run-clause-untouched : goal.returns-in-Some-Run-clause-untouched
 returns-in-Some-Run-clause-untouched g c = λ none.
     let found = rw c.in-Some-Run.field-0-is at c.in-Some-Run.ensures.found in
-    absurd {A = c.run_script-in-Some-Run.new.input ≡ c.args.input.now} (none (Run c.in-Some-Run.options c.in-Some-Run.movers) found tt)
+    absurd {A = c.run_script-in-Some-Run.new.input ≡ c.args.input.now} (none (Run c.in-Some-Run.options c.in-Some-Run.movers) found refl)
 
 pub returns-in-Some-Generate-clause-ends : goal.returns-in-Some-Generate-clause-ends
 returns-in-Some-Generate-clause-ends g c =
@@ -102,13 +102,13 @@ pub returns-in-Some-Generate-clause-complete : goal.returns-in-Some-Generate-cla
 returns-in-Some-Generate-clause-complete g c = λ bytes options way script told is small reads.
     let found = rw c.in-Some-Generate.field-0-is at c.in-Some-Generate.ensures.found in
     let read = c.of_words.ensures.only (Generate c.in-Some-Generate.workload) found in
-    absurd (no_script (map string_bytes c.args.words.now) c.of_words.result c.of_words.ensures.only (Generate c.in-Some-Generate.workload) read tt options way is)
+    absurd (no_script (map string_bytes c.args.words.now) c.of_words.result c.of_words.ensures.only (Generate c.in-Some-Generate.workload) read refl options way is)
 
 pub returns-in-Some-Load-clause-complete : goal.returns-in-Some-Load-clause-complete
 returns-in-Some-Load-clause-complete g c = λ bytes options way script told is small reads.
     let found = rw c.in-Some-Load.field-0-is at c.in-Some-Load.ensures.found in
     let read = c.of_words.ensures.only (Load c.in-Some-Load.workload c.in-Some-Load.options) found in
-    absurd (no_script (map string_bytes c.args.words.now) c.of_words.result c.of_words.ensures.only (Load c.in-Some-Load.workload c.in-Some-Load.options) read tt options way is)
+    absurd (no_script (map string_bytes c.args.words.now) c.of_words.result c.of_words.ensures.only (Load c.in-Some-Load.workload c.in-Some-Load.options) read refl options way is)
 
 pub returns-in-None-clause-ends : goal.returns-in-None-clause-ends
 returns-in-None-clause-ends g c =
