@@ -39,8 +39,8 @@ fn kept_number(column: &Column, number: i64) -> Option<i64>
 
 /// The cell that a column keeps of an expression over a number of a series, or of NULL where it is given none: a number, or NULL.
 ///
-/// None says only that the cell is not found in this way: a part of the expression has no `value` of 64 bits, or the column refuses what
-/// was computed.
+/// None says nothing of the cell: it is not found in this way. So it is where a part of the expression is no whole number of 64 bits, or
+/// the column refuses what was computed.
 pub fn series_cell(column: &Column, expr: Option<&Expr>, number: i64) -> Option<Option<i64>>
     requires { IsColumnType column.now.kind }
     ensures { IfSome result (λ cell. kept_over column.now (option_copied expr.entry) number ≡ Ok (number_cell cell)) }
@@ -182,7 +182,7 @@ fn is_null(literal: &Loose) -> bool
     matches!(literal, Loose::Null)
 }
 
-/// The cells that a column keeps of an expression over numbers of a series, which are NULLs where it is one.
+/// The cells that a column keeps of an expression over numbers of a series: all are NULL where the expression is NULL.
 fn cells_of(
     alloc: Global,
     column: &Column,
@@ -198,8 +198,8 @@ fn cells_of(
     }
 }
 
-/// The cells that a column keeps over numbers of a series. None where it keeps no number or NULL over one of them, or this way does
-/// not compute it.
+/// The cells that a column keeps of an expression over numbers of a series, or of NULL where it is given none. None where it keeps no
+/// number or NULL over one of them, or this way does not compute it.
 pub fn column_over(
     alloc: Global,
     column: &Column,

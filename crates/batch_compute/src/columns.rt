@@ -70,9 +70,9 @@ fn columns_over(
 /// The rows are those of `inserted` (Microsoft's page on INSERT: each value by its column's type, and NULL in a column that is not
 /// named).
 ///
-/// None says only that the rows are not made in this way: the plan has no series, or one of more than 2^24 numbers, or not each value
-/// is a whole number of 64 bits, computed from such numbers, or NULL as it stands, and one that its column keeps. `Memory` where there
-/// is no room for the columns.
+/// None says nothing of the rows: they are not made in this way. So it is where the plan has no series, or where a value is no whole
+/// number of 64 bits that is computed from such numbers, nor NULL as it stands, or its column does not keep it. `Memory` where there is no
+/// room for the columns.
 pub fn series_columns(
     alloc: Global,
     schema: &Schema,

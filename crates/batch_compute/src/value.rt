@@ -38,8 +38,8 @@ fn product_on(left: i64, rest: &[(Times, Expr)], number: i64) -> Option<i64>
 }
 
 /// The value of an expression over a number of a series, where all of it is arithmetic on whole numbers of 64 bits. None where a
-/// literal is another, also NULL or one with places, where a result or the quotient of a remainder is outside bigint, also one on the
-/// way, and where a divisor is 0.
+/// literal is another, also NULL or one with places, where a column is not the series' one, where a result or the quotient of a
+/// remainder is outside bigint, also one on the way, and where a divisor is 0.
 #[cycle(value)]
 pub fn value(expr: &Expr, number: i64) -> Option<i64>
     ensures { IfSome result (λ z. spec.compute expr.now (cells.Number number ∷ []) series_schema ≡ Ok (loose.Number z 0)) }
