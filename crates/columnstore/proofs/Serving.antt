@@ -1,12 +1,13 @@
 -- The order that words are, from the one that they are read as.
-use Rattle.std.proofs.Common.{◌≡◌, Some, None, Option, refl, sym, ap, subst, true, false}
+use Rattle.std.proofs.Common.{◌≡◌, ◌↔◌, Some, None, Option, refl, sym, ap, subst, true, false}
 use Rattle.command_words.specs.declared.order.Order.{Order}
+use Rattle.command_words.specs.declared.order.Order.TheVariants.{Replay, Run, Generate, Load}
 use Rattle.command_words.specs.declared.order.RunOptions.{RunOptions}
 use Rattle.command_words.specs.Orders.{Words, IsOrder, AreInRange}
 use Rattle.statement_core.specs.Terms.{AreTermsOf}
 use Rattle.columnstore.specs.declared.way.Way.{Way}
 use Rattle.columnstore.specs.declared.way.Way.TheVariants.{ByLine, OnThreads}
-use Rattle.columnstore.specs.Outcome.{order_of, DrawsScript}
+use Rattle.columnstore.specs.Outcome.{order_of, ReadsInput, DrawsScript}
 
 -- the order that the words are is the one that was read
 abbrev pub IsReadAs : Words → Option Order → Type 0
@@ -40,6 +41,13 @@ given_way words read only one other way given was is =
 pub no_draw : (options : RunOptions) (way : Way) → DrawsScript (order_of options way) → ⊥
 no_draw options ByLine drawn = let differs : true ≡ false = drawn in cc
 no_draw options (OnThreads movers) drawn = let differs : true ≡ false = drawn in cc
+
+-- exactly the orders to run the script of an input read it
+pub reading : (order : Order) → ReadsInput order ↔ ((options : RunOptions) × (way : Way) × (order ≡ order_of options way))
+reading (Replay options) = ((λ _. (options, ByLine, refl)), (λ _. refl))
+reading (Run options movers) = ((λ _. (options, OnThreads movers, refl)), (λ _. refl))
+reading (Generate drawn) = ((λ reads. let differs : false ≡ true = reads in cc), (λ has. absurd (no_draw has.0 has.1 (subst DrawsScript has.2 refl))))
+reading (Load drawn options) = ((λ reads. let differs : false ≡ true = reads in cc), (λ has. absurd (no_draw has.0 has.1 (subst DrawsScript has.2 refl))))
 
 pub no_script : (words : Words) (read : Option Order) → IsReadAs words read → (given : Order) → read ≡ Some given → DrawsScript given → (options : RunOptions) (way : Way) → IsOrder words (order_of options way) → ⊥
 no_script words read only given was drawn options way is = no_draw options way (subst DrawsScript (is_given words read only given (order_of options way) was is) drawn)

@@ -1,5 +1,5 @@
 -- What the program does: for which words and input it ends with which status, and what it has written then.
-use Rattle.std.specs.Prelude.{◌≡◌, ◌≢◌, ◌⊎◌, ℕ, ◌<◌, ◌≤◌, List, [], ◌∷◌, ◌++◌, length, codes, decimal, Option, ◌==◌, if◌then◌else◌, true, false}
+use Rattle.std.specs.Prelude.{◌≡◌, ◌≢◌, ◌⊎◌, ℕ, ◌<◌, ◌≤◌, List, [], ◌∷◌, ◌++◌, length, codes, decimal, Option, Some, ◌==◌, if◌then◌else◌, true, false}
 use Rattle.cs_base.specs.Counts.{Rose}
 use Rattle.cs_outside.specs.Outside.{IsAtEnd}
 use Rattle.command_words.specs.declared.order.Order.{Order}
@@ -123,9 +123,9 @@ abbrev pub IsAddedOf : ℕ → ℕ → List ℕ → List ℕ → Type 0
 IsAddedOf before now added whole = (added ≡ whole) ⊎ (Rose before now × IsFront added whole)
 
 -- what a status says of the bytes that were read for an order and of those that were added to the output, while the count of writes
--- that failed went from before to now. A write fault leaves a prefix of the text of a whole run, of a drawn script, of a summary or of a refusal. Where memory gives out
--- nothing was added; or a run on threads stopped for that, and the text of the log of what was done until then was added, or a prefix of
--- it where a write of it failed too
+-- that failed went from before to now. A write fault leaves a prefix of the text of a whole run, of a drawn script, of a summary or of
+-- a refusal. Where memory gives out nothing was added; or a run on threads stopped for that, and the text of the log of what was done
+-- until then was added, or a prefix of it where a write of it failed too
 abbrev pub EndsFor : Order → List ℕ → Option (List ℕ) → List ℕ → ℕ → ℕ → Status → Type 0
 EndsFor order came left added before now status.Done = Asks order came left status.Done added
 EndsFor order came left added before now status.Usage = ⊥
@@ -161,6 +161,15 @@ IsWrittenOrStopped status.Script = ⊥
 IsWrittenOrStopped status.ReadFault = ⊥
 IsWrittenOrStopped status.WriteFault = Unit {0}
 IsWrittenOrStopped status.Memory = Unit {0}
+
+-- for words that order to run a script which is the whole input, the run is done, or memory or a stream gives out
+abbrev pub AnswersScripts : Words → Option (List ℕ) → Status → Type 0
+AnswersScripts words input s =
+    (bytes : List ℕ) (options : RunOptions) (way : Way) (script : Script) → input ≡ Some bytes → IsOrder words (order_of options way) → length bytes ≤ limit → IsScript (mode_of way) bytes script → IsDoneOrStopped s
+
+-- for words that order a draw, all is written, or memory or the output gives out
+abbrev pub AnswersDraws : Words → Status → Type 0
+AnswersDraws words s = (order : Order) → IsOrder words order → DrawsScript order → IsWrittenOrStopped s
 
 -- the exit status
 abbrev pub code_of : Status → ℕ

@@ -3,10 +3,10 @@
 //!
 //! The one contract, on the top call: what is written is the text, or the summary, of a log that is legal from the empty state, that
 //! the row groups follow, that has each session's statements once and in order, and goes by the script line by line unless threads
-//! were asked for, or it is the script that was drawn; and every other status but want of memory, which is free, has its cause. Where a run on threads stopped for want of
-//! memory, the text is that of such a log with the first of each session's turns. It depends on `cs_outside`,
-//! `command_words`, `script_workload` with its law, `script_reader`, `script_runner`, `session_pool`, `statement_work`, `log_summary`
-//! and `cs_model`.
+//! were asked for, or it is the script that was drawn; and every other status but want of memory, which is free, has its cause. Where
+//! a run on threads stopped for want of memory, the text is that of such a log with the first of each session's turns. It depends on
+//! `cs_outside`, `command_words`, `script_workload` with its law, `script_reader`, `script_runner`, `session_pool`, `statement_work`,
+//! `log_summary` and `cs_model`.
 #![tactic(auto)]
 
 mod answer;

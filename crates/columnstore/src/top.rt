@@ -1,5 +1,5 @@
 // The top call.
-ghost use Rattle.std.specs.Prelude.{◌≡◌, ◌≢◌, ◌⊎◌, ◌≤◌, List, ℕ, map, length, codes, string_bytes, IfErr, MatchResult, Some};
+ghost use Rattle.std.specs.Prelude.{◌≡◌, ◌≢◌, ◌⊎◌, ◌↔◌, ◌≤◌, List, ℕ, map, length, codes, string_bytes, IfErr, MatchResult, Some};
 ghost use Rattle.std.specs.IoError.{error_kind};
 ghost use Rattle.std.specs.declared.io.ErrorKind.TheVariants as ErrorKind;
 ghost use Rattle.std.specs.Result.{ForOk};
@@ -13,7 +13,7 @@ ghost use Rattle.cs_outside.specs.Words.{AreWords};
 ghost use Rattle.script_reader.specs.declared.script.Script.{Script};
 ghost use Rattle.script_reader.specs.Scripts.{IsScript};
 ghost use Rattle.columnstore.specs.declared.way.Way.{Way};
-ghost use Rattle.columnstore.specs.Outcome.{limit, order_of, mode_of, ReadsInput, DrawsScript, EndsFor, EndsForWords, IsDoneOrStopped, IsWrittenOrStopped};
+ghost use Rattle.columnstore.specs.Outcome.{limit, order_of, mode_of, ReadsInput, AnswersScripts, AnswersDraws, EndsFor, EndsForWords, IsDoneOrStopped};
 ghost use Rattle.columnstore.specs.Written.{IsWritten};
 
 use crate::answer::answer;
@@ -110,10 +110,11 @@ pub fn columnstore<R: Threads + Wait + Sync, I: Source, O: Sink>(
         × Adds (O.held output.old) (O.held output.new) added
         × EndsForWords (map string_bytes words.now) came (I.left input.new) added (O.faults output.old) (O.faults output.new) result }
     // The words and a script are answered, unless memory or a stream gives out.
-    ensures complete { (bytes : List ℕ) (options : RunOptions) (way : Way) (script : Script) → I.left input.old ≡ Some bytes
-        → IsOrder (map string_bytes words.now) (order_of options way) → length bytes ≤ limit → IsScript (mode_of way) bytes script → IsDoneOrStopped result }
+    ensures complete { AnswersScripts (map string_bytes words.now) (I.left input.old) result }
     // So are words for which a script is drawn, whatever the input.
-    ensures drawn { (order : Order) → IsOrder (map string_bytes words.now) order → DrawsScript order → IsWrittenOrStopped result }
+    ensures drawn { AnswersDraws (map string_bytes words.now) result }
+    // Exactly the orders to run the script of an input read it.
+    ensures modes { (order : Order) → ReadsInput order ↔ ((options : RunOptions) × (way : Way) × (order ≡ order_of options way)) }
     // No call of the input is made for these, nor for words that are refused.
     ensures untouched { ((order : Order) → IsOrder (map string_bytes words.now) order → ReadsInput order → ⊥) → input.new ≡ input.old }
     ensures read_fault { result ≡ Status.ReadFault → Rose (I.faults input.old) (I.faults input.new) }
@@ -151,6 +152,7 @@ pub fn program<R: Threads + Wait + Sync, A: Iterator<Item = String> + Drop, I: S
         × Takes (I.left input.old) (I.left input.new) came
         × Adds (O.held output.old) (O.held output.new) added
         × EndsForWords words came (I.left input.new) added (O.faults output.old) (O.faults output.new) result
+        × AnswersScripts words (I.left input.old) result × AnswersDraws words result
         × (((order : Order) → IsOrder words order → ReadsInput order → ⊥) → input.new ≡ input.old))
         ⊎ ((result ≡ Status.Memory) × (input.new ≡ input.old) × (output.new ≡ output.old)) }
     // An argument that is no text is no want of memory.

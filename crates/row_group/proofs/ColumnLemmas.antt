@@ -1,17 +1,17 @@
 -- Columns of cells, and the rows that they show.
-use Rattle.std.proofs.Common.{◌≡◌, ℕ, suc, ◌+◌, ◌-◌, ◌<◌, ◌≤◌, inl, inr, List, [], ◌∷◌, ◌++◌, length, map, get_or, take, set, refl, sym, ◌∙◌, ap, subst, arith, length-append, below_more, Result, Ok, Err}
+use Rattle.std.proofs.Common.{◌≡◌, ℕ, suc, ◌+◌, ◌-◌, ◌<◌, ◌≤◌, inl, inr, List, [], ◌∷◌, ◌++◌, length, map, get_or, take, set, replicate, refl, sym, ◌∙◌, ap, subst, arith, length-append, below_more, Result, Ok, Err}
 use Rattle.std.specs.List.{All, range_with_len}
 use Rattle.std.specs.Result.{OnErr}
 use Rattle.std.proofs.lemmas.Bool.{cases_lt}
 use Rattle.std.proofs.Math.Seq.{take-append_seam}
-use Rattle.std.proofs.lemmas.List.{length-map, length-set, get_or-map, get_or-set_same, get_or-set_other, get_or_default, get_or_append_left, get_or-append_right, take_all, same_lists}
+use Rattle.std.proofs.lemmas.List.{length-map, length-set, get_or-map, get_or-set_same, get_or-set_other, get_or_default, get_or_past, get_or_append_left, get_or-append_right, take_all, same_lists}
 use Rattle.std.proofs.lemmas.List.FromFn.{fill_by_all, length-map-range_with_len, get_or-map-range_with_len}
 use Rattle.cs_types.specs.declared.Value.{Value}
 use Rattle.cs_types.specs.declared.Value.TheVariants.{Null}
 use Rattle.cs_types.specs.Rows.{cell_at}
 use Rattle.row_group.specs.Rows.{PackedRow, begin_above, begun_above}
 use Rattle.row_group.specs.Groups.{Group, row_at}
-use Rattle.row_group.specs.Packings.{AreEven, HaveMore, BeginAs, AreCut, cells_at, source_row, source_rows}
+use Rattle.row_group.specs.Packings.{AreEven, HaveMore, BeginAs, AreCut, cells_at, padded_at, source_row, source_rows}
 use Rattle.row_group.proofs.ShownLemmas.{cell_at-get_or, cell_at-map}
 
 pub row_of-source : (columns : List (List Value)) (begins : List ℕ) (k : ℕ) (d : PackedRow) → k < length begins → get_or (source_rows columns begins) k d ≡ source_row columns begins k
@@ -123,31 +123,37 @@ module _ (columns columns' : List (List Value)) (begins bs : List ℕ) (more : �
       ]))
 
 -- the rows at some positions of a group, column by column
-module _ (group : Group) (positions : List ℕ) (wide : All (λ row. length row.cells ≡ group.width) group.rows) (within : All (λ position. position < length group.rows) positions) where
+module _ (group : Group) (positions : List ℕ) (width : ℕ) where
   abbrev picked_begins : List ℕ
   picked_begins = map (λ position. (row_at group position).begin) positions
 
   abbrev picked_row : ℕ → PackedRow
-  picked_row k = record { cells = map (λ c. cell_at (cells_at group positions c) k) (range_with_len 0 group.width); begin = get_or picked_begins k 0 }
+  picked_row k = record { cells = map (λ c. cell_at (cells_at group positions c) k) (range_with_len 0 width); begin = get_or picked_begins k 0 }
 
-  cells-picked : (k : ℕ) → k < length positions → (row_at group (get_or positions k 0)).cells ≡ (picked_row k).cells
-  cells-picked k l =
-      let picked = row_at group (get_or positions k 0) in
-      let d : PackedRow = record { cells = []; begin = 0 } in
-      fill_by_all (λ c. cell_at (cells_at group positions c) k) picked.cells group.width Null (wide (get_or positions k 0) d (within k 0 l))
-      (λ c m. sym (cell_at-get_or picked.cells c) ∙ sym (cell_at-map (λ position. cell_at (row_at group position).cells c) positions k 0 l))
-
-  row-picked : (k : ℕ) (d : PackedRow) → k < length positions → get_or (map (row_at group) positions) k d ≡ picked_row k
+  row-picked : (k : ℕ) (d : PackedRow) → k < length positions → get_or (map (padded_at width group) positions) k d ≡ picked_row k
   row-picked k d l =
-      get_or-map (row_at group) positions k 0 d l
-      ∙ (λ i. record { cells = cells-picked k l i; begin = sym (get_or-map (λ position. (row_at group position).begin) positions k 0 0 l) i })
+      get_or-map (padded_at width group) positions k 0 d l
+      ∙ (λ i. record {
+        cells = map (λ c. sym (cell_at-map (λ position. cell_at (row_at group position).cells c) positions k 0 l) i) (range_with_len 0 width);
+        begin = sym (get_or-map (λ position. (row_at group position).begin) positions k 0 0 l) i;
+      })
 
-  pub rows-picked : map picked_row (range_with_len 0 (length picked_begins)) ≡ map (row_at group) positions
+  pub rows-picked : map picked_row (range_with_len 0 (length picked_begins)) ≡ map (padded_at width group) positions
   rows-picked =
       let as_many = length-map positions (λ position. (row_at group position).begin) in
       let d : PackedRow = record { cells = []; begin = 0 } in
-      sym (fill_by_all picked_row (map (row_at group) positions) (length picked_begins) d (length-map positions (row_at group) ∙ sym as_many)
+      sym (fill_by_all picked_row (map (padded_at width group) positions) (length picked_begins) d (length-map positions (padded_at width group) ∙ sym as_many)
       (λ k l. row-picked k d (omega (arith, l, as_many))))
+
+-- a column past those of a group is NULL
+pub cells-past : (group : Group) (positions : List ℕ) (place : ℕ) → All (λ row. length row.cells ≡ group.width) group.rows → All (λ position. position < length group.rows) positions → group.width ≤ place → cells_at group positions place ≡ replicate (length positions) Null
+cells-past group [] place wide within past = refl
+cells-past group (position ∷ positions) place wide within past =
+    let row = row_at group position in
+    let d : PackedRow = record { cells = []; begin = 0 } in
+    let many : length row.cells ≡ group.width = wide position d (within 0 0 (omega arith)) in
+    let first : cell_at row.cells place ≡ Null = cell_at-get_or row.cells place ∙ get_or_past row.cells place Null (omega (arith, many, past)) in
+    ap (λ cell. cell ∷ cells_at group positions place) first ∙ ap (λ cells. Null ∷ cells) (cells-past group positions place wide (λ k d l. within (suc k) d (omega arith)) past)
 
 -- begins that are raised raise the rows
 pub rows-raised : (floor : ℕ) (columns : List (List Value)) (begins : List ℕ) → map (begun_above floor) (source_rows columns begins) ≡ source_rows columns (map (begin_above floor) begins)

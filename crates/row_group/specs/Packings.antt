@@ -5,7 +5,7 @@ use Rattle.std.specs.declared.alloc.Global.{Global}
 use Rattle.std.specs.declared.vec.Vec.{Vec}
 use Rattle.cs_types.specs.declared.Value.{Value}
 use Rattle.cs_types.specs.Rows.{cell_at, number_cell}
-use Rattle.row_group.specs.Rows.{PackedRow}
+use Rattle.row_group.specs.Rows.{PackedRow, padded}
 use Rattle.row_group.specs.Groups.{Group, row_at}
 
 -- so many columns, and the rows in the order in which they were added
@@ -48,13 +48,17 @@ pub record AreCut (count : ℕ) (before after : List (List Value)) : Type 0 wher
 abbrev pub cells_at : Group → List ℕ → ℕ → List Value
 cells_at group positions column = map (λ position. cell_at (row_at group position).cells column) positions
 
+-- the row at a position of a group in so many columns, NULL in those that the group has not
+abbrev pub padded_at : ℕ → Group → ℕ → PackedRow
+padded_at width group position = padded width (row_at group position).cells (row_at group position).begin
+
 -- where each number up to a count stands in an order of them
 abbrev pub ArePlacesIn : List ℕ → List ℕ → Type 0
 ArePlacesIn order places =
     (length places ≡ length order)
     × ((i : ℕ) → i < length order → (slice_index places i < length order) × (slice_index order (slice_index places i) ≡ i))
 
--- where each number up to a count stands in an order, or the count itself where the order has it nowhere
+-- where numbers stand in an order: each of these places that is below the count is that of its number, and the others tell nothing
 abbrev pub AreFoundIn : List ℕ → List ℕ → Type 0
 AreFoundIn order places =
     (length places ≡ length order)

@@ -1,11 +1,12 @@
 ghost use Rattle.std.specs.Prelude.{◌≡◌, ◌<◌, ◌++◌, ◌∷◌, [], ℕ, length, map, take, replicate, All, IfOk, OnOk, OnErr};
+ghost use Rattle.cs_types.specs.declared.Value.TheVariants.{Null};
 ghost use Rattle.cs_types.specs.Rows.{cell_at};
 ghost use Rattle.column_segment.specs.Bodies.{cell_in};
 ghost use Rattle.row_group.specs.Packings.{AreEven, HaveMore, BeginAs, AreCut, cells_at, numbered};
 
 use crate::cells::Cells;
 use crate::packed::Packed;
-use column_segment::{Segment, shown};
+use column_segment::{CellRef, Segment, shown};
 use cs_base::Memory;
 use cs_types::Row;
 use std::alloc::Global;
@@ -69,8 +70,8 @@ fn add_row(columns: &mut Vec<Cells>, row: &Row) -> Result<(), Memory>
     Ok(())
 }
 
-/// Puts the cells of the rows at some positions of a group at the end of the columns, which have `count` cells. After
-/// `Memory` nothing has changed.
+/// Puts the cells of the rows at some positions of a group at the end of the columns, which have `count` cells, and NULL in a
+/// column that the group has not. After `Memory` nothing has changed.
 pub fn put_packed(
     columns: &mut Vec<Cells>,
     count: usize,
@@ -78,10 +79,8 @@ pub fn put_packed(
     positions: &[usize],
 ) -> Result<(), Memory>
     requires even { AreEven columns.old.items count }
-    requires width { length columns.old.items ≡ packed.now.width }
     requires within { All (λ position. position < length packed.now.rows) positions.now }
     ensures ok { OnOk result (HaveMore columns.old.items (cells_at packed.now positions.now) columns.new.items) }
-    ensures wide { All (λ row. length row.cells ≡ packed.now.width) packed.now.rows }
     ensures err { OnErr result (columns.new.items ≡ columns.old.items) }
 {
     match add_packed(columns, packed, positions) {
@@ -95,14 +94,42 @@ pub fn put_packed(
 
 /// The same, but after `Memory` some columns may have some of the cells.
 fn add_packed(columns: &mut Vec<Cells>, packed: &Packed, positions: &[usize]) -> Result<(), Memory>
-    requires width { length columns.old.items ≡ packed.now.width }
-    requires within { All (λ position. position < length packed.now.rows) positions.now }
+    requires { All (λ position. position < length packed.now.rows) positions.now }
     ensures ok { OnOk result (HaveMore columns.old.items (cells_at packed.now positions.now) columns.new.items) }
-    ensures wide { All (λ row. length row.cells ≡ packed.now.width) packed.now.rows }
     ensures err { OnErr result (BeginAs columns.old.items columns.new.items) }
 {
-    for place in 0..packed.width() {
-        add_cells(&mut columns[place], packed.segment(place), positions)?;
+    for place in 0..columns.len() {
+        add_column(&mut columns[place], packed, place, positions)?;
+    }
+    Ok(())
+}
+
+/// Puts copies of the cells that a column of a group has at some positions at the end of a column, and as many NULLs where the group
+/// has no such column.
+fn add_column(
+    column: &mut Cells,
+    packed: &Packed,
+    place: usize,
+    positions: &[usize],
+) -> Result<(), Memory>
+    requires { All (λ position. position < length packed.now.rows) positions.now }
+    ensures ok { OnOk result (column.new ≡ column.old ++ cells_at packed.now positions.now place) }
+    ensures err { OnErr result (take (length column.old) column.new ≡ column.old) }
+{
+    if place < packed.width() {
+        add_cells(column, packed.segment(place), positions)
+    } else {
+        add_nulls(column, positions.len())
+    }
+}
+
+/// Puts so many NULLs at the end of a column.
+fn add_nulls(column: &mut Cells, count: usize) -> Result<(), Memory>
+    ensures ok { OnOk result (column.new ≡ column.old ++ replicate count Null) }
+    ensures err { OnErr result (take (length column.old) column.new ≡ column.old) }
+{
+    for _place in 0..count {
+        column.push(CellRef::Null)?;
     }
     Ok(())
 }

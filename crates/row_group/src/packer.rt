@@ -34,8 +34,8 @@ impl Packer {
     ghost use Rattle.std.specs.Prelude.{◌≡◌, ◌<◌, ◌++◌, ◌∷◌, ◌↔◌, [], All, length, map, replicate, IfOk, IfSome, IsNone, OnOk, OnErr};
     ghost use Rattle.cs_types.specs.Schemas.{IsSchema, IsRowOf};
     ghost use Rattle.row_group.specs.Rows.{padded, begun_above};
-    ghost use Rattle.row_group.specs.Groups.{row_at, HoldsRows};
-    ghost use Rattle.row_group.specs.Packings.{StandAt, IsOrderedBy, source_rows, numbered};
+    ghost use Rattle.row_group.specs.Groups.{HoldsRows};
+    ghost use Rattle.row_group.specs.Packings.{StandAt, IsOrderedBy, padded_at, source_rows, numbered};
 
     /// No rows, in so many columns.
     pub fn new(alloc: Global, width: usize) -> Result<Packer, Memory>
@@ -94,12 +94,11 @@ impl Packer {
         }
     }
 
-    /// Adds the rows at some positions of a group of as many columns, with their begins. After `Memory` nothing has
-    /// changed.
+    /// Adds the rows at some positions of a group, with their begins: NULL in a column that the group has not. After `Memory`
+    /// nothing has changed.
     pub fn add_packed(&mut self, packed: &Packed, positions: &[usize]) -> Result<(), Memory>
-        requires width { packed.now.width ≡ self.old.width }
-        requires within { All (λ position. position < length packed.now.rows) positions.now }
-        ensures ok { OnOk result (self.new ≡ record self.old { rows = self.old.rows ++ map (row_at packed.now) positions.now }) }
+        requires { All (λ position. position < length packed.now.rows) positions.now }
+        ensures ok { OnOk result (self.new ≡ record self.old { rows = self.old.rows ++ map (padded_at self.old.width packed.now) positions.now }) }
         ensures err { OnErr result (self.new ≡ self.old) }
     {
         let count = self.begins.len();

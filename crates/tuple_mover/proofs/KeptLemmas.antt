@@ -9,7 +9,7 @@ use Rattle.std.proofs.lemmas.List.Elements.{All-push, All-weaker, recursion_from
 use Rattle.std.proofs.lemmas.Option.{same_Some}
 use Rattle.row_group.specs.Rows.{PackedRow, padded}
 use Rattle.row_group.specs.Groups.{Group, row_at}
-use Rattle.row_group.specs.Packings.{Packing}
+use Rattle.row_group.specs.Packings.{Packing, padded_at}
 use Rattle.row_group.proofs.ShownLemmas.{map-map}
 use Rattle.delete_bitmap.specs.declared.MarkedEnd.{MarkedEnd}
 use Rattle.delete_bitmap.specs.Marks.{end_at}
@@ -18,7 +18,7 @@ use Rattle.cs_types.specs.declared.row.Version.{Version as Stored}
 use Rattle.group_book.specs.Book.{Version, Ending}
 use Rattle.group_view.specs.declared.parts.GroupPart.{GroupPart}
 use Rattle.group_view.specs.Parts.{Rowed, rowed_in, packed_version, packed_versions, stored_versions}
-use Rattle.group_view.proofs.Versions.{version_in, packed_read, packed_within, padded_itself}
+use Rattle.group_view.proofs.Versions.{version_in, packed_read, packed_within}
 use Rattle.tuple_mover.specs.declared.kept.Kept.{Kept}
 use Rattle.tuple_mover.specs.Kept.{HasKept, is_left_out, kept_of, rowed_at, packed_row, number_of, numbers_of, StandIn}
 
@@ -85,15 +85,13 @@ same-within {X = X} {Y = Y} P f g same xs all = each xs (recursion_from_All P xs
     each [] all = refl
     each (x ∷ xs) all = ap (λ (y : Y). y ∷ map f xs) (same x all.0) ∙ ap (λ (ys : List Y). g x ∷ ys) (each xs all.1)
 
--- a row of a packed group goes into another one as it is
-pub packed-same : (group : Group) (marks : List (Option MarkedEnd)) (position : ℕ) → position < length (packed_versions group.key group.rows marks) → All (λ (row : PackedRow). length row.cells ≡ group.width) group.rows
-    → row_at group position ≡ packed_row group.width (rowed_at (packed_versions group.key group.rows marks) position)
-packed-same group marks position there wide =
-    let within = packed_within group.key group.rows marks position there in
+-- a row of a packed group goes into another one with a cell for each of its columns
+pub packed-same : (width : ℕ) (group : Group) (marks : List (Option MarkedEnd)) (position : ℕ) → position < length (packed_versions group.key group.rows marks)
+    → padded_at width group position ≡ packed_row width (rowed_at (packed_versions group.key group.rows marks) position)
+packed-same width group marks position there =
     let row = row_at group position in
     let read = rowed-read (packed_versions group.key group.rows marks) position (packed_version group.key row (end_at marks position)) (packed_read group marks position there) in
-    (λ i. record { cells = padded_itself group.width row.cells (wide position (record { cells = []; begin = 0 }) within.0) i; begin = row.begin })
-    ∙ sym (ap (packed_row group.width) read)
+    sym (ap (packed_row width) read)
 
 pub stored-same : (width : ℕ) (store : List KeyedVersion) (position : ℕ) (stored : Stored) → option_map (λ (v : KeyedVersion). v.version) (slice_get store position) ≡ Some stored
     → padded width stored.row stored.begin ≡ packed_row width (rowed_at (stored_versions store) position)

@@ -5,8 +5,6 @@ use Rattle.delete_bitmap.specs.declared.MarkedEnd.TheVariants.{Stamped}
 use Rattle.row_group.specs.Rows.{PackedRow, padded}
 use Rattle.group_book.specs.Book.{End, Version, Ending, has_ended, is_buffered}
 use Rattle.group_book.specs.Book.End.{At, Plain}
-use Rattle.group_view.specs.declared.parts.GroupPart.{GroupPart}
-use Rattle.group_view.specs.declared.parts.GroupPart.TheVariants as part
 use Rattle.group_view.specs.Parts.{Rowed}
 use Rattle.tuple_mover.specs.declared.kept.Kept.{Kept}
 
@@ -44,11 +42,6 @@ pub record HasKept (width : ℕ) (rowed : List Rowed) (kept : Kept) : Type 0 whe
   pub columns : kept.packer.width ≡ width
   pub rows : kept.packer.rows ≡ map (packed_row width) rowed
   pub ends : kept.ends.items ≡ numbers_of rowed
-
--- a packed group has so many columns
-abbrev pub IsWide : ℕ → GroupPart → Type 0
-IsWide width (part.Packed group marks) = let packed = group.value in packed.width ≡ width
-IsWide width (part.Store store) = Unit {0}
 
 -- ---- the new group
 

@@ -3,7 +3,7 @@ ghost use Rattle.std.specs.Prelude.{◌≡◌, ◌<◌, ◌++◌, ◌∷◌, [],
 ghost use Rattle.group_view.specs.Parts.{Rowed, lived_version, end_of_mark, rowed_in, stored_versions, IsFitting};
 ghost use Rattle.group_view.specs.Views.{endings_of, buffer_of, rowed_of};
 ghost use Rattle.group_view.specs.Claims.{IsMendable};
-ghost use Rattle.tuple_mover.specs.Kept.{is_left_out, kept_of, rowed_at, packed_row, number_of, numbers_of, StandIn, HasKept, IsWide};
+ghost use Rattle.tuple_mover.specs.Kept.{is_left_out, kept_of, rowed_at, packed_row, number_of, numbers_of, StandIn, HasKept};
 
 use cs_base::Memory;
 use delete_bitmap::MarkedEnd;
@@ -95,24 +95,18 @@ fn add_stored(packer: &mut Packer, store: &Frozen, positions: &[usize]) -> Resul
 /// Adds the rows at some positions of a group, with their begins.
 fn add_rows(packer: &mut Packer, part: &GroupPart, positions: &[usize]) -> Result<(), Memory>
     requires fitting { IsFitting part.now }
-    requires wide { IsWide packer.old.width part.now }
     requires within { All (λ position. position < length (rowed_in part.now)) positions.now }
     ensures { OnOk result (packer.new ≡ record packer.old { rows = packer.old.rows ++ map (λ (position : ℕ). packed_row packer.old.width (rowed_at (rowed_in part.now) position)) positions.now }) }
 {
     match part {
-        GroupPart::Packed(packed, _) => {
-            // Each row has a cell for each column.
-            let _width = packed.width();
-            packer.add_packed(packed, positions)
-        }
+        GroupPart::Packed(packed, _) => packer.add_packed(packed, positions),
         GroupPart::Store(store) => add_stored(packer, store, positions),
     }
 }
 
 /// Keeps the versions of a group that had not ended by the floor.
 fn keep_part(kept: &mut Kept, part: &GroupPart, buffer: &Ends, floor: u64) -> Result<(), Memory>
-    requires fitting { IsFitting part.now }
-    requires wide { IsWide kept.old.packer.width part.now }
+    requires { IsFitting part.now }
     ensures { (width : ℕ) (rowed : List Rowed) → HasKept width rowed kept.old → OnOk result (HasKept width (rowed ++ kept_of floor (endings_of buffer.now) (rowed_in part.now)) kept.new) }
 {
     let positions = kept_positions(part, buffer, floor, &mut kept.ends)?;

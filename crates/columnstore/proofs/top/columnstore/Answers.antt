@@ -5,7 +5,7 @@ use Rattle.script_reader.specs.Scripts.{IsScript}
 use Rattle.script_runner.specs.Logs.{Summed}
 use Rattle.columnstore.specs.declared.way.Way.TheVariants.{ByLine, OnThreads}
 use Rattle.columnstore.specs.Outcome.{sizes_in, order_of, mode_of, drawn_script, refused, served}
-use Rattle.columnstore.proofs.Serving.{given_way, none_given, no_script, terms_of}
+use Rattle.columnstore.proofs.Serving.{given_way, none_given, no_script, reading, terms_of}
 use Rattle.columnstore.proofs.Ending.{drawing, with_done, refusing, none_taken}
 use Rattle.columnstore.proofs.top.columnstore.Goals as goal
 
@@ -124,3 +124,18 @@ returns-in-None-clause-complete g c = λ bytes options way script told is small 
 pub returns-in-None-clause-drawn : goal.returns-in-None-clause-drawn
 returns-in-None-clause-drawn g c = λ order is drawn.
     absurd (none_given (map string_bytes c.args.words.now) c.of_words.result c.of_words.ensures.only c.in-None.is order is)
+
+pub returns-in-Some-Replay-clause-modes : goal.returns-in-Some-Replay-clause-modes
+returns-in-Some-Replay-clause-modes g c = reading
+
+pub returns-in-Some-Run-clause-modes : goal.returns-in-Some-Run-clause-modes
+returns-in-Some-Run-clause-modes g c = reading
+
+pub returns-in-Some-Generate-clause-modes : goal.returns-in-Some-Generate-clause-modes
+returns-in-Some-Generate-clause-modes g c = reading
+
+pub returns-in-Some-Load-clause-modes : goal.returns-in-Some-Load-clause-modes
+returns-in-Some-Load-clause-modes g c = reading
+
+pub returns-in-None-clause-modes : goal.returns-in-None-clause-modes
+returns-in-None-clause-modes g c = reading

@@ -2,15 +2,16 @@ use Rattle.std.proofs.Common.{◌≡◌, ◌∙◌, ◌++◌, ◌<◌, ℕ, List
 use Rattle.std.specs.List.{All}
 use Rattle.std.specs.Result.{OnOk}
 use Rattle.row_group.specs.Rows.{PackedRow}
-use Rattle.row_group.specs.Groups.{Group, row_at}
+use Rattle.row_group.specs.Groups.{Group}
+use Rattle.row_group.specs.Packings.{padded_at}
 use Rattle.group_view.specs.declared.parts.GroupPart.{GroupPart}
 use Rattle.group_view.specs.Parts.{packed_versions, rowed_in}
-use Rattle.tuple_mover.specs.Kept.{rowed_at, packed_row, IsWide}
+use Rattle.tuple_mover.specs.Kept.{rowed_at, packed_row}
 use Rattle.tuple_mover.proofs.KeptLemmas.{same-within, packed-same, positions-within}
 use Rattle.tuple_mover.proofs.kept.add_rows.Goals as goal
 
-pub add_packed-requires-clause-within : goal.add_packed-requires-clause-within
-add_packed-requires-clause-within c =
+pub add_packed-requires : goal.add_packed-requires
+add_packed-requires c =
     let positions = c.args.positions.now in
     let group : Group = c.in-Packed.packed.value in
     let within = subst (λ (part : GroupPart). All (λ (position : ℕ). position < length (rowed_in part)) positions) c.in-Packed.is c.requires.within in
@@ -24,11 +25,8 @@ returns-in-Packed c =
     let group : Group = c.in-Packed.packed.value in
     let marks = c.in-Packed.field-1.value in
     let within = subst (λ (part : GroupPart). All (λ (position : ℕ). position < length (rowed_in part)) positions) c.in-Packed.is c.requires.within in
-    let wide : group.width ≡ old.width = subst (λ (part : GroupPart). IsWide old.width part) c.in-Packed.is c.requires.wide in
-    let cells = subst (λ (g : Group). All (λ (row : PackedRow). length row.cells ≡ g.width) g.rows) c.deref.ensures c.width-width.ensures.rows in
-    let rows : map (row_at c.deref-in-Packed.result.now) positions ≡ map (λ (position : ℕ). packed_row old.width (rowed_at (rowed_in part) position)) positions =
-    ap (λ (g : Group). map (row_at g) positions) c.deref-in-Packed.ensures
-    ∙ same-within (λ (position : ℕ). position < length (packed_versions group.key group.rows marks)) (row_at group) (λ (position : ℕ). packed_row group.width (rowed_at (packed_versions group.key group.rows marks) position)) (λ position there. packed-same group marks position there cells) positions within
-    ∙ ap (λ (w : ℕ). map (λ (position : ℕ). packed_row w (rowed_at (packed_versions group.key group.rows marks) position)) positions) wide
+    let rows : map (padded_at old.width c.deref-in-Packed.result.now) positions ≡ map (λ (position : ℕ). packed_row old.width (rowed_at (rowed_in part) position)) positions =
+    ap (λ (g : Group). map (padded_at old.width g) positions) c.deref-in-Packed.ensures
+    ∙ same-within (λ (position : ℕ). position < length (packed_versions group.key group.rows marks)) (padded_at old.width group) (λ (position : ℕ). packed_row old.width (rowed_at (packed_versions group.key group.rows marks) position)) (λ position there. packed-same old.width group marks position there) positions within
     ∙ ap (λ (part : GroupPart). map (λ (position : ℕ). packed_row old.width (rowed_at (rowed_in part) position)) positions) (sym c.in-Packed.is) in
-    subst (λ (rows : List PackedRow). OnOk c.add_packed.result (c.add_packed.new.self ≡ record old { rows = old.rows ++ rows })) rows c.add_packed.ensures.ok
+    subst (λ (rows : List PackedRow). OnOk c.add_packed.result (c.add_packed.new.self ≡ record old { rows = old.rows ++ rows })) rows c.add_packed.ensures

@@ -1,9 +1,7 @@
-use Rattle.std.proofs.Common.{◌≡◌, ◌∙◌, ◌++◌, List, length, map, get_or, sym, ap, subst}
-use Rattle.std.specs.List.{range_with_len}
-use Rattle.cs_types.specs.Rows.{cell_at}
+use Rattle.std.proofs.Common.{◌≡◌, ◌∙◌, ◌++◌, List, length, map, ap, sym, subst}
 use Rattle.row_group.specs.Rows.{PackedRow}
 use Rattle.row_group.specs.Groups.{row_at}
-use Rattle.row_group.specs.Packings.{Packing, cells_at, source_rows}
+use Rattle.row_group.specs.Packings.{Packing, cells_at, padded_at, source_rows}
 use Rattle.row_group.proofs.ColumnLemmas.{rows-more, rows-picked}
 use Rattle.row_group.proofs.packer.Packer.add_packed.Goals as goal
 
@@ -17,12 +15,9 @@ returns-in-Ok-clause-ok c =
     let positions = c.args.positions.now in
     let bs = map (λ position. (row_at group position).begin) positions in
     let have = c.in-Ok.ensures.ok in
-    let width : group.width ≡ length columns = c.requires.width ∙ sym (ap (λ (p : Packing). p.width) c.self.view_is) in
-    let picked = subst (λ n. map (λ k. record { cells = map (λ column. cell_at (cells_at group positions column) k) (range_with_len 0 n); begin = get_or bs k 0 }) (range_with_len 0 (length bs)) ≡ map (row_at group) positions) width
-    (rows-picked group positions c.put_packed.ensures.wide c.requires.within) in
-    let rows : source_rows columns' begins' ≡ source_rows columns begins ++ map (row_at group) positions =
+    let rows : source_rows columns' begins' ≡ source_rows columns begins ++ map (padded_at (length columns) group) positions =
     ap (source_rows columns') c.in_ok-add_begins.ensures.ok ∙ rows-more columns columns' begins bs (cells_at group positions) c.self.invariant have
-    ∙ ap (λ (more : List PackedRow). source_rows columns begins ++ more) picked in
+    ∙ ap (λ (more : List PackedRow). source_rows columns begins ++ more) (rows-picked group positions (length columns)) in
     let new : Packing = record { width = length columns'; rows = source_rows columns' begins' } in
-    subst (λ (old : Packing). new ≡ record old { rows = old.rows ++ map (row_at group) positions }) c.self.view_is
+    subst (λ (old : Packing). new ≡ record old { rows = old.rows ++ map (padded_at old.width group) positions }) c.self.view_is
     (λ i. record { width = have.counted i; rows = rows i })
