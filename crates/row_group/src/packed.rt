@@ -148,18 +148,31 @@ impl Packed {
         key_shown(self.segments.at(self.key).cell(position))
     }
 
+    /// The first place, among the positions by key, of a key that does not come before this one; where it may tie, of one that comes
+    /// after it. At once for a key below the least or above the greatest.
+    pub fn first_of(&self, key: Key, tied: bool) -> usize
+        ensures { IsFirstPlace self.now key tied result }
+    {
+        let end = self.places().len();
+        match self.side_of(key) {
+            Ordering::Less => 0,
+            Ordering::Equal => self.first_place(0, end, key, tied),
+            Ordering::Greater => end,
+        }
+    }
+
     /// The places of a key among the positions by key, which hold the positions of all its rows. At once for a key below
-    /// the least or above the greatest; else by steps that double from where it would stand if the keys lay evenly, or by one binary
-    /// search.
+    /// the least or above the greatest; else by steps that double from where it would stand if the keys lay evenly, or by a binary
+    /// search up to there.
     pub fn find(&self, key: Key) -> Places
         ensures { ArePlacesOf self.now key result.from result.to }
     {
         self.find_near(self.places.len(), key)
     }
 
-    /// The places of a key, as `find` gives them. Where the keys at all places before `near` come before this one it takes
-    /// steps that double from there, or from a later place where the key may stand, so a walk over keys in order begins each search where
-    /// the one before ended or closer.
+    /// The places of a key, as `find` gives them. Where the keys at all places before `near` come before this one it looks
+    /// from there on, or from a later place where the key may stand, so a walk over keys in order begins each search where the one
+    /// before ended or closer.
     pub fn find_near(&self, near: usize, key: Key) -> Places
         ensures { ArePlacesOf self.now key result.from result.to }
     {
@@ -201,10 +214,12 @@ impl Packed {
         if self.is_start(later, key) {
             return self.place_from(later, key, false);
         }
-        if self.is_start(earlier, key) {
-            return self.place_from(earlier, key, false);
-        }
-        self.first_place(0, self.places.len(), key, false)
+        let from = if self.is_start(earlier, key) {
+            earlier
+        } else {
+            0
+        };
+        self.first_place(from, later.min(self.places().len()), key, false)
     }
 
     /// The place that a key would have if the group's keys lay evenly between their least and their greatest. Any place will do, and
@@ -216,9 +231,10 @@ impl Packed {
         }
     }
 
-    /// Whether a place is not past the last, and the keys at all places before it come before this one.
+    /// Whether a place is not past the last, and the keys at all places before it come before this one. Else none from it on does.
     fn is_start(&self, place: usize, key: Key) -> bool
-        ensures { OnTrue result (IsFirstBetween self.now key false place (length self.now.places)) }
+        ensures start { OnTrue result (IsFirstBetween self.now key false place (length self.now.places)) }
+        ensures past { OnFalse result ((i : ℕ) → place ≤ i → i < length self.now.places → precedes false (key_cmp (key_at_place self.now i) key) ≡ false) }
     {
         let places = self.places().len();
         if place == 0 || place >= places {

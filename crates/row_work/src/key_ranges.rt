@@ -1,8 +1,6 @@
 //! The rows of a packed group that a statement reads, found by their keys.
 
 ghost use Rattle.std.specs.Prelude.{◌≡◌, ◌≤◌, length, IfOk, IfSome, IsPermutation};
-ghost use Rattle.cs_types.specs.Keys.{key_cmp};
-ghost use Rattle.row_group.specs.Groups.{precedes, IsFirstPlace};
 ghost use Rattle.row_work.specs.Ranges.{ArePlacesWithin, AreReadBetween, HasKeysOf};
 ghost use Rattle.row_work.specs.Reads.{rowed_at};
 ghost use Rattle.row_work.specs.Stores.{is_read_within, positions_of};
@@ -10,42 +8,16 @@ ghost use Rattle.row_work.specs.Stores.{is_read_within, positions_of};
 use crate::bounds::{ALL, Bounds};
 use batch_scan::key_seen;
 use cs_base::Memory;
-use cs_types::Key;
 use group_view::{Pinned, Place};
 use row_group::{Packed, Places};
 use std::alloc::Global;
-
-/// Whether a key comes before another one, or may tie with it and does.
-fn is_before(key: Key, other: Key, tied: bool) -> bool
-    ensures { result ≡ precedes tied (key_cmp key other) }
-{
-    if tied { key <= other } else { key < other }
-}
-
-/// The first place, among the positions of a group by key, of a key that does not come before this one; where it may tie, of one that
-/// comes after it.
-fn first_place(packed: &Packed, key: Key, tied: bool) -> usize
-    ensures { IsFirstPlace packed.now key tied result }
-{
-    let mut low = 0;
-    let mut high = packed.places().len();
-    while low < high {
-        let middle = low + (high - low) / 2;
-        if is_before(packed.key_at(packed.place(middle)), key, tied) {
-            low = middle + 1;
-        } else {
-            high = middle;
-        }
-    }
-    low
-}
 
 /// The places of these keys among the positions of a group by key.
 pub fn places_within(packed: &Packed, bounds: Bounds) -> Places
     ensures { ArePlacesWithin packed.now bounds result.from result.to }
 {
-    let from = first_place(packed, bounds.least, false);
-    let end = first_place(packed, bounds.greatest, true);
+    let from = packed.first_of(bounds.least, false);
+    let end = packed.first_of(bounds.greatest, true);
     Places {
         from,
         to: end.max(from),

@@ -9,6 +9,6 @@ one_of from end m is = elim (cases_lt from end) [ inl less ↦ inr (omega (arith
 
 pub returns : goal.returns
 returns c =
-    let from = c.first_place-from.result in
-    let end = c.first_place-end.result in
-    places_are c.args.packed.now c.args.bounds from end c.first_place-from.ensures c.first_place-end.ensures c.max.result (omega (arith, c.max.ensures)) (omega (arith, c.max.ensures)) (one_of from end c.max.result c.max.ensures)
+    let from = c.first_of-from.result in
+    let end = c.first_of-end.result in
+    places_are c.args.packed.now c.args.bounds from end c.first_of-from.ensures c.first_of-end.ensures c.max.result (omega (arith, c.max.ensures)) (omega (arith, c.max.ensures)) (one_of from end c.max.result c.max.ensures)
