@@ -11,7 +11,7 @@ use Rattle.cs_model.specs.declared.expr.Expr.{Expr}
 use Rattle.cs_model.specs.Answers.{computed_of, kept}
 use Rattle.cs_model.specs.Series.{series_schema}
 
--- what a column keeps of what it is given over a number of a series
+-- what a column keeps of what it is given over a number of a series, or why it keeps nothing
 abbrev pub kept_over : Column → Option Expr → ℤ → Result Value ℕ
 kept_over column expr number = kept column (computed_of series_schema (Number number ∷ []) expr)
 
