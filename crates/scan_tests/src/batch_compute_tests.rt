@@ -1,5 +1,5 @@
-use crate::made::{list, table};
-use batch_compute::series_columns;
+use crate::made::{column, list, table};
+use batch_compute::{series_cell, series_columns};
 use cs_base::{Boxed, Items, Memory};
 use cs_model::{Expr, InsertPlan, Times};
 use cs_types::{ColumnType, Loose};
@@ -205,6 +205,49 @@ fn series_are_columns(rt: HostRuntime) -> Result<(), Fail> {
             "{kind:?} {given:?} from {start}"
         );
     }
+    Ok(())
+}
+
+/// What the second column is given, where it is given anything.
+fn given_of(alloc: Global, given: Given) -> Result<Option<Expr>, Memory> {
+    match given {
+        Given::Nothing => Ok(None),
+        _ => Ok(Some(expr_of(alloc, given)?)),
+    }
+}
+
+/// The cells one by one are those of the columns.
+#[test]
+fn cells_are_those_of_the_columns(rt: HostRuntime) -> Result<(), Fail> {
+    let alloc = rt.alloc();
+    for &(kind, (start, _), given, expected) in &CASES {
+        assert!(rt; kind.is_valid());
+        let column = column(alloc, b'v', kind, true)?;
+        let expr = given_of(alloc, given)?;
+        for (i, cell) in expected.unwrap_or(&[]).iter().enumerate() {
+            let number = start.saturating_add(i as i64);
+            assert_eq!(rt;
+                series_cell(&column, expr.as_ref(), number),
+                Some(*cell),
+                "{kind:?} {given:?} over {number}"
+            );
+        }
+    }
+    Ok(())
+}
+
+/// A series that is longer than the pieces in which its columns are made.
+#[test]
+fn long_series_are_columns(rt: HostRuntime) -> Result<(), Fail> {
+    let alloc = rt.alloc();
+    let schema = table(alloc, ColumnType::Int)?;
+    let plan = plan_of(alloc, -1_000, 1_500, Given::Sum(false, 10))?;
+    let mut expected = Vec::with_capacity(alloc, 2_501)?;
+    for i in 0..2_501 {
+        expected.push(Some(i - 990))?;
+    }
+    let made = series_columns(alloc, &schema, &plan)?;
+    assert_eq!(rt; cells_of(&made, 1), Some(expected.as_slice()));
     Ok(())
 }
 
