@@ -1,5 +1,5 @@
 -- The commit of own writes: what it rests on, and what the directory stands for after it.
-use Rattle.std.proofs.Common.{◌≡◌, ℕ, zero, suc, ◌<◌, ◌≤◌, ◌+◌, Bool, true, false, cond, nat_le, List, Vec, [], ◌∷◌, ◌++◌, map, filter, length, get_or, take, drop, Option, Some, None, is_some, refl, sym, ap, subst, ◌∙◌, arith}
+use Rattle.std.proofs.Common.{◌≡◌, ℕ, zero, suc, ◌<◌, ◌≤◌, ◌+◌, ◌-◌, Bool, true, false, cond, nat_le, List, Vec, [], ◌∷◌, ◌++◌, map, filter, length, get_or, take, drop, Option, Some, None, is_some, refl, sym, ap, subst, ◌∙◌, arith}
 use Rattle.std.specs.Prelude.{Result, Ok, Err, OnErr, slice_get}
 use Rattle.std.specs.List.{All, AllByRecursion}
 use Rattle.std.specs.List.Sorted.{IsPermutation, IsStrictlySortedBy}
@@ -53,7 +53,8 @@ use Rattle.group_directory.proofs.GroupLaws.{committed_rows, committed_loans}
 use Rattle.group_directory.proofs.LentLaws.{stay_committed, lent_moved}
 use Rattle.group_directory.proofs.PackedLaws.{packed_after}
 use Rattle.group_directory.proofs.RecentLaws.{noted_low}
-use Rattle.group_directory.proofs.StandLaws.{stands_committed}
+use Rattle.group_directory.proofs.StandLaws.{stands_committed, stands_risen}
+use Rattle.group_directory.proofs.TxnLaws.{commits_risen}
 use Rattle.group_directory.proofs.WholeLemmas.{origins_of_listed, zip_keys}
 
 -- ---- keys in order
@@ -135,12 +136,13 @@ module _ (directory : Directory) (cs : List Change) (j : Stands directory cs) wh
   pub room_one : 1 ≤ directory.sizes.group_rows
   room_one = let sizes = j.sizes in let least = sizes.least_group in omega (arith, least)
 
-  pub entries_later : All (λ (entry : Key × ℕ). entry.1 < directory.clock + 1) directory.list.buffer.entries
-  entries_later =
-      All-weaker (λ (entry : Key × ℕ). entry.1 ≤ directory.clock) (λ (entry : Key × ℕ). entry.1 < directory.clock + 1) (λ entry low. omega (arith, low)) directory.list.buffer.entries (buffer_low directory cs j)
+  module _ (c : ℕ) (less : directory.clock < c) where
+    pub entries_later : All (λ (entry : Key × ℕ). entry.1 < c) directory.list.buffer.entries
+    entries_later =
+        All-weaker (λ (entry : Key × ℕ). entry.1 ≤ directory.clock) (λ (entry : Key × ℕ). entry.1 < c) (λ entry low. omega (arith, low, less)) directory.list.buffer.entries (buffer_low directory cs j)
 
-  pub notes_older : (key : Key) → ForSome (finite.get directory.recent.changes key) (λ other. other.commit < directory.clock + 1)
-  notes_older key other is = let low = noted_low directory.pruned directory.recent.changes cs j.recent directory.clock j.numbered key other is in omega (arith, low)
+    pub notes_older : (key : Key) → ForSome (finite.get directory.recent.changes key) (λ other. other.commit < c)
+    notes_older key other is = let low = noted_low directory.pruned directory.recent.changes cs j.recent directory.clock j.numbered key other is in omega (arith, low, less)
 
   module _ (session : ℕ) (written replaced : List Key) (parcel : Parcel) (own : List Write) (is : IsCommitOf directory cs session written replaced parcel own) where
     given : IsParcelFor directory own parcel
@@ -230,6 +232,35 @@ module _ (directory : Directory) (cs : List Change) (j : Stands directory cs) wh
     pruned = j.pruned;
     txns = j.txns;
   }
+
+-- ---- a commit of a number above the clock
+
+module _ (directory : Directory) (cs : List Change) (j : Stands directory cs) (session : ℕ) (written replaced : List Key) (parcel : Parcel) (own : List Write) (is : IsCommitOf directory cs session written replaced parcel own) where
+  is_risen : (now : ℕ) → directory.clock ≤ now → IsCommitOf (record directory { clock = now }) cs session written replaced parcel own
+  is_risen now rises = record {
+    order = is.order;
+    keys = is.keys;
+    replaced = is.replaced;
+    may = commits_risen (txn_of directory.txns) cs directory.clock now session own j.numbered rises is.may;
+    parcel = is.parcel;
+  }
+
+  module _ (number : ℕ) (list : GroupList) (txns : Table) (recent : Newest) where
+    -- what a commit of the number c leaves stands for the changes and those of the commit
+    abbrev Done : ℕ → Type 0
+    Done c =
+        IsHeld list → list.claims ≡ directory.list.claims → book_of list ≡ after_parcel directory.sizes.group_rows c replaced parcel (book_of directory.list)
+        → IsPermutation (origins directory.list.groups.items ++ map (new_origin c) (parcel_rows parcel)) (origins list.groups.items)
+        → packed_groups list.groups.items ≡ packed_groups directory.list.groups.items ++ map (rebased c) parcel.groups → txn_of txns ≡ with (txn_of directory.txns) session None
+        → recent.changes ≡ noted_by (record { commit = c; txn = number }) directory.recent.changes written
+        → Stands (record directory { list = list; txns = txns; recent = recent; clock = c }) (cs ++ numbered c number (edits_of own))
+
+    -- it is the next commit of the directory with a later clock
+    done_next : (now : ℕ) → directory.clock ≤ now → Done (now + 1)
+    done_next now rises = stands_done (record directory { clock = now }) cs (stands_risen directory cs j now rises) session written replaced parcel own (is_risen now rises) number list txns recent
+
+    pub stands_above : (c : ℕ) → directory.clock < c → Done c
+    stands_above c less = let same : c - 1 + 1 ≡ c = omega (arith, less) in subst Done same (done_next (c - 1) (omega (arith, less)))
 
 -- ---- nothing to commit
 

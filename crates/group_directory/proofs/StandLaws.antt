@@ -32,8 +32,8 @@ use Rattle.group_directory.specs.declared.directory.Directory.{Directory}
 use Rattle.group_directory.specs.Stands.{width_in, rows_in, IsLoanOf, IsRecent, AreTxns, Stands}
 use Rattle.group_directory.specs.Laws.{noted_by, MayStage, MayCommit, MayBeList, IsNew}
 use Rattle.group_directory.proofs.RecentLaws.{recent_none, recent_new, recent_pruned, recent_clear}
-use Rattle.group_directory.proofs.FloorLaws.{floor_there, floor_same, snapshots_same, snapshot-deepened, snapshot-widened, floor_fixed, floor_ended}
-use Rattle.group_directory.proofs.TxnLaws.{txns_none, txns_opened, txns_deepened, txns_fixed, txns_removed, txns_staged, txns_written}
+use Rattle.group_directory.proofs.FloorLaws.{floor_there, floor_risen, floor_same, snapshots_same, snapshot-deepened, snapshot-widened, floor_fixed, floor_ended}
+use Rattle.group_directory.proofs.TxnLaws.{txns_none, txns_opened, txns_deepened, txns_fixed, txns_removed, txns_staged, txns_written, txns_risen}
 
 -- ---- the changes after a commit
 
@@ -202,6 +202,33 @@ module _ (directory : Directory) (cs : List Change) (j : Stands directory cs) wh
     pruned = let same = floor_given floor is in omega (arith, same);
     txns = j.txns;
   }
+
+-- ---- the clock
+
+-- it may rise past numbers that no commit has
+pub stands_risen : (directory : Directory) (cs : List Change) → Stands directory cs → (now : ℕ) → directory.clock ≤ now → Stands (record directory { clock = now }) cs
+stands_risen directory cs j now rises =
+    let found = floor_there directory.txns now in
+    let le = floor_risen (snapshots_in (txn_of directory.txns)) directory.clock now j.floor found.0 rises j.is_floor found.1 in
+    let numbers = j.numbered in
+    record {
+      sizes = j.sizes;
+      held = j.held;
+      numbered = record {
+        below = All-weaker (λ (change : Change). change.commit ≤ directory.clock) (λ (change : Change). change.commit ≤ now) (λ change low. omega (arith, low, rises)) cs numbers.below;
+        ascend = numbers.ascend;
+      };
+      floor = found.0;
+      is_floor = found.1;
+      book = book_rise directory.sizes.group_rows (book_of directory.list) cs j.floor found.0 le j.book;
+      rows = j.rows;
+      packed = j.packed;
+      loans = j.loans;
+      lent = j.lent;
+      recent = j.recent;
+      pruned = let low = j.pruned in omega (arith, low, le);
+      txns = txns_risen (txn_of directory.txns) cs directory.clock now numbers j.txns rises;
+    }
 
 -- ---- a new directory
 

@@ -1,8 +1,9 @@
 -- The open transactions, as each event changes one of them.
-use Rattle.std.proofs.Common.{◌≡◌, ◌≢◌, ℕ, ◌<◌, ◌≤◌, ◌+◌, Bool, true, false, ◌||◌, cond, ltb, leb, List, [], ◌∷◌, ◌++◌, get_or, Any, Option, Some, None, is_some, refl, sym, ap, subst, ◌∙◌, arith}
+use Rattle.std.proofs.Common.{◌≡◌, ◌≢◌, ℕ, ◌<◌, ◌≤◌, ◌+◌, Bool, true, false, ◌||◌, cond, ltb, leb, List, [], ◌∷◌, ◌++◌, get_or, length, Any, Option, Some, None, is_some, refl, sym, ap, subst, ◌∙◌, arith}
 use Rattle.std.specs.Prelude.{◌==◌}
 use Rattle.std.specs.List.{All, AllByRecursion, Contains}
 use Rattle.std.specs.Option.{unwrap_or}
+use Rattle.std.proofs.Math.Path.{fun_ext}
 use Rattle.std.proofs.lemmas.Bool.Decides.{nat_tests}
 use Rattle.std.proofs.lemmas.List.Elements.{All-nil, All-contains, All-contains_itself, recursion_from_All}
 use Rattle.cs_types.specs.declared.Key.{Key}
@@ -16,7 +17,8 @@ use Rattle.write_set.specs.declared.write.Write.{Write}
 use Rattle.write_set.specs.Writes.{put, staged}
 use Rattle.write_set.proofs.Puts.{All-put, all_tail}
 use Rattle.txn_table.specs.declared.txn.Txn.{Txn}
-use Rattle.txn_table.specs.Txns.{with, opened, deepened, fixed, widened, snapshot_of, own_of, Owns}
+use Rattle.txn_table.specs.Txns.{Table, txn_of, with, opened, deepened, fixed, widened, snapshot_of, own_of, Owns}
+use Rattle.txn_table.proofs.PlaceSet.{txn_at-past}
 use Rattle.group_book.specs.Commits.{is_in_table}
 use Rattle.group_book.specs.Stocks.{AreChanges, next_change}
 use Rattle.group_book.proofs.Keys.{key_is}
@@ -315,7 +317,38 @@ pub txns_committed : (txns : ℕ → Option Txn) (changes : List Change) (clock 
     → AreTxns (with txns session None) (changes ++ numbered (clock + 1) number (edits_of (own_of (txns session)))) (clock + 1)
 txns_committed txns changes clock session number a j = txns_written txns changes clock session number (own_of (txns session)) a j (own_commits txns changes clock session j)
 
+-- ---- the clock rises
+
+-- above all changes a key has a row exactly where it has one at the clock
+table_stays : (cs : List Change) (clock now : ℕ) → AreChanges cs clock → clock ≤ now → (key : Key) → is_in_table cs clock key ≡ is_in_table cs now key
+table_stays cs clock now a rises key = ap (λ (o : Option Change). is_some (made o)) (sym (last-later cs key clock now (none_next cs clock (below_of cs clock a) key) rises))
+
+pub txns_risen : (txns : ℕ → Option Txn) (changes : List Change) (clock now : ℕ) → AreChanges changes clock → AreTxns txns changes clock → clock ≤ now → AreTxns txns changes now
+txns_risen txns changes clock now a j rises = record {
+  snapshots = λ s n is. let le = j.snapshots s n is in omega (arith, le, rises);
+  owners = j.owners;
+  replaced = λ s. All-in (SaysIt changes clock) (SaysIt changes now) (own_of (txns s)) (λ w there is. is ∙ table_stays changes clock now a rises w.key) (j.replaced s);
+  pinned = j.pinned;
+  unchanged = j.unchanged;
+}
+
+pub commits_risen : (txns : ℕ → Option Txn) (changes : List Change) (clock now session : ℕ) (writes : List Write) → AreChanges changes clock → clock ≤ now → MayCommit txns changes clock session writes
+    → MayCommit txns changes now session writes
+commits_risen txns changes clock now session writes a rises may = record {
+  free = may.free;
+  replaces = All-in (SaysIt changes clock) (SaysIt changes now) writes (λ w there is. is ∙ table_stays changes clock now a rises w.key) may.replaces;
+}
+
 -- ---- no transaction
+
+-- past the places no session has one, which may then be gone
+pub none_gone : (table : Table) → txn_of table ≡ with (txn_of table) (length table.txns) None
+none_gone table = fun_ext (λ s. at s (s == length table.txns) refl)
+  where
+    at : (s : ℕ) (t : Bool) → (s == length table.txns) ≡ t → txn_of table s ≡ cond t None (txn_of table s)
+    at s true is = let over : length table.txns ≤ s = grind (arith, nat_tests) in txn_at-past table.txns s over
+    at s false is = refl
+
 pub txns_none : (txns : ℕ → Option Txn) (changes : List Change) (clock : ℕ) → ((session : ℕ) → txns session ≡ None) → AreTxns txns changes clock
 txns_none txns changes clock none = record {
   snapshots = λ s n is. absurd (cc (ap snapshot_of (none s)));

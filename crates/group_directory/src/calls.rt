@@ -48,6 +48,26 @@ impl Directory {
         ensures clock { IfOk result (λ directory. directory.clock ≡ 0) }
         ensures book { IfOk result (λ directory. book_of directory.list ≡ empty) }
     {
+        Directory::empty_at(alloc, schema, sizes, 0)
+    }
+
+    /// A directory without groups, transactions and changes, whose clock is `n`: the next commit has a greater number (Larson et
+    /// al., PVLDB 2015, section 4). `Memory` where the schema finds no place.
+    pub fn empty_at(
+        alloc: Global,
+        schema: Schema,
+        sizes: Sizes,
+        n: u64,
+    ) -> Result<Directory, Memory>
+        requires { AreSizes sizes }
+        ensures stands { IfOk result (λ directory. Stands directory []) }
+        ensures schema { IfOk result (λ directory. directory.schema.value ≡ schema) }
+        ensures sizes { IfOk result (λ directory. directory.sizes ≡ sizes) }
+        ensures txns { IfOk result (λ directory. (session : ℕ) → txn_of directory.txns session ≡ None) }
+        ensures next { IfOk result (λ directory. directory.txns.next ≡ 1) }
+        ensures clock { IfOk result (λ directory. directory.clock ≡ n) }
+        ensures book { IfOk result (λ directory. book_of directory.list ≡ empty) }
+    {
         let schema = match Arc::new(alloc, schema) {
             Ok(schema) => schema,
             Err(_) => return Err(Memory),
@@ -61,7 +81,7 @@ impl Directory {
             recent: Recent::new(alloc),
             pruned: 0,
             kept: 0,
-            clock: 0,
+            clock: n,
         })
     }
 

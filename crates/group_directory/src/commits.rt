@@ -9,7 +9,7 @@ ghost use Rattle.delete_buffer.specs.Entries as buffer;
 ghost use Rattle.write_set.specs.declared.write.Write.{Write};
 ghost use Rattle.write_set.specs.Writes.{write_keys};
 ghost use Rattle.txn_table.specs.declared.txn.Txn.{Txn};
-ghost use Rattle.txn_table.specs.Txns.{txn_of, with, own_of, IsSession};
+ghost use Rattle.txn_table.specs.Txns.{Table, txn_of, with, own_of, IsSession};
 ghost use Rattle.version_store.specs.Newest.{Newest};
 ghost use Rattle.group_book.specs.Commits.{draws_past};
 ghost use Rattle.group_view.specs.Books.{book_of};
@@ -138,6 +138,87 @@ impl Directory {
         }
     }
 
+    /// What a commit of the number makes of the groups, and room to note the keys: all of a commit that memory may be wanting for.
+    /// Once the session's transaction is gone, the clock is the number and the keys are noted, the directory stands for the changes
+    /// and those of the commit.
+    ///
+    /// `Memory` comes where memory is wanting. Then nothing has changed.
+    fn write_groups(
+        &mut self,
+        number: u64,
+        keys: &[Key],
+        ends: &[Key],
+        parcel: Parcel,
+    ) -> Result<(), CommitRefusal>
+        requires number { self.old.clock < number }
+        requires given { (changes : List Change) × (session : ℕ) × (list : List Write) × Stands self.old changes × IsCommitOf self.old changes session keys.now ends.now parcel list }
+        requires ids { draws_past (book_of self.old.list) (after_parcel self.old.sizes.group_rows number ends.now parcel (book_of self.old.list)) ≡ false }
+        ensures rest { self.new ≡ record self.old { list = self.new.list; recent = self.new.recent } }
+        ensures noted { self.new.recent.changes ≡ self.old.recent.changes }
+        ensures room { OnOk result (length keys.now ≤ self.new.recent.spare) }
+        ensures claims { self.new.list.claims ≡ self.old.list.claims }
+        ensures book { OnOk result (book_of self.new.list ≡ after_parcel self.old.sizes.group_rows number ends.now parcel (book_of self.old.list)) }
+        ensures stands { (changes : List Change) (session txn : ℕ) (list : List Write) (txns : Table) (recent : Newest) → Stands self.old changes → IsCommitOf self.old changes session keys.now ends.now parcel list
+            → txn_of txns ≡ with (txn_of self.old.txns) session None → recent.changes ≡ noted_by (record { commit = number; txn = txn }) self.old.recent.changes keys.now
+            → OnOk result (Stands (record self.new { txns = txns; recent = recent; clock = number }) (changes ++ numbered number txn (edits_of list))) }
+        ensures never { result ≢ Err refusal.Full }
+        ensures same { OnErr result (IsAsBefore self.old self.new) }
+        ensures refused { (changes : List Change) → Stands self.old changes → OnErr result (Stands self.new changes) }
+    {
+        self.recent.reserve(keys.len())?;
+        commit(
+            self.alloc,
+            &mut self.list,
+            self.sizes.group_rows,
+            ends,
+            parcel,
+            number,
+        )?;
+        Ok(())
+    }
+
+    /// Commits under this number what the transaction `txn` wrote: writes of these keys, of which the rows of `ends` are replaced or
+    /// deleted, with a parcel of the rows that they insert (Larson et al., PVLDB 2015, section 4). No session has the transaction, and
+    /// no open one has written one of the keys: so commits that were made before are made again, in their order. The number becomes
+    /// the clock; it may pass over some.
+    ///
+    /// `Full` comes exactly where a group id above 2^62 would be drawn, and `Memory` where memory is wanting. Then nothing has
+    /// changed.
+    pub fn commit_at(
+        &mut self,
+        number: u64,
+        txn: u64,
+        keys: &[Key],
+        ends: &[Key],
+        parcel: Parcel,
+    ) -> Result<(), CommitRefusal>
+        requires number { self.old.clock < number }
+        requires given { (changes : List Change) × (list : List Write) × Stands self.old changes × ((session : ℕ) → IsCommitOf self.old changes session keys.now ends.now parcel list) }
+        ensures clock { OnOk result (self.new.clock ≡ number) }
+        ensures claims { self.new.list.claims ≡ self.old.list.claims }
+        ensures rest { self.new ≡ record self.old { list = self.new.list; recent = self.new.recent; pruned = self.new.pruned; kept = self.new.kept; clock = self.new.clock } }
+        ensures book { OnOk result (book_of self.new.list ≡ after_parcel self.old.sizes.group_rows number ends.now parcel (book_of self.old.list)) }
+        ensures stands { (changes : List Change) (list : List Write) → Stands self.old changes → ((session : ℕ) → IsCommitOf self.old changes session keys.now ends.now parcel list)
+            → OnOk result (Stands self.new (changes ++ numbered number txn (edits_of list))) }
+        ensures full { (result ≡ Err refusal.Full) ↔ (draws_past (book_of self.old.list) (after_parcel self.old.sizes.group_rows number ends.now parcel (book_of self.old.list)) ≡ true) }
+        ensures same { OnErr result (IsAsBefore self.old self.new) }
+        ensures refused { (changes : List Change) → Stands self.old changes → OnErr result (Stands self.new changes) }
+    {
+        if is_full(&self.list, self.sizes.group_rows, &parcel) {
+            return Err(CommitRefusal::Full);
+        }
+        self.write_groups(number, keys, ends, parcel)?;
+        self.clock = number;
+        self.note(
+            keys,
+            NewestChange {
+                commit: number,
+                txn,
+            },
+        );
+        Ok(())
+    }
+
     /// Commits writes with these keys, some of which are replaced ones, and with a parcel of their rows, and ends the session's
     /// transaction. The answer is the number of the commit.
     ///
@@ -174,15 +255,7 @@ impl Directory {
             commit: self.clock + 1,
             txn: txn.number,
         };
-        self.recent.reserve(keys.len())?;
-        commit(
-            self.alloc,
-            &mut self.list,
-            self.sizes.group_rows,
-            replaced,
-            parcel,
-            change.commit,
-        )?;
+        self.write_groups(change.commit, keys, replaced, parcel)?;
         self.txns.remove(session);
         self.clock = change.commit;
         self.note(keys, change);

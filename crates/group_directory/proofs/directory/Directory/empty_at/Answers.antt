@@ -1,7 +1,7 @@
 use Rattle.std.proofs.Common.{refl}
 use Rattle.group_directory.proofs.NewLists.{held_none, book_none}
 use Rattle.group_directory.proofs.StandLaws.{stands_new}
-use Rattle.group_directory.proofs.directory.Directory.new.Goals as goal
+use Rattle.group_directory.proofs.directory.Directory.empty_at.Goals as goal
 
 pub returns-clause-stands : goal.returns-clause-stands
 returns-clause-stands c =
