@@ -1,5 +1,5 @@
 -- What the program does: for which words and input it ends with which status, and what it has written then.
-use Rattle.std.specs.Prelude.{◌≡◌, ◌≢◌, ◌⊎◌, ℕ, ◌<◌, ◌≤◌, List, [], ◌∷◌, ◌++◌, length, codes, decimal, Option, Some, ◌==◌, if◌then◌else◌, true, false}
+use Rattle.std.specs.Prelude.{◌≡◌, ◌≢◌, ◌⊎◌, ℕ, ◌<◌, ◌≤◌, List, [], ◌++◌, length, codes, decimal, Option, Some, ◌==◌, if◌then◌else◌, true, false}
 use Rattle.cs_base.specs.Counts.{Rose}
 use Rattle.cs_outside.specs.Outside.{IsAtEnd}
 use Rattle.command_words.specs.declared.order.Order.{Order}
