@@ -1,4 +1,4 @@
-use Rattle.std.proofs.Common.{◌≡◌, ◌++◌, List, get_or, sym, subst, arith}
+use Rattle.std.proofs.Common.{◌≡◌, ◌++◌, List, map, get_or, sym, subst, arith}
 use Rattle.std.specs.Result.{OnOk}
 use Rattle.cs_types.specs.declared.Value.{Value}
 use Rattle.cs_types.specs.Rows.{cell_at}

@@ -1,4 +1,4 @@
-use Rattle.std.proofs.Common.{◌≡◌, length, sym, ap, subst, arith}
+use Rattle.std.proofs.Common.{◌≡◌, ◌∙◌, ◌<◌, ℕ, length, sym, ap, subst, arith}
 use Rattle.row_group.specs.Groups.{precedes, IsFirstPlace}
 use Rattle.row_group.proofs.packed.Packed.first_of.Goals as goal
 
