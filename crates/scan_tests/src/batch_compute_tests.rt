@@ -244,7 +244,7 @@ fn long_series_are_columns(rt: HostRuntime) -> Result<(), Fail> {
     let plan = plan_of(alloc, -1_000, 1_500, Given::Sum(false, 10))?;
     let mut expected = Vec::with_capacity(alloc, 2_501)?;
     for i in 0..2_501 {
-        expected.push(Some(i - 990))?;
+        expected.push(Some(i.saturating_sub(990)))?;
     }
     let made = series_columns(alloc, &schema, &plan)?;
     assert_eq!(rt; cells_of(&made, 1), Some(expected.as_slice()));
