@@ -243,8 +243,8 @@ fn long_series_are_columns(rt: HostRuntime) -> Result<(), Fail> {
     let schema = table(alloc, ColumnType::Int)?;
     let plan = plan_of(alloc, -1_000, 1_500, Given::Sum(false, 10))?;
     let mut expected = Vec::with_capacity(alloc, 2_501)?;
-    for i in 0..2_501 {
-        expected.push(Some(i.saturating_sub(990)))?;
+    for cell in -990..1_511 {
+        expected.push(Some(cell))?;
     }
     let made = series_columns(alloc, &schema, &plan)?;
     assert_eq!(rt; cells_of(&made, 1), Some(expected.as_slice()));
