@@ -1,11 +1,11 @@
 -- Rows that come by columns.
 use Rattle.std.proofs.Common.{◌≡◌, ℕ, ℤ, ◌+◌, ◌-◌, ◌<◌, ◌≤◌, inl, inr, ◌⊎◌, List, [], ◌∷◌, ◌++◌, map, take, drop, get_or, length, replicate, Option, Some, None, refl, sym, ap, subst, ◌∙◌, arith}
 use Rattle.std.specs.Prelude.{min}
-use Rattle.std.specs.List.{All, range_with_len, slice_get}
+use Rattle.std.specs.List.{All, slice_get}
 use Rattle.std.specs.Option.{option_map}
 use Rattle.std.specs.declared.alloc.Global.{Global}
 use Rattle.std.specs.declared.vec.Vec.{Vec}
-use Rattle.std.proofs.lemmas.List.{append-nil, append_assoc, map-append, take-append-drop, take-map, drop-map, drop-drop, take_more, length-map, length-take, length-drop, length-replicate, get_or-map, get_or-drop, get_or-replicate, get_or_default, same_lists}
+use Rattle.std.proofs.lemmas.List.{append-nil, map-append, take-append-drop, take-map, drop-map, drop-drop, take_more, length-map, length-take, length-drop, length-replicate, get_or-map, get_or-drop, get_or-replicate, get_or_default, same_lists}
 use Rattle.std.proofs.lemmas.List.Elements.{All-map, All-nil, All-take, All-drop}
 use Rattle.std.proofs.lemmas.List.FromFn.{fill_by_all}
 use Rattle.std.proofs.lemmas.Option.{slice_get-map, slice_get-get_or, slice_get_cases, slice_get_within, get_or_from_slice_get}

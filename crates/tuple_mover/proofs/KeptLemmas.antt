@@ -1,9 +1,9 @@
 -- The versions that a new group keeps, one after the other.
-use Rattle.std.proofs.Common.{◌≡◌, ℕ, zero, suc, ◌+◌, ◌<◌, Bool, true, false, cond, not, List, [], ◌∷◌, ◌++◌, map, take, get_or, length, Option, Some, None, pos, refl, sym, ap, subst, ◌∙◌}
+use Rattle.std.proofs.Common.{◌≡◌, ℕ, zero, suc, ◌+◌, ◌<◌, Bool, true, false, cond, not, List, [], ◌∷◌, ◌++◌, map, take, get_or, length, Option, Some, None, refl, sym, ap, subst, ◌∙◌, arith}
 use Rattle.std.specs.Prelude.{slice_get}
 use Rattle.std.specs.List.{All, AllByRecursion, flat_map}
 use Rattle.std.specs.Option.{option_map}
-use Rattle.std.proofs.lemmas.List.{append-nil, append_assoc, map-append, take_more}
+use Rattle.std.proofs.lemmas.List.{append-nil, append_assoc, get_or-map, length-map, length-take-le, map-append, take_more}
 use Rattle.std.proofs.lemmas.List.Concat.{flat_map-append}
 use Rattle.std.proofs.lemmas.List.Elements.{All-push, All-weaker, recursion_from_All, filter-append, filter_more}
 use Rattle.std.proofs.lemmas.Option.{same_Some}
@@ -15,12 +15,13 @@ use Rattle.delete_bitmap.specs.declared.MarkedEnd.{MarkedEnd}
 use Rattle.delete_bitmap.specs.Marks.{end_at}
 use Rattle.delta_store.specs.declared.version.KeyedVersion.{KeyedVersion}
 use Rattle.cs_types.specs.declared.row.Version.{Version as Stored}
-use Rattle.group_book.specs.Book.{Version, Ending}
+use Rattle.group_book.specs.Book.{End, Version, Ending}
+use Rattle.group_book.specs.Book.End.{At}
 use Rattle.group_view.specs.declared.parts.GroupPart.{GroupPart}
-use Rattle.group_view.specs.Parts.{Rowed, rowed_in, packed_version, packed_versions, stored_versions}
+use Rattle.group_view.specs.Parts.{Rowed, end_of_mark, rowed_in, packed_version, packed_versions, stored_versions}
 use Rattle.group_view.proofs.Versions.{version_in, packed_read, packed_within}
 use Rattle.tuple_mover.specs.declared.kept.Kept.{Kept}
-use Rattle.tuple_mover.specs.Kept.{HasKept, is_left_out, kept_of, rowed_at, packed_row, number_of, numbers_of, StandIn}
+use Rattle.tuple_mover.specs.Kept.{HasKept, is_left_out, kept_of, rowed_at, packed_row, number_of, placed_end, placed_ends, StandIn}
 
 -- what is read at a position is the version there
 pub version-read : (rowed : List Rowed) (position : ℕ) (version : Version) → version_in rowed position ≡ Some version → let found : Rowed = rowed_at rowed position in found.version ≡ version
@@ -33,48 +34,70 @@ rowed-read [] position version is = cc
 rowed-read (first ∷ rowed) zero version is = same_Some first version is
 rowed-read (first ∷ rowed) (suc position) version is = rowed-read rowed position version is
 
--- ---- one position more
+-- ---- one version
 
-module _ (floor : ℕ) (buffer : List Ending) (rowed : List Rowed) (i : ℕ) (there : i < length rowed) (version : Version) (is : version_in rowed i ≡ Some version) where
-  abbrev out : Bool
-  out = is_left_out floor buffer version
-
+module _ (floor : ℕ) (buffer : List Ending) (rowed : List Rowed) (i : ℕ) where
   abbrev next : Rowed
   next = rowed_at rowed i
 
-  next-out : (let first : Rowed = rowed_at rowed i in is_left_out floor buffer first.version) ≡ is_left_out floor buffer version
-  next-out = ap (is_left_out floor buffer) (version-read rowed i version is)
-
-  kept-next : kept_of floor buffer (take (i + 1) rowed) ≡ kept_of floor buffer (take i rowed) ++ cond out [] (next ∷ [])
-  kept-next =
-      filter_more (λ (v : Rowed). not (is_left_out floor buffer v.version)) rowed i (record { version = record { key = record { 0 = pos 0 }; begin = 0; end = None }; row = [] }) there
-      ∙ ap (λ (more : List Rowed). kept_of floor buffer (take i rowed) ++ more) (turned (is_left_out floor buffer next.version) ∙ ap (λ (t : Bool). cond t [] (next ∷ [])) next-out)
+  -- the version at a position is kept exactly where it is not left out
+  pub kept-there : (version : Version) → version_in rowed i ≡ Some version → (out : Bool) → out ≡ is_left_out floor buffer version → kept_of floor buffer (next ∷ []) ≡ cond out [] (next ∷ [])
+  kept-there version is out same = ap (λ (t : Bool). cond (not t) (next ∷ []) []) (ap (is_left_out floor buffer) (version-read rowed i version is) ∙ sym same) ∙ turned out
     where
       turned : (t : Bool) → cond (not t) (next ∷ []) [] ≡ cond t [] (next ∷ [])
       turned true = refl
       turned false = refl
 
-  pub stand-more : (positions : List ℕ) → StandIn rowed (kept_of floor buffer (take i rowed)) positions → StandIn rowed (kept_of floor buffer (take (i + 1) rowed)) (positions ++ cond out [] (i ∷ []))
-  stand-more positions stand = subst (λ (kept : List Rowed). StandIn rowed kept (positions ++ cond out [] (i ∷ []))) (sym kept-next) (step out)
-    where
-      step : (t : Bool) → StandIn rowed (kept_of floor buffer (take i rowed) ++ cond t [] (rowed_at rowed i ∷ [])) (positions ++ cond t [] (i ∷ []))
-      step true = record {
-        within = subst (λ (ps : List ℕ). All (λ (p : ℕ). p < length rowed) ps) (sym (append-nil positions)) stand.within;
-        are = ap (map (rowed_at rowed)) (append-nil positions) ∙ stand.are ∙ sym (append-nil (kept_of floor buffer (take i rowed)));
-      }
-      step false = record {
-        within = All-push (λ (p : ℕ). p < length rowed) positions i stand.within there;
-        are = map-append (rowed_at rowed) positions (i ∷ []) ∙ ap (λ (kept : List Rowed). kept ++ rowed_at rowed i ∷ []) stand.are;
-      }
+  pub kept-next : i < length rowed → kept_of floor buffer (take (i + 1) rowed) ≡ kept_of floor buffer (take i rowed) ++ kept_of floor buffer (next ∷ [])
+  kept-next there = filter_more (λ (v : Rowed). not (is_left_out floor buffer v.version)) rowed i (rowed_at [] 0) there
 
-  pub numbers-more : numbers_of (kept_of floor buffer (take (i + 1) rowed)) ≡ numbers_of (kept_of floor buffer (take i rowed)) ++ cond out [] (number_of version.end ∷ [])
-  numbers-more =
-      ap numbers_of kept-next ∙ map-append (λ (v : Rowed). number_of v.version.end) (kept_of floor buffer (take i rowed)) (cond out [] (next ∷ []))
-      ∙ ap (λ (more : List (Option ℕ)). numbers_of (kept_of floor buffer (take i rowed)) ++ more) (step out)
-    where
-      step : (t : Bool) → numbers_of (cond t [] (rowed_at rowed i ∷ [])) ≡ cond t [] (number_of version.end ∷ [])
-      step true = refl
-      step false = ap (λ (v : Version). number_of v.end ∷ []) (version-read rowed i version is)
+  module _ (there : i < length rowed) (positions : List ℕ) (stand : StandIn rowed (kept_of floor buffer (take i rowed)) positions) where
+    pub stand-out : kept_of floor buffer (next ∷ []) ≡ [] → StandIn rowed (kept_of floor buffer (take (i + 1) rowed)) positions
+    stand-out none =
+        subst (λ (kept : List Rowed). StandIn rowed kept positions) (sym (kept-next there ∙ ap (λ (more : List Rowed). kept_of floor buffer (take i rowed) ++ more) none ∙ append-nil (kept_of floor buffer (take i rowed)))) stand
+
+    pub stand-more : kept_of floor buffer (next ∷ []) ≡ next ∷ [] → StandIn rowed (kept_of floor buffer (take (i + 1) rowed)) (positions ++ i ∷ [])
+    stand-more one = record {
+      within = All-push (λ (p : ℕ). p < length rowed) positions i stand.within there;
+      are =
+          map-append (rowed_at rowed) positions (i ∷ []) ∙ ap (λ (kept : List Rowed). kept ++ next ∷ []) stand.are
+          ∙ sym (kept-next there ∙ ap (λ (more : List Rowed). kept_of floor buffer (take i rowed) ++ more) one);
+    }
+
+-- ---- ends with their places
+
+pub placed-append : (place : ℕ) (first more : List Rowed) → placed_ends place (first ++ more) ≡ placed_ends place first ++ placed_ends (place + length first) more
+placed-append place [] more = let same : place ≡ place + 0 = omega arith in ap (λ (n : ℕ). placed_ends n more) same
+placed-append place (version ∷ first) more =
+    let ends = placed_end place (number_of version.version.end) in
+    let same : place + 1 + length first ≡ place + length (version ∷ first) = omega arith in
+    ap (λ (rest : List (ℕ × ℕ)). ends ++ rest) (placed-append (place + 1) first more ∙ ap (λ (n : ℕ). placed_ends (place + 1) first ++ placed_ends n more) same)
+    ∙ sym (append_assoc ends (placed_ends (place + 1) first) (placed_ends (place + length (version ∷ first)) more))
+
+-- the end of the version at a position more
+pub placed-more : (first : ℕ) (rowed : List Rowed) (i : ℕ) → i < length rowed → placed_ends first (take (i + 1) rowed) ≡ placed_ends first (take i rowed) ++ placed_end (first + i) (number_of (let version : Rowed = rowed_at rowed i in version.version.end))
+placed-more first rowed i there =
+    let next : Rowed = rowed_at rowed i in
+    let before = placed_ends first (take i rowed) in
+    ap (placed_ends first) (take_more rowed i (rowed_at [] 0) there)
+    ∙ placed-append first (take i rowed) (next ∷ [])
+    ∙ ap (λ (n : ℕ). before ++ placed_ends (first + n) (next ∷ [])) (length-take-le i rowed (omega (arith, there)))
+    ∙ ap (λ (more : List (ℕ × ℕ)). before ++ more) (append-nil (placed_end (first + i) (number_of next.version.end)))
+
+pub stored-number : (end : Option ℕ) → number_of (option_map At end) ≡ end
+stored-number None = refl
+stored-number (Some number) = refl
+
+-- the end of the version at a position is the one that the bitmap has there
+pub marked-number : (rowed : List Rowed) (marks : List (Option MarkedEnd)) (positions : List ℕ) (i : ℕ) → i < length positions
+    → map (λ (v : Rowed). v.version.end) rowed ≡ map (λ (position : ℕ). end_of_mark (end_at marks position)) positions
+    → (i < length rowed) × (end_of_mark (end_at marks (get_or positions i 0)) ≡ (let version : Rowed = rowed_at rowed i in version.version.end))
+marked-number rowed marks positions i there same =
+    let many : length rowed ≡ length positions = sym (length-map rowed (λ (v : Rowed). v.version.end)) ∙ ap length same ∙ length-map positions (λ (position : ℕ). end_of_mark (end_at marks position)) in
+    let inside : i < length rowed = omega (arith, there, many) in (
+      inside,
+      sym (get_or-map (λ (position : ℕ). end_of_mark (end_at marks position)) positions i 0 None there) ∙ ap (λ (ends : List (Option End)). get_or ends i None) (sym same) ∙ get_or-map (λ (v : Rowed). v.version.end) rowed i (rowed_at [] 0) None inside,
+    )
 
 -- ---- rows
 
@@ -103,30 +126,48 @@ pub positions-within : (group : Group) (marks : List (Option MarkedEnd)) (positi
 positions-within group marks positions within =
     All-weaker (λ (position : ℕ). position < length (packed_versions group.key group.rows marks)) (λ (position : ℕ). position < length group.rows) (λ position there. (packed_within group.key group.rows marks position there).0) positions within
 
--- one row more
-pub rows-more : (start now : Packing) (f : ℕ → PackedRow) (positions : List ℕ) (i : ℕ) (row : PackedRow) → i < length positions → now ≡ record start { rows = start.rows ++ map f (take i positions) } → row ≡ f (get_or positions i 0)
-    → let after : Packing = record now { rows = now.rows ++ row ∷ [] } in after ≡ record start { rows = start.rows ++ map f (take (i + 1) positions) }
-rows-more start now f positions i row there before same =
-    ap (λ (p : Packing). let after : Packing = record p { rows = p.rows ++ row ∷ [] } in after) before
-    ∙ ap (λ (rows : List PackedRow). let after : Packing = record start { rows = rows } in after)
-    (append_assoc start.rows (map f (take i positions)) (row ∷ [])
-    ∙ ap (λ (rows : List PackedRow). start.rows ++ rows)
-    (ap (λ (r : PackedRow). map f (take i positions) ++ r ∷ []) same ∙ sym (map-append f (take i positions) (get_or positions i 0 ∷ [])) ∙ ap (map f) (sym (take_more positions i 0 there))))
+-- the rows at positions where the kept versions stand
+pub kept-rows : (width : ℕ) (group : Group) (marks : List (Option MarkedEnd)) (kept : List Rowed) (positions : List ℕ) → StandIn (packed_versions group.key group.rows marks) kept positions
+    → map (padded_at width group) positions ≡ map (packed_row width) kept
+kept-rows width group marks kept positions stand =
+    let versions = packed_versions group.key group.rows marks in
+    same-within (λ (position : ℕ). position < length versions) (padded_at width group) (λ (position : ℕ). packed_row width (rowed_at versions position)) (λ position there. packed-same width group marks position there) positions stand.within
+    ∙ sym (map-map (rowed_at versions) (packed_row width) (λ (position : ℕ). packed_row width (rowed_at versions position)) (λ position. refl) positions)
+    ∙ ap (map (packed_row width)) stand.are
 
--- one group's rows more
-pub has-more : (width : ℕ) (rowed all more : List Rowed) (positions : List ℕ) (old new : Kept) → HasKept width rowed old → StandIn all more positions
-    → new.packer ≡ record old.packer { rows = old.packer.rows ++ map (λ (position : ℕ). packed_row old.packer.width (rowed_at all position)) positions } → new.ends.items ≡ old.ends.items ++ numbers_of more
-    → HasKept width (rowed ++ more) new
-has-more width rowed all more positions old new had stand added ended = record {
-  columns = ap (λ (p : Packing). p.width) added ∙ had.columns;
-  rows =
-      ap (λ (p : Packing). p.rows) added
-      ∙ ap (λ (w : ℕ). old.packer.rows ++ map (λ (position : ℕ). packed_row w (rowed_at all position)) positions) had.columns
-      ∙ ap (λ (rows : List PackedRow). old.packer.rows ++ rows) (sym (map-map (rowed_at all) (packed_row width) (λ (position : ℕ). packed_row width (rowed_at all position)) (λ position. refl) positions) ∙ ap (map (packed_row width)) stand.are)
-      ∙ ap (λ (rows : List PackedRow). rows ++ map (packed_row width) more) had.rows
-      ∙ sym (map-append (packed_row width) rowed more);
-  ends = ended ∙ ap (λ (ends : List (Option ℕ)). ends ++ numbers_of more) had.ends ∙ sym (map-append (λ (v : Rowed). number_of v.version.end) rowed more);
-}
+-- the ends of the kept versions are those that the bitmap has at their positions
+pub kept-ends : (group : Group) (marks : List (Option MarkedEnd)) (kept : List Rowed) (positions : List ℕ) → StandIn (packed_versions group.key group.rows marks) kept positions
+    → map (λ (v : Rowed). v.version.end) kept ≡ map (λ (position : ℕ). end_of_mark (end_at marks position)) positions
+kept-ends group marks kept positions stand =
+    let versions = packed_versions group.key group.rows marks in
+    let end_there : ℕ → Option End = λ position. let version : Rowed = rowed_at versions position in version.version.end in
+    ap (map (λ (v : Rowed). v.version.end)) (sym stand.are)
+    ∙ map-map (rowed_at versions) (λ (v : Rowed). v.version.end) end_there (λ position. refl) positions
+    ∙ same-within (λ (position : ℕ). position < length versions) end_there (λ (position : ℕ). end_of_mark (end_at marks position))
+    (λ position there. ap (λ (v : Rowed). v.version.end) (rowed-read versions position (packed_version group.key (row_at group position) (end_at marks position)) (packed_read group marks position there))) positions stand.within
+
+-- more versions
+pub has-more : (width : ℕ) (rowed more : List Rowed) (old new : Kept) → HasKept width rowed old → new.packer ≡ record old.packer { rows = old.packer.rows ++ map (packed_row old.packer.width) more }
+    → new.ends.items ≡ old.ends.items ++ placed_ends (length old.packer.rows) more → HasKept width (rowed ++ more) new
+has-more width rowed more old new had added ended =
+    let start : 0 + length rowed ≡ length rowed = omega arith in
+    record {
+      columns = ap (λ (p : Packing). p.width) added ∙ had.columns;
+      rows =
+          ap (λ (p : Packing). p.rows) added
+          ∙ ap (λ (w : ℕ). old.packer.rows ++ map (packed_row w) more) had.columns
+          ∙ ap (λ (rows : List PackedRow). rows ++ map (packed_row width) more) had.rows
+          ∙ sym (map-append (packed_row width) rowed more);
+      ends =
+          ended
+          ∙ ap (λ (n : ℕ). old.ends.items ++ placed_ends n more) (ap length had.rows ∙ length-map rowed (packed_row width) ∙ sym start)
+          ∙ ap (λ (ends : List (ℕ × ℕ)). ends ++ placed_ends (0 + length rowed) more) had.ends
+          ∙ sym (placed-append 0 rowed more);
+    }
+
+-- none more
+pub has-none : (width : ℕ) (rowed more : List Rowed) (kept : Kept) → more ≡ [] → HasKept width rowed kept → HasKept width (rowed ++ more) kept
+has-none width rowed more kept none had = subst (λ (all : List Rowed). HasKept width all kept) (sym (append-nil rowed) ∙ ap (λ (rest : List Rowed). rowed ++ rest) (sym none)) had
 
 -- ---- groups
 

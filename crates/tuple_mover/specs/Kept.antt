@@ -1,7 +1,8 @@
 -- What a new group keeps of the versions that a claim lends.
-use Rattle.std.specs.Prelude.{◌≡◌, ℕ, pos, ◌<◌, List, [], map, filter, length, slice_index, slice_index_or, not, Bool, is_some, if◌then◌else◌, Option, None, Some, All}
+use Rattle.std.specs.Prelude.{◌≡◌, ℕ, pos, ◌+◌, ◌<◌, List, [], ◌∷◌, ◌++◌, map, filter, length, slice_index, slice_index_or, not, Bool, is_some, if◌then◌else◌, Option, None, Some, All, Contains}
 use Rattle.delete_bitmap.specs.declared.MarkedEnd.{MarkedEnd}
 use Rattle.delete_bitmap.specs.declared.MarkedEnd.TheVariants.{Stamped}
+use Rattle.delete_bitmap.specs.Marks.{end_at}
 use Rattle.row_group.specs.Rows.{PackedRow, padded}
 use Rattle.group_book.specs.Book.{End, Version, Ending, has_ended, is_buffered}
 use Rattle.group_book.specs.Book.End.{At, Plain}
@@ -34,23 +35,26 @@ number_of None = None
 number_of (Some (At end)) = Some end
 number_of (Some Plain) = None
 
-abbrev pub numbers_of : List Rowed → List (Option ℕ)
-numbers_of rowed = map (λ (version : Rowed). number_of version.version.end) rowed
+-- the number of an end with the place of its version, where it has one
+abbrev pub placed_end : ℕ → Option ℕ → List (ℕ × ℕ)
+placed_end place None = []
+placed_end place (Some number) = (place, number) ∷ []
 
--- the rows of the versions in so many columns, and the numbers of their ends
+-- the numbers of the ends of those versions that have one, each with the version's place; the first version stands at this one
+abbrev pub placed_ends : ℕ → List Rowed → List (ℕ × ℕ)
+placed_ends place [] = []
+placed_ends place (version ∷ rowed) = placed_end place (number_of version.version.end) ++ placed_ends (place + 1) rowed
+
+-- the rows of the versions in so many columns, and the numbers of the ends of those that have one, with their places
 pub record HasKept (width : ℕ) (rowed : List Rowed) (kept : Kept) : Type 0 where
   pub columns : kept.packer.width ≡ width
   pub rows : kept.packer.rows ≡ map (packed_row width) rowed
-  pub ends : kept.ends.items ≡ numbers_of rowed
+  pub ends : kept.ends.items ≡ placed_ends 0 rowed
 
 -- ---- the new group
 
--- the end that a bitmap records with this number
-abbrev pub mark_of : Option ℕ → Option MarkedEnd
-mark_of None = None
-mark_of (Some end) = Some (Stamped end)
-
--- the number at a position is that of the row that stands there
-pub record ArePlaced (ends : List (Option ℕ)) (positions : List ℕ) (placed : List (Option ℕ)) : Type 0 where
-  pub counted : length placed ≡ length positions
-  pub own : (i : ℕ) → i < length positions → slice_index_or placed (slice_index positions i) None ≡ slice_index_or ends i None
+-- where the rows of a group stand at these positions, which are all of its, the bitmap has the ends beside their places, and no other
+pub record AreMarkedAt (ends : List (ℕ × ℕ)) (positions : List ℕ) (marks : List (Option MarkedEnd)) : Type 0 where
+  pub counted : length marks ≡ length positions
+  pub ended : (place number : ℕ) → Contains ends (place, number) → end_at marks (slice_index positions place) ≡ Some (Stamped number)
+  pub others : (place : ℕ) → place < length positions → ((number : ℕ) → ¬ Contains ends (place, number)) → end_at marks (slice_index positions place) ≡ None

@@ -86,7 +86,7 @@ fn places_of(
 }
 
 /// Puts places in the order of positions, each once.
-fn sort_once(places: &mut Vec<(usize, u64)>)
+pub(crate) fn sort_once(places: &mut Vec<(usize, u64)>)
     ensures order { IsStrictlySortedBy place_cmp places.new.items }
     ensures same { (place : ℕ × ℕ) → Contains places.new.items place ↔ Contains places.old.items place }
 {

@@ -1,9 +1,10 @@
 // The new group of a claim.
-ghost use Rattle.std.specs.Prelude.{◌≡◌, ◌≢◌, ◌<◌, length, map, slice_get, slice_set, All, AllPairs, IfOk, OnOk, Some, None};
+ghost use Rattle.std.specs.Prelude.{◌≡◌, ◌≢◌, ◌<◌, ℕ, length, map, slice_index, All, AllPairs, Contains, IfOk};
 ghost use Rattle.group_view.specs.Views.{buffer_of, rowed_of};
 ghost use Rattle.group_view.specs.Claims.{IsMadeOf, IsMendable};
-ghost use Rattle.tuple_mover.specs.Kept.{kept_of, mark_of, ArePlaced, HasKept};
+ghost use Rattle.tuple_mover.specs.Kept.{kept_of, AreMarkedAt, HasKept};
 
+use crate::flushes::sort_once;
 use crate::kept::Kept;
 use cs_base::Memory;
 use delete_bitmap::Marks;
@@ -12,43 +13,35 @@ use row_group::Packed;
 use std::alloc::Global;
 use std::sync::Arc;
 
-/// The numbers of ends by position, where each row stands at a position of its own.
-fn placed(
+/// The ends of rows that stand at these positions, with the rows' positions in place of their places.
+fn positioned(
     alloc: Global,
-    ends: &[Option<u64>],
+    ends: &[(usize, u64)],
     positions: &[usize],
-) -> Result<Vec<Option<u64>>, Memory>
-    requires counted { length ends.now ≡ length positions.now }
+) -> Result<Vec<(usize, u64)>, Memory>
+    requires { All (λ end. end.0 < length positions.now) ends.now }
+    ensures { IfOk result (λ positioned. positioned.items ≡ map (λ end. (slice_index positions.now end.0, end.1)) ends.now) }
+{
+    let mut positioned = Vec::with_capacity(alloc, ends.len())?;
+    for end in ends {
+        positioned.push((positions[end.0], end.1))?;
+    }
+    Ok(positioned)
+}
+
+/// The bitmap of a group whose rows stand at these positions, with the ends of some of them by their places. They are sorted by
+/// position, and marked in one pass.
+fn marks_of(alloc: Global, ends: &[(usize, u64)], positions: &[usize]) -> Result<Marks, Memory>
+    requires places { All (λ end. end.0 < length positions.now) ends.now }
+    requires once { (x y : ℕ × ℕ) → Contains ends.now x → Contains ends.now y → x.0 ≡ y.0 → x.1 ≡ y.1 }
     requires within { All (λ position. position < length positions.now) positions.now }
     requires apart { AllPairs (λ a b. a ≢ b) positions.now }
-    ensures { IfOk result (λ placed. ArePlaced ends.now positions.now placed.items) }
+    ensures { IfOk result (AreMarkedAt ends.now positions.now) }
 {
-    let mut placed = vec![in alloc; None; positions.len()]?;
-    for i in 0..positions.len() {
-        placed[positions[i]] = ends[i];
-    }
-    Ok(placed)
-}
-
-/// Ends the version at a position that has no end, if there is a number.
-fn mark_at(marks: &mut Marks, position: usize, end: Option<u64>) -> Result<(), Memory>
-    requires { slice_get marks.old position ≡ Some None }
-    ensures { OnOk result (marks.new ≡ slice_set marks.old position (mark_of end)) }
-{
-    match end {
-        None => Ok(()),
-        Some(end) => marks.mark(position, end),
-    }
-}
-
-/// The bitmap with these ends by position.
-fn marks_of(alloc: Global, ends: &[Option<u64>]) -> Result<Marks, Memory>
-    ensures { IfOk result (λ marks. marks ≡ map mark_of ends.now) }
-{
-    let mut marks = Marks::new(alloc, ends.len())?;
-    for position in 0..ends.len() {
-        mark_at(&mut marks, position, ends[position])?;
-    }
+    let mut positioned = positioned(alloc, ends, positions)?;
+    sort_once(&mut positioned);
+    let mut marks = Marks::new(alloc, positions.len())?;
+    marks.mark_each(&positioned)?;
     Ok(marks)
 }
 
@@ -66,8 +59,7 @@ pub(crate) fn new_group(
     let Some((packed, positions)) = packer.pack_placed(&claim.schema, claim.floor)? else {
         return Ok(None);
     };
-    let ends = placed(alloc, &ends, &positions)?;
-    let marks = marks_of(alloc, &ends)?;
+    let marks = marks_of(alloc, &ends, &positions)?;
     let marks = Arc::new(alloc, marks)?;
     Ok(Some((Arc::new(alloc, packed)?, marks)))
 }

@@ -73,6 +73,9 @@ pub(crate) fn spent(alloc: Global, claim: &Claim) -> Result<Vec<(Key, u64)>, Mem
 {
     let buffer = &claim.view.buffer;
     let entries = buffer.as_slice();
+    if entries.is_empty() {
+        return Ok(Vec::new(alloc));
+    }
     let mut spent = vec![in alloc; false; entries.len()]?;
     for part in claim.view.groups.as_slice() {
         spend_part(&mut spent, &part.1, buffer, claim.floor);

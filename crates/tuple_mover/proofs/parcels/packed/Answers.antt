@@ -1,4 +1,4 @@
-use Rattle.std.proofs.Common.{◌≡◌, ◌∙◌, length, map, Option, refl, sym, ap, subst, arith}
+use Rattle.std.proofs.Common.{◌≡◌, length, map, Option, refl, sym, ap, subst, arith}
 use Rattle.std.specs.Option.{IfSome, IsNone}
 use Rattle.row_group.specs.Rows.{begun_above}
 use Rattle.row_group.specs.Groups.{Group, HoldsRows}
