@@ -162,7 +162,8 @@ IsWrittenOrStopped status.ReadFault = ⊥
 IsWrittenOrStopped status.WriteFault = Unit {0}
 IsWrittenOrStopped status.Memory = Unit {0}
 
--- for words that order to run a script which is the whole input, the run is done, or memory or a stream gives out
+-- for words that order to run a script which is the whole input, where that tells its bytes and they are at most 16 MiB, the run is
+-- done, or memory or a stream gives out
 abbrev pub AnswersScripts : Words → Option (List ℕ) → Status → Type 0
 AnswersScripts words input s =
     (bytes : List ℕ) (options : RunOptions) (way : Way) (script : Script) → input ≡ Some bytes → IsOrder words (order_of options way) → length bytes ≤ limit → IsScript (mode_of way) bytes script → IsDoneOrStopped s
