@@ -10,15 +10,17 @@ process, printing included, in milliseconds; sqlite3 has a process of its own, a
 second of them at most. Memory is the greatest resident size, below some 30 MB this script's own; bytes are 8 x words of the segment
 report, and sqlite3's pages. A ratio is of two times of one run; times of other runs compare with nothing.
 
-The first table has all cases beside sqlite3. Its column "Of one group" is the time of a query as a part of that over the plain case, one packed
-group with no row deleted; of the case of a quarter of the rows it has the growth, how often its time goes into that of the plain case. The
-second table has queries beside themselves: by four workers and by one, by the clock, and over a column in runs and not in runs."""
+The first table has all cases beside sqlite3, with the sum of the times of a case's queries. Its column "Of one group" is a time as a part of
+that over the plain case, one packed group with no row deleted, where both ask the same; of the case of a quarter of the rows it has the
+growth, how often its time goes into that of the plain case. The second table has queries beside themselves: by four workers and by one, by
+the clock, with what four plain loops at once take beside one, and over a column in runs and not in runs."""
 import argparse
 import datetime
 import json
 import os
 import re
 import sqlite3
+import subprocess
 import sys
 import tempfile
 import time
@@ -35,6 +37,7 @@ run = load.run
 
 ROUNDS = 5
 MORE = 30
+LOOP = "for _ in range(30_000_000): pass"
 SEGMENTS = "s1 SELECT * FROM sys.column_store_segments"
 NUMBERS = "CREATE TABLE t (k bigint NOT NULL PRIMARY KEY, v int, w int)"
 MIXED = "CREATE TABLE t (k bigint NOT NULL PRIMARY KEY, p decimal(9,2), d date, s varchar(20))"
@@ -261,6 +264,18 @@ def cases(rows):
 # ---- queries beside themselves
 
 
+def loops(number):
+    """The seconds by the clock of so many plain loops at once, each in a process of its own: what the machine's processors give beside each other."""
+
+    def once():
+        start = time.monotonic()
+        for loop in [subprocess.Popen([sys.executable, "-c", LOOP]) for _ in range(number)]:
+            loop.wait()
+        return time.monotonic() - start
+
+    return min(once() for _ in range(ROUNDS))
+
+
 def by_workers(program, rows, repeat, folder):
     """Queries over 8 groups by four workers, and by one, by the clock."""
     queries = [
@@ -278,6 +293,7 @@ def by_workers(program, rows, repeat, folder):
         sys.exit("compare: four workers answer otherwise than one")
     for query, four, one in zip(queries, *times):
         yield f"{query.name}, over 8 groups, four workers, by the clock", four, "one worker", one
+    yield "four plain loops at once, by the clock", loops(4), "one loop", loops(1)
 
 
 def by_runs(program, rows, repeat, folder):
@@ -313,13 +329,15 @@ def compared(program, given, repeat, folder, plain):
         if ours != theirs:
             differ = next(((a, b) for a, b in zip(ours, theirs) if a != b), (len(ours), len(theirs)))
             sys.exit(f"compare: {given.name}: {query.name}: two answers: {differ[0]!r}, and sqlite3 {differ[1]!r}")
-    lines = [("its load", loaded, other_loaded)] + [(query.name, *pair) for query, pair in zip(given.queries, zip(times, other_times))]
+    names = [query.name for query in given.queries]
+    lines = [("its load", loaded, other_loaded), *zip(names, times, other_times), (", ".join(names), sum(times), sum(other_times))]
     for name, ours, theirs in lines:
         if given.name.startswith("one packed"):
             plain[name] = ours
         of_plain = f"{ours / plain[name]:.2f}" if plain.get(name, 0) > 0 and ours > 0 else ""
         grown = f"growth {plain[name] / ours:.1f}" if of_plain and given.name.startswith("a quarter") else of_plain
-        table(given.name, f"{given.rows:,}", name, f"{ours * 1000:.3f}", f"{theirs * 1000:.3f}", f"{ours / theirs:.3g}" if theirs > 0 else "", grown)
+        shown_name = name if name in ("its load", *names) else f"these {len(names)} queries"
+        table(given.name, f"{given.rows:,}", shown_name, f"{ours * 1000:.3f}", f"{theirs * 1000:.3f}", f"{ours / theirs:.3g}" if theirs > 0 else "", grown)
     table(given.name, f"{given.rows:,}", f"memory {room:.0f} MB, sqlite3 {other_room:.0f} MB; {size:,} bytes, sqlite3 {other_size:,}", "", "", f"{size / other_size:.3g}", "")
 
 

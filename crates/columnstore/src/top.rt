@@ -115,7 +115,7 @@ pub fn columnstore<R: Threads + Wait + Sync, I: Source, O: Sink>(
     ensures drawn { AnswersDraws (map string_bytes words.now) result }
     // Exactly the orders to run the script of an input read it.
     ensures modes { (order : Order) → ReadsInput order ↔ ((options : RunOptions) × (way : Way) × (order ≡ order_of options way)) }
-    // No call of the input is made for words that order a draw, nor for words that are refused.
+    // The input is as it was for words that order a draw, and for words that are refused.
     ensures untouched { ((order : Order) → IsOrder (map string_bytes words.now) order → ReadsInput order → ⊥) → input.new ≡ input.old }
     ensures read_fault { result ≡ Status.ReadFault → Rose (I.faults input.old) (I.faults input.new) }
     ensures write_fault { result ≡ Status.WriteFault → Rose (O.faults output.old) (O.faults output.new) }

@@ -6,8 +6,7 @@ use std::sync::atomic::{AtomicBool, AtomicU32, Ordering};
 /// What movers sleep for, and which of them are to stop.
 #[derive(Drop)]
 pub(crate) struct Signals {
-    /// Rung where a mover may find something to do, or is to stop: by sessions, and by a mover that has claimed, or that lacked memory
-    /// for its first event.
+    /// Rung where a mover may find something to do, or is to stop: by sessions, and by a mover that has claimed or that stops.
     pub news: EventCount,
     /// Rung by sessions alone: one may have changed the groups, has ended, or has stopped.
     pub changes: EventCount,
