@@ -285,8 +285,34 @@ const REORGANIZE_NEVER: &str = "1 s1.1 >
 15 s1 end
 ";
 
-/// Runs a script at a desk that finds no memory at these calls of `work` and of `mend`, where groups have at most four versions and two rows are loaded directly, or two versions and
-/// none are, and compares the text of the log.
+/// A CLOSED store that a mover claims before a REORGANIZE starts, and gives back while that is half done.
+const RELEASED: &str = "setup CREATE TABLE t (k int NOT NULL PRIMARY KEY, v int NULL)
+s1 INSERT INTO t VALUES (1, 10), (2, 20)
+m1>
+s1> ALTER INDEX ALL ON t REORGANIZE
+m1<
+s1<
+s1 SELECT * FROM sys.dm_db_column_store_row_group_physical_stats
+";
+
+/// Where the mover finds no memory: the REORGANIZE compresses the store, and leaves nothing.
+const RELEASED_COMPRESSED: &str = "1 s1.1 >
+2 s1.1 < ok 2 affected
+3 m1 claim compress 1 to 2
+4 s1.2 >
+5 m1 release compress 1 to 2
+6 s1 claim compress 1 to 3
+7 s1 install compress 1 to 3 rows 2
+8 s1.2 < ok 0 left
+9 s1.3 >
+10 s1.3 < ok 2 groups, 0 buffered
+  1, 4, TOMBSTONE, 2, 0
+  3, 3, COMPRESSED, 2, 0
+11 s1 end
+";
+
+/// Runs a script at a desk that finds no memory at these calls of `work` and of `mend`, where groups have at most four versions and
+/// two rows are loaded directly, or two versions and none are, and compares the text of the log.
 fn check(
     rt: &(impl Abort + Threads + Wait + Sync),
     alloc: Global,
@@ -327,4 +353,9 @@ fn reorganizes_until_it_finds_no_memory(rt: HostRuntime) -> Result<(), Fail> {
     check(&rt, alloc, false, (&[], &[1]), REORGANIZE, REORGANIZE_FIRST)?;
     check(&rt, alloc, false, (&[3], &[]), REORGANIZE, REORGANIZE_NEVER)?;
     Ok(())
+}
+
+#[test]
+fn reorganizes_what_a_mover_gives_back(rt: HostRuntime) -> Result<(), Fail> {
+    check(&rt, rt.alloc(), false, (&[], &[1]), RELEASED, RELEASED_COMPRESSED)
 }
