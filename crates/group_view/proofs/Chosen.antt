@@ -103,8 +103,11 @@ module _ (book : Book) (test : Group → Bool) (groups : List Kept) where
       any-map (takes_packed book.claims test) group_of groups
       ∙ list_any_at (λ other. takes_packed book.claims test (group_of other)) groups i group inside (ap (λ (g : Kept). takes_packed book.claims test (group_of g)) at ∙ and_from _ _ passes (ap not unclaimed))
 
+  pub none_passes : list_any (λ other. takes_packed book.claims test (group_of other)) groups ≡ false → list_any (takes_packed book.claims test) (map group_of groups) ≡ false
+  none_passes none = any-map (takes_packed book.claims test) group_of groups ∙ none
+
   pub none_found : (i : ℕ) → list_any (λ other. takes_packed book.claims test (group_of other)) (take i groups) ≡ false → length groups ≤ i → list_any (takes_packed book.claims test) (map group_of groups) ≡ false
-  none_found i none all = any-map (takes_packed book.claims test) group_of groups ∙ any_done (λ other. takes_packed book.claims test (group_of other)) groups i none all
+  none_found i none all = none_passes (any_done (λ other. takes_packed book.claims test (group_of other)) groups i none all)
 
 -- ---- flushes
 

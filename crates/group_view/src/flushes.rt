@@ -32,12 +32,15 @@ fn keep_near(nears: &mut [usize], place: usize, near: usize) {
 }
 
 /// Whether the entry of this key and end ends a version of a COMPRESSED group that no claim has. Claims are asked only of a
-/// group in which it does. In each group the search begins near the place of the key that was looked for before.
+/// group in which it does. The newest groups come first, as most versions that end stand in these where rows are changed often. In
+/// each group the search begins near the place of the key that was looked for before.
 fn is_flushable(list: &GroupList, nears: &mut [usize], key: Key, end: u64) -> bool
     requires { All (λ group. IsFittingContent group.content) list.now.groups.items }
     ensures { result ≡ list_any (ends (book_of list.now).buffer (record { key = key; end = end })) (frozen (free_packed (book_of list.now))) }
 {
-    for place in 0..list.groups.len() {
+    let mut place = list.groups.len();
+    while place > 0 {
+        place -= 1;
         let group = &list.groups[place];
         let mut near = near_at(nears, place);
         let ended = ends_one(group, &list.buffer, &mut near, key, end);
