@@ -14,6 +14,7 @@ mod filter;
 mod frozen;
 mod index;
 mod merge;
+mod pieces;
 mod run;
 mod runs;
 mod store;
