@@ -68,7 +68,7 @@ impl Chunk {
         Ok(())
     }
 
-    /// Makes the version at a place own. After `Memory` the versions are as before.
+    /// Makes the version at a place own: takes the last piece back, or copies all pieces. After `Memory` the versions are as before.
     pub fn make_own(&mut self, alloc: Global, at: usize) -> Result<(), Memory>
         ensures kept { IsKept self.old self.new }
         ensures own { OnOk result (own_from self.new ≤ at) }

@@ -1,5 +1,5 @@
 // Pieces of versions that chunks may have in common.
-ghost use Rattle.std.specs.Prelude.{◌≡◌, ◌+◌, ◌-◌, ◌≤◌, ◌++◌, [], ◌∷◌, ◌<◌, length, slice_get, vec_len, vec_capacity, IfOk, IfErr, IfSome, OnOk, OnErr, OnNone, Some, MatchResult, IsTrue};
+ghost use Rattle.std.specs.Prelude.{◌≡◌, ◌+◌, ◌-◌, ◌≤◌, ◌++◌, [], ◌∷◌, ◌<◌, length, slice_get, vec_len, vec_capacity, IfOk, IfErr, OnOk, OnErr, Some, None, MatchOption, MatchResult, IsTrue};
 ghost use Rattle.delta_store.specs.Chunks.{pieces_in, shared_in};
 
 use crate::version::LinkedVersion;
@@ -131,8 +131,7 @@ impl Pieces {
 
     /// Takes the last piece, where nobody else has it, with no copy of a version.
     pub fn take_last(&mut self) -> Option<Vec<LinkedVersion>>
-        ensures some { IfSome result (λ last. shared_in self.old ≡ shared_in self.new ++ last.items) }
-        ensures none { OnNone result (shared_in self.new ≡ shared_in self.old) }
+        ensures { MatchOption result (shared_in self.new ≡ shared_in self.old) (λ last. shared_in self.old ≡ shared_in self.new ++ last.items) }
     {
         match self.more.pop() {
             Some(piece) => match Arc::try_unwrap(piece) {
@@ -149,8 +148,7 @@ impl Pieces {
     /// Takes the first piece, where there is no other, and nobody else has it.
     fn take_first(&mut self) -> Option<Vec<LinkedVersion>>
         requires { self.old.more.items ≡ [] }
-        ensures some { IfSome result (λ last. shared_in self.old ≡ shared_in self.new ++ last.items) }
-        ensures none { OnNone result (shared_in self.new ≡ shared_in self.old) }
+        ensures { MatchOption result (shared_in self.new ≡ shared_in self.old) (λ last. shared_in self.old ≡ shared_in self.new ++ last.items) }
     {
         match Arc::try_unwrap(self.first.take()?) {
             Ok(last) => Some(last),
