@@ -1,12 +1,14 @@
 -- What a change of one chunk does to them all.
-use Rattle.std.proofs.Common.{◌≡◌, ◌≢◌, ℕ, ◌+◌, ◌-◌, ◌*◌, ◌/◌, ◌%◌, ◌<◌, ◌≤◌, min, true, false, List, [], ◌∷◌, ◌++◌, map, length, get_or, set, take, slice_get, refl, sym, ap, ◌∙◌, subst, arith, inl, inr, Result, Ok, Err, OnOk}
+use Rattle.std.proofs.Common.{◌≡◌, ◌≢◌, ℕ, ◌+◌, ◌-◌, ◌*◌, ◌/◌, ◌%◌, ◌<◌, ◌≤◌, min, true, false, All, unwrap_or, List, [], ◌∷◌, ◌++◌, map, length, get_or, set, take, slice_get, sym, ap, ◌∙◌, subst, arith, inl, inr, Result, Ok, Err, OnOk}
 use Rattle.std.proofs.Math.Seq.{map-set_same}
 use Rattle.std.proofs.lemmas.Bool.{cases_eq, cases_lt}
 use Rattle.std.proofs.lemmas.List.{map-set, get_or-map, get_or-set_same, get_or-set_other, get_or_past, length-map, get_or_append_left, get_or_push, length_push, map-append, take_more}
+use Rattle.std.proofs.lemmas.List.Elements.{All-nil, All-append, All-head, All-tail}
+use Rattle.std.proofs.lemmas.Option.{unwrap_or-slice_get}
 use Rattle.delta_store.specs.declared.chunk.Chunk.{Chunk}
-use Rattle.delta_store.specs.declared.chunk.Chunk.TheVariants.{Own, Shared}
 use Rattle.delta_store.specs.declared.version.LinkedVersion.{LinkedVersion}
-use Rattle.delta_store.specs.Chunks.{versions_in, free_in, is_own, versions_at, free_at, own_at, joined, IsKept, AreFilled, AreKept}
+use Rattle.delta_store.specs.Chunks.{versions_in, owns_in, own_from, free_in, versions_at, free_at, own_at, joined, owned, IsKept, AreFilled, AreKept}
+use Rattle.delta_store.proofs.OwnLemmas.{owns_at-long, owns_at-from, owns_at-own}
 use Rattle.delta_store.proofs.Parts.{whole, IsCut, length-whole, get-whole, set-whole, push-whole, whole-same}
 
 -- ---- what a function of chunks is at a place
@@ -40,9 +42,9 @@ module _ {Y : Type 0} (f : Chunk → Y) (cs : List Chunk) (c : Chunk) (d : Y) wh
       get_or_past (map f (cs ++ c ∷ [])) k d (omega (arith, above, length-map (cs ++ c ∷ []) f, length_push cs c))
       ∙ sym (get_or_past (map f cs) k d (omega (arith, above, length-map cs f)))
 
--- a chunk in place of one that is own as it is
-pub own-same : (cs : List Chunk) (i : ℕ) (c d : Chunk) → c ≡ get_or cs i c → is_own d ≡ is_own c → map is_own (set cs i d) ≡ map is_own cs
-own-same cs i c d here same = map-set_same is_own cs i d c (same ∙ ap is_own here)
+-- a chunk in place of one of which all that is looked at is the same
+pub at-same : {Y : Type 0} (f : Chunk → Y) (cs : List Chunk) (i : ℕ) (c d : Chunk) → c ≡ get_or cs i c → f d ≡ f c → map f (set cs i d) ≡ map f cs
+at-same f cs i c d here same = map-set_same f cs i d c (same ∙ ap f here)
 
 -- what follows on Ok from what holds on Ok
 pub on_ok : {A E : Type 0} {P Q : Type 0} (r : Result A E) → (P → Q) → OnOk r P → OnOk r Q
@@ -51,14 +53,11 @@ on_ok (Err e) f p = tt
 
 -- ---- chunks that are kept
 
-pub AreKept-refl : (cs : List Chunk) → AreKept cs cs
-AreKept-refl cs = record { versions = λ i. refl; free = λ i. omega arith; own = λ i h. h }
-
 pub AreKept-trans : (old mid new : List Chunk) → AreKept old mid → AreKept mid new → AreKept old new
 AreKept-trans old mid new one two = record {
   versions = λ i. two.versions i ∙ one.versions i;
   free = λ i. let a = one.free i in let b = two.free i in omega (arith, a, b);
-  own = λ i h. two.own i (one.own i h);
+  own = λ i. let a = one.own i in let b = two.own i in omega (arith, a, b);
 }
 
 pub AreKept-set : (cs : List Chunk) (i : ℕ) (c d : Chunk) → i < length cs → c ≡ get_or cs i c → IsKept c d → AreKept cs (set cs i d)
@@ -69,27 +68,8 @@ AreKept-set cs i c d there is kept = record {
     | inr apart ↦ let other = at_set-other free_in cs i d 0 there k apart in omega (arith, other)
   ];
   own = λ k. elim (cases_eq k i) [
-    | inl same ↦ subst (λ n. own_at cs n ≡ true → own_at (set cs i d) n ≡ true) (sym same) (λ h. at_set-here is_own cs i d false there ∙ kept.own (sym (at_read is_own cs i c false there is) ∙ h))
-    | inr apart ↦ λ h. at_set-other is_own cs i d false there k apart ∙ h
-  ];
-}
-
-pub AreKept-push : (cs : List Chunk) (c : Chunk) → versions_in c ≡ [] → AreKept cs (cs ++ c ∷ [])
-AreKept-push cs c empty = record {
-  versions = λ k. elim (cases_lt k (length cs)) [
-    | inl below ↦ at_push-below versions_in cs c [] k below
-    | inr from ↦ elim (cases_eq k (length cs)) [
-      | inl same ↦ subst (λ n. versions_at (cs ++ c ∷ []) n ≡ versions_at cs n) (sym same) (at_push-here versions_in cs c [] ∙ empty ∙ sym (get_or_past (map versions_in cs) (length cs) [] (omega (arith, length-map cs versions_in))))
-      | inr apart ↦ at_push-above versions_in cs c [] k (omega arith)
-    ]
-  ];
-  free = λ k. elim (cases_lt k (length cs)) [
-    | inl below ↦ let same = at_push-below free_in cs c 0 k below in omega (arith, same)
-    | inr from ↦ let none = get_or_past (map free_in cs) k 0 (omega (arith, from, length-map cs free_in)) in omega (arith, none)
-  ];
-  own = λ k h. elim (cases_lt k (length cs)) [
-    | inl below ↦ at_push-below is_own cs c false k below ∙ h
-    | inr from ↦ absurd (let none = get_or_past (map is_own cs) k false (omega (arith, from, length-map cs is_own)) in cc)
+    | inl same ↦ subst (λ n. own_at (set cs i d) n ≤ own_at cs n) (sym same) (let old = at_read own_from cs i c 0 there is in let new = at_set-here own_from cs i d 0 there in omega (arith, old, new, kept.own))
+    | inr apart ↦ let other = at_set-other own_from cs i d 0 there k apart in omega (arith, other)
   ];
 }
 
@@ -127,9 +107,37 @@ take_shared cs ds shared i c e there same is so_far =
 pub set_shared : (ds : List Chunk) (i : ℕ) (c d : Chunk) → versions_in d ≡ versions_in (get_or ds i c) → map versions_in (set ds i d) ≡ map versions_in ds
 set_shared ds i c d same = map-set_same versions_in ds i d c same
 
+-- where no version of a chunk is own, none of them all is
+pub none_owned : (cs : List Chunk) → All (λ c. All (λ own. own ≡ false) (owns_in c)) cs → All (λ own. own ≡ false) (owned cs)
+none_owned [] all = All-nil (λ own. own ≡ false)
+none_owned (c ∷ cs) all =
+    All-append (λ own. own ≡ false) (owns_in c) (owned cs) (All-head (λ d. All (λ own. own ≡ false) (owns_in d)) c cs all) (none_owned cs (All-tail (λ d. All (λ own. own ≡ false) (owns_in d)) c cs all))
+
 module _ (cs : List Chunk) (len room : ℕ) (is : AreFilled cs len room) where
   cut : IsCut (map versions_in cs) len
   cut = is.filled
+
+  own_cut : IsCut (map owns_in cs) len
+  own_cut i = owns_at-long cs i ∙ is.filled i
+
+  pub length-owned : length (owned cs) ≡ len
+  length-owned = length-whole (map owns_in cs) len own_cut
+
+  -- whether the version at a place is own says its chunk
+  own-read : (n : ℕ) → n < len → get_or (owned cs) n false ≡ get_or (get_or (map owns_in cs) (n / 1024) []) (n % 1024) false
+  own-read n below =
+      sym (unwrap_or-slice_get (owned cs) n false)
+      ∙ ap (λ o. unwrap_or o false) (get-whole (map owns_in cs) len (n / 1024) (n % 1024) n own_cut (omega arith) (omega arith) below)
+      ∙ unwrap_or-slice_get (get_or (map owns_in cs) (n / 1024) []) (n % 1024) false
+
+  pub own-within : (n : ℕ) → get_or (owned cs) n false ≡ true → (n < len) × (own_at cs (n / 1024) ≤ n % 1024)
+  own-within n own = elim (cases_lt n len) [
+    | inl below ↦ (below, owns_at-from cs (n / 1024) (n % 1024) (sym (own-read n below) ∙ own))
+    | inr past ↦ absurd (let none = get_or_past (owned cs) n false (omega (arith, past, length-owned)) in cc)
+  ]
+
+  pub own-from : (n : ℕ) → n < len → own_at cs (n / 1024) ≤ n % 1024 → get_or (owned cs) n false ≡ true
+  own-from n below from = own-read n below ∙ owns_at-own cs (n / 1024) (n % 1024) from (let was = is.filled (n / 1024) in omega (arith, was, below))
 
   pub length-joined : length (joined cs) ≡ len
   length-joined = length-whole (map versions_in cs) len cut
@@ -162,8 +170,8 @@ module _ (cs : List Chunk) (len room : ℕ) (is : AreFilled cs len room) where
     pub within_chunk : n % 1024 < length (versions_in c)
     within_chunk = let same = ap length versions_here in let was = is.filled (n / 1024) in omega (arith, same, was, below)
 
-    pub own_here : own_at cs (n / 1024) ≡ true → is_own c ≡ true
-    own_here own = sym (at_read is_own cs (n / 1024) c false (chunk_there n below) here) ∙ own
+    pub own_here : get_or (owned cs) n false ≡ true → own_from c ≤ n % 1024
+    own_here own = let read = at_read own_from cs (n / 1024) c 0 (chunk_there n below) here in let from = own-within n own in omega (arith, read, from.1)
 
     pub get-joined : slice_get (joined cs) n ≡ slice_get (versions_in c) (n % 1024)
     get-joined = get-whole (map versions_in cs) len (n / 1024) (n % 1024) n cut (omega arith) (omega arith) below ∙ ap (λ (xs : List LinkedVersion). slice_get xs (n % 1024)) versions_here
@@ -200,18 +208,18 @@ module _ (cs : List Chunk) (len room : ℕ) (is : AreFilled cs len room) where
         let more = is.free (len / 1024) in
         omega (arith, same, free, was, more)
 
-    pub own_at_end : is_own c ≡ true
-    own_at_end = own_by_free c free_at_end
-      where
-        own_by_free : (d : Chunk) → 0 < free_in d → is_own d ≡ true
-        own_by_free (Own versions) free = refl
-        own_by_free (Shared versions) free = absurd (omega (arith, free))
+    -- and what is one longer there is one longer over all chunks
+    push-part : {Y : Type 0} (f : Chunk → List Y) (d : Chunk) (y : Y) → IsCut (map f cs) len → f d ≡ f c ++ y ∷ [] → whole (map f (set cs (len / 1024) d)) ≡ whole (map f cs) ++ y ∷ []
+    push-part {Y} f d y cut pushed =
+        ap whole (map-set f cs (len / 1024) d ∙ ap (λ (p : List Y). set (map f cs) (len / 1024) p) (pushed ∙ ap (λ (xs : List Y). xs ++ y ∷ []) (sym (at_read f cs (len / 1024) c [] (room_there len below) here))))
+        ∙ push-whole (map f cs) len (len / 1024) y cut (let there = room_there len below in omega (arith, there, length-map cs f)) (omega arith) (omega arith)
+
+    pub push-owned : (d : Chunk) → owns_in d ≡ owns_in c ++ true ∷ [] → owned (set cs (len / 1024) d) ≡ owned cs ++ true ∷ []
+    push-owned d pushed = push-part owns_in d true own_cut pushed
 
     module _ (d : Chunk) (v : LinkedVersion) (pushed : versions_in d ≡ versions_in c ++ v ∷ []) where
       pub push-joined : joined (set cs (len / 1024) d) ≡ joined cs ++ v ∷ []
-      push-joined =
-          ap whole (map-set versions_in cs (len / 1024) d ∙ ap (λ (p : List LinkedVersion). set (map versions_in cs) (len / 1024) p) (pushed ∙ ap (λ (xs : List LinkedVersion). xs ++ v ∷ []) (sym at_end)))
-          ∙ push-whole (map versions_in cs) len (len / 1024) v cut (let there = room_there len below in omega (arith, there, length-map cs versions_in)) (omega arith) (omega arith)
+      push-joined = push-part versions_in d v cut pushed
 
       pub push-filled : free_in d + 1 ≡ free_in c → (len' room' : ℕ) → len' ≡ len + 1 → room' ≡ room → AreFilled (set cs (len / 1024) d) len' room'
       push-filled less len' room' longer same_room = record {
@@ -224,3 +232,11 @@ module _ (cs : List Chunk) (len room : ℕ) (is : AreFilled cs len room) where
           | inr apart ↦ let other = ap length (at_set-other versions_in cs (len / 1024) d [] (room_there len below) k apart) in let other_free = at_set-other free_in cs (len / 1024) d 0 (room_there len below) k apart in let was = is.free k in omega (arith, other, other_free, was, same_room)
         ];
       }
+
+-- ---- versions that are own stay so in chunks that are kept
+
+pub own-kept : (old new : List Chunk) (len room : ℕ) → AreFilled old len room → AreKept old new → (n : ℕ) → get_or (owned old) n false ≡ true → get_or (owned new) n false ≡ true
+own-kept old new len room is kept n own =
+    let was = own-within old len room is n own in
+    let less = kept.own (n / 1024) in
+    own-from new len room (AreFilled-kept old new kept len room is) n was.0 (omega (arith, was.1, less))

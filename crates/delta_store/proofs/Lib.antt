@@ -3,8 +3,11 @@ pub mod Cuts
 pub mod FilterLemmas
 pub mod LinkLemmas
 pub mod Merges
+pub mod OneChunk
+pub mod OwnLemmas
 pub mod Pairs
 pub mod Parts
+pub mod PieceLemmas
 pub mod RunLemmas
 pub mod Search
 pub mod VersionLemmas

@@ -1,5 +1,5 @@
 -- Stored versions: their links, by when those before had ended, the number of those that have an end, and their live versions.
-use Rattle.std.proofs.Common.{◌≡◌, ℕ, zero, suc, ◌+◌, ◌/◌, ◌<◌, ◌≤◌, Bool, true, false, ◌&&◌, ◌||◌, cond, List, [], ◌∷◌, ◌++◌, map, length, take, get_or, set, slice_get, slice_index_or, Option, Some, None, is_none, is_some, IfNone, IfSome, count_by, refl, sym, ap, ◌∙◌, subst, inl, inr, arith}
+use Rattle.std.proofs.Common.{◌≡◌, ℕ, zero, suc, ◌+◌, ◌<◌, ◌≤◌, Bool, true, false, ◌&&◌, ◌||◌, cond, List, [], ◌∷◌, ◌++◌, map, length, take, get_or, set, slice_get, slice_index_or, Option, Some, None, is_none, is_some, IfNone, IfSome, count_by, refl, sym, ap, ◌∙◌, subst, inl, inr, arith}
 use Rattle.std.specs.Option.{option_map}
 use Rattle.std.proofs.lemmas.Bool.{cases_eq, cases_lt}
 use Rattle.std.proofs.lemmas.List.{map-append, map-set, length-map, take-append-le, take_all, take-map}
@@ -14,14 +14,10 @@ use Rattle.delta_store.specs.Chunks.{linked_ended}
 use Rattle.delta_store.specs.Index.{place_in, SetsOnly, HaveSamePlaces}
 use Rattle.delta_store.specs.Versions.{is_of, is_live, has_live, ended_at, is_ended, IsEarlier, IsEndedBy, IsLastPlace}
 use Rattle.delta_store.specs.Places.{last_place, one_on, AreEndedButLast, keyed_in, AreLinked, AreEndedInTurn, IsEndedAfter, IsStored, IsLiveAt}
+use Rattle.delta_store.proofs.Parts.{get_front}
 use Rattle.delta_store.proofs.VersionLemmas.{key_is, key_itself, last_place-map, IsIndexed-push, IsIndexed-map, IsIndexed-same, IsLastPlace-last_place, live_at, map_at, absent, dead_absent, last_place_below}
 
 -- ---- lists
-
-get_front : {X : Type 0} (xs ys : List X) (i : ℕ) → i < length xs → slice_get (xs ++ ys) i ≡ slice_get xs i
-get_front [] ys i l = absurd (omega (arith, l))
-get_front (x ∷ xs) ys zero l = refl
-get_front (x ∷ xs) ys (suc i) l = get_front xs ys i (omega (arith, l))
 
 get_last : {X : Type 0} (xs : List X) (y : X) → slice_get (xs ++ y ∷ []) (length xs) ≡ Some y
 get_last [] y = refl
@@ -232,15 +228,21 @@ IsStored-push l v old new n ok sets dead previous ended live = record {
   counted = ok.counted ∙ sym (counts is_ended (keyed_in l)) ∙ sym (how_many-push is_ended (keyed_in l) v.keyed live) ∙ counts is_ended (keyed_in l ++ v.keyed ∷ []) ∙ ap (count_by is_ended) (sym (map-append keyed l (v ∷ [])));
 }
 
--- a place at which a key may be live is that of an own chunk, after a version more after the others
-pub ready-push : (vs : List KeyedVersion) (v : KeyedVersion) (own : List Bool) (q : Key) → slice_index_or own (length vs / 1024) false ≡ true → ((place : ℕ) (w : KeyedVersion) → slice_get vs place ≡ Some w → is_live q w ≡ true → slice_index_or own (place / 1024) false ≡ true) → (place : ℕ) (w : KeyedVersion) → slice_get (vs ++ v ∷ []) place ≡ Some w → is_live q w ≡ true → slice_index_or own (place / 1024) false ≡ true
+-- a version at which a key may be live is own, after a version more after the others
+pub ready-push : (vs : List KeyedVersion) (v : KeyedVersion) (own : List Bool) (q : Key) → slice_index_or own (length vs) false ≡ true → ((place : ℕ) (w : KeyedVersion) → slice_get vs place ≡ Some w → is_live q w ≡ true → slice_index_or own place false ≡ true) → (place : ℕ) (w : KeyedVersion) → slice_get (vs ++ v ∷ []) place ≡ Some w → is_live q w ≡ true → slice_index_or own place false ≡ true
 ready-push vs v own q here ready place w is live = elim (cases_lt place (length vs)) [
   | inl below ↦ ready place w (sym (get_front vs (v ∷ []) place below) ∙ is) live
   | inr from ↦ elim (cases_eq place (length vs)) [
-    | inl same ↦ ap (λ n. slice_index_or own (n / 1024) false) same ∙ here
+    | inl same ↦ ap (λ n. slice_index_or own n false) same ∙ here
     | inr apart ↦ absurd (let none = get_beyond vs v place (omega (arith, from, apart)) in cc)
   ]
 ]
+
+-- what is own stays so where one more is
+pub own-more : (own : List Bool) (n : ℕ) → slice_index_or own n false ≡ true → slice_index_or (own ++ true ∷ []) n false ≡ true
+own-more [] n is = absurd (cc)
+own-more (b ∷ own) zero is = is
+own-more (b ∷ own) (suc n) is = own-more own n is
 
 -- ---- the live version of a key
 
@@ -420,16 +422,16 @@ pub if_none : {A P : Type 0} (o : Option A) → P → IfNone o P
 if_none None p = p
 if_none (Some x) p = tt
 
--- the chunk of a live version of a key that is ready is own
-pub ready_place : (l : List LinkedVersion) (own : List Bool) (q : Key) (p : ℕ) → IsLiveAt (keyed_in l) q p → p < length l → ((place : ℕ) (v : KeyedVersion) → slice_get (keyed_in l) place ≡ Some v → is_live q v ≡ true → slice_index_or own (place / 1024) false ≡ true) → slice_index_or own (p / 1024) false ≡ true
+-- the live version of a key that is ready is own
+pub ready_place : (l : List LinkedVersion) (own : List Bool) (q : Key) (p : ℕ) → IsLiveAt (keyed_in l) q p → p < length l → ((place : ℕ) (v : KeyedVersion) → slice_get (keyed_in l) place ≡ Some v → is_live q v ≡ true → slice_index_or own place false ≡ true) → slice_index_or own p false ≡ true
 ready_place l own q p at there ready = with_version (element (keyed_in l) p (omega (arith, there, length-map l keyed)))
   where
-    with_version : ((v : KeyedVersion) × (slice_get (keyed_in l) p ≡ Some v)) → slice_index_or own (p / 1024) false ≡ true
+    with_version : ((v : KeyedVersion) × (slice_get (keyed_in l) p ≡ Some v)) → slice_index_or own p false ≡ true
     with_version (v, is) = ready p v is (at.live v is)
 
--- and a key is ready whose live version's chunk is own
-pub ready_at : (l : List LinkedVersion) (pairs : List (Key × ℕ)) (n : ℕ) (own : List Bool) (q : Key) (p : ℕ) → IsStored l pairs n → IsLiveAt (keyed_in l) q p → slice_index_or own (p / 1024) false ≡ true → (place : ℕ) (v : KeyedVersion) → slice_get (keyed_in l) place ≡ Some v → is_live q v ≡ true → slice_index_or own (place / 1024) false ≡ true
-ready_at l pairs n own q p ok at here place v is live = ap (λ k. slice_index_or own (k / 1024) false) (live_is_last (keyed_in l) q place p v ok.indexed.ended at.last is live) ∙ here
+-- and a key is ready whose live version is own
+pub ready_at : (l : List LinkedVersion) (pairs : List (Key × ℕ)) (n : ℕ) (own : List Bool) (q : Key) (p : ℕ) → IsStored l pairs n → IsLiveAt (keyed_in l) q p → slice_index_or own p false ≡ true → (place : ℕ) (v : KeyedVersion) → slice_get (keyed_in l) place ≡ Some v → is_live q v ≡ true → slice_index_or own place false ≡ true
+ready_at l pairs n own q p ok at here place v is live = ap (λ k. slice_index_or own k false) (live_is_last (keyed_in l) q place p v ok.indexed.ended at.last is live) ∙ here
 
 -- where a key has no live version, to end it changes nothing
 pub unchanged : (vs : List KeyedVersion) (q : Key) (e : ℕ) → has_live q vs ≡ false → map (ended_at q e) vs ≡ vs
@@ -441,7 +443,7 @@ unchanged (v ∷ vs) q e dead = step (is_live q v) refl dead (unchanged vs q e)
     step false is h rest = rw (is, rest h) refl
 
 -- a key without a live version is ready
-pub ready_dead : (vs : List KeyedVersion) (own : List Bool) (q : Key) → has_live q vs ≡ false → (place : ℕ) (v : KeyedVersion) → slice_get vs place ≡ Some v → is_live q v ≡ true → slice_index_or own (place / 1024) false ≡ true
+pub ready_dead : (vs : List KeyedVersion) (own : List Bool) (q : Key) → has_live q vs ≡ false → (place : ℕ) (v : KeyedVersion) → slice_get vs place ≡ Some v → is_live q v ≡ true → slice_index_or own place false ≡ true
 ready_dead vs own q dead place v is live = absurd (not_live vs q place v dead is live)
 
 -- the link of a version is the place of the one before, of its key
@@ -458,7 +460,7 @@ earlier_at l i u links is v v_is = rw (step (slice_get (keyed_in l) i) v_is) (Is
         some_is e = cc
 
 -- keys that are ready stay so where versions are ended
-pub ready_ended : (vs : List KeyedVersion) (own : List Bool) (k q : Key) (e : ℕ) → ((place : ℕ) (v : KeyedVersion) → slice_get vs place ≡ Some v → is_live q v ≡ true → slice_index_or own (place / 1024) false ≡ true) → (place : ℕ) (v : KeyedVersion) → slice_get (map (ended_at k e) vs) place ≡ Some v → is_live q v ≡ true → slice_index_or own (place / 1024) false ≡ true
+pub ready_ended : (vs : List KeyedVersion) (own : List Bool) (k q : Key) (e : ℕ) → ((place : ℕ) (v : KeyedVersion) → slice_get vs place ≡ Some v → is_live q v ≡ true → slice_index_or own place false ≡ true) → (place : ℕ) (v : KeyedVersion) → slice_get (map (ended_at k e) vs) place ≡ Some v → is_live q v ≡ true → slice_index_or own place false ≡ true
 ready_ended vs own k q e ready place v is live = step (slice_get vs place) refl (sym (slice_get-map (ended_at k e) vs place) ∙ is)
   where
     was_live : (u : KeyedVersion) → ended_at k e u ≡ v → is_live q u ≡ true
@@ -469,7 +471,7 @@ ready_ended vs own k q e ready place v is live = step (slice_get vs place) refl 
         by true true o h = absurd (cc)
         by false true o h = absurd (cc)
 
-    step : (o : Option KeyedVersion) → slice_get vs place ≡ o → option_map (ended_at k e) o ≡ Some v → slice_index_or own (place / 1024) false ≡ true
+    step : (o : Option KeyedVersion) → slice_get vs place ≡ o → option_map (ended_at k e) o ≡ Some v → slice_index_or own place false ≡ true
     step None o_is h = absurd (cc)
     step (Some u) o_is h = ready place u o_is (was_live u (some_is h))
       where

@@ -10,12 +10,12 @@ whole parts = flat_map (λ part. part) parts
 abbrev pub IsCut : {X : Type 0} → List (List X) → ℕ → Type 0
 IsCut parts len = (i : ℕ) → length (get_or parts i []) ≡ min 1024 (len - 1024 * i)
 
-get_front : {X : Type 0} (xs ys : List X) (i : ℕ) → i < length xs → slice_get (xs ++ ys) i ≡ slice_get xs i
+pub get_front : {X : Type 0} (xs ys : List X) (i : ℕ) → i < length xs → slice_get (xs ++ ys) i ≡ slice_get xs i
 get_front [] ys i l = absurd (omega (arith, l))
 get_front (x ∷ xs) ys zero l = refl
 get_front (x ∷ xs) ys (suc i) l = get_front xs ys i (omega (arith, l))
 
-get_behind : {X : Type 0} (xs ys : List X) (n m : ℕ) → n ≡ length xs + m → slice_get (xs ++ ys) n ≡ slice_get ys m
+pub get_behind : {X : Type 0} (xs ys : List X) (n m : ℕ) → n ≡ length xs + m → slice_get (xs ++ ys) n ≡ slice_get ys m
 get_behind [] ys n m is = let same : n ≡ m = omega (arith, is) in ap (slice_get ys) same
 get_behind (x ∷ xs) ys zero m is = absurd (omega (arith, is))
 get_behind (x ∷ xs) ys (suc n) m is = get_behind xs ys n m (omega (arith, is))

@@ -1,5 +1,5 @@
 -- Versions of rows with their keys, in the order in which they came.
-use Rattle.std.specs.Prelude.{◌≡◌, ◌≢◌, ◌+◌, ◌/◌, ◌<◌, ◌≤◌, ℕ, List, length, take, slice_get, slice_index_or, ◌&&◌, Option, Some, None, is_none, is_some, Bool, true, false, if◌then◌else◌, All}
+use Rattle.std.specs.Prelude.{◌≡◌, ◌≢◌, ◌+◌, ◌<◌, ◌≤◌, ℕ, List, length, take, slice_get, slice_index_or, ◌&&◌, Option, Some, None, is_none, is_some, Bool, true, false, if◌then◌else◌, All}
 use Rattle.std.specs.List.{AllWithin, HoldsAt, list_any}
 use Rattle.std.specs.List.Sorted.{IsNonDecreasingBy}
 use Rattle.cs_types.specs.declared.Key.{Key}
@@ -7,8 +7,8 @@ use Rattle.cs_types.specs.declared.Value.{Value}
 use Rattle.cs_types.specs.Keys.{same_key}
 use Rattle.delta_store.specs.declared.version.KeyedVersion.{KeyedVersion}
 
--- what contracts see of a delta store: its versions, which chunks of 1,024 places are its own, not shared, and how many
--- more versions find room without memory
+-- what contracts see of a delta store: its versions, for each version whether it stands in a chunk's own part, which
+-- nobody else sees, and how many more versions find room without memory
 pub record Store : Type 0 where
   pub versions : List KeyedVersion
   pub own : List Bool
@@ -42,13 +42,13 @@ ended_at key end v =
       version = record { row = v.version.row; begin = v.version.begin; end = if is_live key v then Some end else v.version.end };
     }
 
--- the key may be ended: its live version, if it has one, stands in a chunk that is own
+-- the key may be ended: its live version, if it has one, stands in a chunk's own part
 abbrev pub IsReady : Store → Key → Type 0
 IsReady store key =
     (place : ℕ) (v : KeyedVersion)
     → slice_get store.versions place ≡ Some v
     → is_live key v ≡ true
-    → slice_index_or store.own (place / 1024) false ≡ true
+    → slice_index_or store.own place false ≡ true
 
 -- the place of the last version of the key, none where it has no version
 abbrev pub IsLastPlace : List KeyedVersion → Key → Option ℕ → Type 0

@@ -1,167 +1,161 @@
-// A chunk of versions, own or shared.
-ghost use Rattle.std.specs.Prelude.{◌≡◌, ◌+◌, ◌<◌, ◌≤◌, ◌++◌, [], ◌∷◌, length, slice_get, slice_index_or, slice_set, OnOk, IfOk, IfErr, Some, false, true, vec_len, vec_capacity, ◌-◌};
-ghost use Rattle.delta_store.specs.Chunks.{versions_in, free_in, is_own, linked_ended, IsKept};
+// A chunk of versions, some of which others may have in common.
+ghost use Rattle.std.specs.Prelude.{◌≡◌, ◌+◌, ◌-◌, ◌<◌, ◌≤◌, ◌++◌, [], ◌∷◌, length, slice_get, slice_set, OnOk, IfOk, All, Some, false, true, vec_len, vec_capacity};
+ghost use Rattle.delta_store.specs.Chunks.{versions_in, owns_in, own_from, free_in, linked_ended, IsKept};
 
+use crate::pieces::Pieces;
 use crate::version::LinkedVersion;
 use cs_base::Memory;
 use std::alloc::Global;
 use std::mem;
-use std::sync::Arc;
 
 /// The most versions of a chunk.
 pub const CHUNK: usize = 1024;
 
-/// Versions that stand side by side. An own chunk is seen by its store alone, which may change it; a shared one is
-/// never changed.
+/// Versions that stand side by side. Those in pieces, which others may have in common, are never changed; after them come
+/// the chunk's own ones, which its store alone sees, and may change.
 #[derive(Debug, Drop)]
-pub enum Chunk {
-    Own(Vec<LinkedVersion>),
-    Shared(Arc<Vec<LinkedVersion>>),
-}
-
-/// The same versions in a vector with room for `room` in all.
-fn copy_versions(
-    alloc: Global,
-    versions: &[LinkedVersion],
-    room: usize,
-) -> Result<Vec<LinkedVersion>, Memory>
-    ensures { IfOk result (λ copied. copied.items ≡ versions.now) }
-{
-    let mut copied = Vec::with_capacity(alloc, room.max(versions.len()))?;
-    for version in versions {
-        copied.push(version.copy()?)?;
-    }
-    Ok(copied)
-}
-
-/// The versions of a shared chunk, moved where no one else has it, and copied where someone has. On `Err`, for want of
-/// memory, the share comes back.
-fn unshared(
-    alloc: Global,
-    shared: Arc<Vec<LinkedVersion>>,
-    room: usize,
-) -> Result<Vec<LinkedVersion>, Arc<Vec<LinkedVersion>>>
-    ensures ok { IfOk result (λ own. own.items ≡ shared.value.items) }
-    ensures err { IfErr result (λ back. back ≡ shared) }
-{
-    let shared = match Arc::try_unwrap(shared) {
-        Ok(own) => return Ok(own),
-        Err(shared) => shared,
-    };
-    match copy_versions(alloc, &shared, room) {
-        Ok(own) => Ok(own),
-        Err(Memory) => Err(shared),
-    }
+pub struct Chunk {
+    pieces: Pieces,
+    own: Vec<LinkedVersion>,
 }
 
 impl Chunk {
-    /// Its versions.
-    pub fn versions(&self) -> &[LinkedVersion]
-        ensures { result.now ≡ versions_in self.now }
+    /// No versions. It takes no memory.
+    pub fn new(alloc: Global) -> Chunk
+        ensures versions { versions_in result ≡ [] }
+        ensures own { own_from result ≡ 0 }
     {
-        match self {
-            Chunk::Own(versions) => versions,
-            Chunk::Shared(versions) => versions,
+        Chunk {
+            pieces: Pieces::new(alloc),
+            own: Vec::new(alloc),
         }
     }
 
-    /// Makes it own, with room for `room` versions in all if it has to be copied. After `Memory` it is as before.
-    pub fn make_own(&mut self, alloc: Global, room: usize) -> Result<(), Memory>
-        ensures kept { IsKept self.old self.new }
-        ensures own { OnOk result (is_own self.new ≡ true) }
+    /// The version at a place in it.
+    pub fn get(&self, at: usize) -> &LinkedVersion
+        requires { at < length (versions_in self.now) }
+        ensures { slice_get (versions_in self.now) at ≡ Some result.now }
     {
-        match mem::replace(self, Chunk::Own(Vec::new(alloc))) {
-            Chunk::Own(versions) => {
-                *self = Chunk::Own(versions);
-                Ok(())
+        match self.pieces.find(at) {
+            Ok(version) => version,
+            Err(past) => &self.own[past],
+        }
+    }
+
+    /// Makes the last piece own again where nobody else has it, with no copy of a version.
+    fn take_back(&mut self)
+        ensures { IsKept self.old self.new }
+    {
+        if self.own.capacity() == 0 {
+            if let Some(last) = self.pieces.take_last() {
+                self.own = last;
             }
-            Chunk::Shared(shared) => match unshared(alloc, shared, room) {
-                Ok(versions) => {
-                    *self = Chunk::Own(versions);
-                    Ok(())
-                }
-                Err(shared) => {
-                    *self = Chunk::Shared(shared);
-                    Err(Memory)
-                }
-            },
         }
     }
 
-    /// Makes it own, with room for `room` versions in all. After `Memory` its versions are as before.
+    /// Makes all versions own, those of pieces by a copy, with room for `room` in all. After `Memory` it is as before.
+    fn gather(&mut self, alloc: Global, room: usize) -> Result<(), Memory>
+        ensures kept { IsKept self.old self.new }
+        ensures own { OnOk result (own_from self.new ≡ 0) }
+    {
+        let pieces = CHUNK - self.pieces.left(CHUNK);
+        let least = pieces.saturating_add(self.own.capacity());
+        let mut gathered = self.pieces.copied(alloc, room.max(least))?;
+        gathered.reserve_exact(self.own.capacity())?;
+        gathered.append(&mut self.own)?;
+        self.pieces = Pieces::new(alloc);
+        self.own = gathered;
+        Ok(())
+    }
+
+    /// Makes the version at a place own: takes the last piece back, or copies all pieces. After `Memory` the versions are as before.
+    pub fn make_own(&mut self, alloc: Global, at: usize) -> Result<(), Memory>
+        ensures kept { IsKept self.old self.new }
+        ensures own { OnOk result (own_from self.new ≤ at) }
+    {
+        if self.pieces.find(at).is_err() {
+            return Ok(());
+        }
+        self.take_back();
+        if self.pieces.find(at).is_err() {
+            return Ok(());
+        }
+        self.gather(alloc, 0)
+    }
+
+    /// Makes room for `room` versions in all. Where its pieces are many, or where it is to be full, all become one. After
+    /// `Memory` its versions are as before.
     pub fn reserve(&mut self, alloc: Global, room: usize) -> Result<(), Memory>
         ensures kept { IsKept self.old self.new }
-        ensures own { OnOk result (is_own self.new ≡ true) }
         ensures room { OnOk result (room ≤ length (versions_in self.new) + free_in self.new) }
     {
-        self.make_own(alloc, room)?;
-        match self {
-            Chunk::Own(versions) => grow(versions, room),
-            Chunk::Shared(_) => unreachable!(),
+        self.take_back();
+        if self.pieces.are_many() || (room >= CHUNK && !self.pieces.is_empty()) {
+            self.gather(alloc, room)?;
         }
+        let most = self.pieces.left(CHUNK);
+        grow(&mut self.own, self.pieces.left(room), most)
     }
 
-    /// Shares it, with no copy of a version; it is then not own. After `Memory` its versions are as before.
+    /// Shares it, with no copy of a version; no version is then own. After `Memory` its versions are as before.
     pub fn share(&mut self, alloc: Global) -> Result<Chunk, Memory>
         ensures shared { IfOk result (λ shared. versions_in shared ≡ versions_in self.old) }
         ensures versions { versions_in self.new ≡ versions_in self.old }
-        ensures not_own { OnOk result (is_own self.new ≡ false) }
+        ensures none_own { OnOk result (All (λ own. own ≡ false) (owns_in self.new)) }
     {
-        match mem::replace(self, Chunk::Own(Vec::new(alloc))) {
-            Chunk::Own(versions) => match Arc::new(alloc, versions) {
-                Ok(shared) => self.keep_shared(shared),
-                Err(refused) => {
-                    *self = Chunk::Own(refused.value);
-                    Err(Memory)
-                }
-            },
-            Chunk::Shared(shared) => self.keep_shared(shared),
-        }
+        self.give_up(alloc)?;
+        Ok(Chunk {
+            pieces: self.pieces.share()?,
+            own: Vec::new(alloc),
+        })
     }
 
-    /// Keeps a share, and gives another one.
-    fn keep_shared(&mut self, shared: Arc<Vec<LinkedVersion>>) -> Result<Chunk, Memory>
-        ensures shared { IfOk result (λ other. versions_in other ≡ shared.value.items) }
-        ensures versions { versions_in self.new ≡ shared.value.items }
-        ensures not_own { is_own self.new ≡ false }
+    /// Makes a piece of its own versions, if it has one. After `Memory` its versions are as before.
+    fn give_up(&mut self, alloc: Global) -> Result<(), Memory>
+        ensures versions { versions_in self.new ≡ versions_in self.old }
+        ensures none_own { OnOk result (self.new.own.items ≡ []) }
     {
-        let other = Arc::try_clone(&shared);
-        *self = Chunk::Shared(shared);
-        Ok(Chunk::Shared(other?))
+        if self.own.is_empty() {
+            return Ok(());
+        }
+        let own = mem::replace(&mut self.own, Vec::new(alloc));
+        match self.pieces.push(alloc, own) {
+            Ok(()) => Ok(()),
+            Err(own) => {
+                self.own = own;
+                Err(Memory)
+            }
+        }
     }
 
     /// Appends a version. It takes no memory.
     pub fn push(&mut self, version: LinkedVersion)
-        requires own { is_own self.old ≡ true }
-        requires room { 0 < free_in self.old }
+        requires { 0 < free_in self.old }
         ensures versions { versions_in self.new ≡ versions_in self.old ++ version ∷ [] }
-        ensures own { is_own self.new ≡ true }
+        ensures own { owns_in self.new ≡ owns_in self.old ++ true ∷ [] }
         ensures room { free_in self.new + 1 ≡ free_in self.old }
     {
-        match self {
-            Chunk::Own(versions) => versions.push_reserved(version),
-            Chunk::Shared(_) => unreachable!(),
-        }
+        self.own.push_reserved(version);
     }
 
     /// Gives the version at a place in it an end.
     pub fn end(&mut self, at: usize, end: u64)
-        requires own { is_own self.old ≡ true }
+        requires own { own_from self.old ≤ at }
         requires within { at < length (versions_in self.old) }
         ensures versions { (v : LinkedVersion) → slice_get (versions_in self.old) at ≡ Some v → versions_in self.new ≡ slice_set (versions_in self.old) at (linked_ended end v) }
         ensures len { length (versions_in self.new) ≡ length (versions_in self.old) }
-        ensures own { is_own self.new ≡ true }
+        ensures own { owns_in self.new ≡ owns_in self.old }
         ensures room { free_in self.new ≡ free_in self.old }
     {
-        match self {
-            Chunk::Own(versions) => versions[at].end(end),
-            Chunk::Shared(_) => unreachable!(),
+        match self.pieces.find(at) {
+            Ok(_) => unreachable!(),
+            Err(past) => self.own[past].end(end),
         }
     }
 }
 
-/// Makes room for `room` versions in all, doubling the room there was, up to that of a whole chunk.
-fn grow(versions: &mut Vec<LinkedVersion>, room: usize) -> Result<(), Memory>
+/// Makes room for `room` versions in all, doubling the room there was, up to that for `most`.
+fn grow(versions: &mut Vec<LinkedVersion>, room: usize, most: usize) -> Result<(), Memory>
     ensures items { versions.new.items ≡ versions.old.items }
     ensures capacity { vec_capacity versions.old - vec_len versions.old ≤ vec_capacity versions.new - vec_len versions.new }
     ensures room { OnOk result (room ≤ vec_capacity versions.new) }
@@ -169,7 +163,7 @@ fn grow(versions: &mut Vec<LinkedVersion>, room: usize) -> Result<(), Memory>
     if room <= versions.capacity() {
         return Ok(());
     }
-    let wanted = room.max(versions.capacity().saturating_mul(2).min(CHUNK));
+    let wanted = room.max(versions.capacity().saturating_mul(2).min(most));
     versions.reserve_exact(wanted - versions.len())?;
     Ok(())
 }

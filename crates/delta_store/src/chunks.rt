@@ -1,6 +1,6 @@
 // The chunks of a store.
 ghost use Rattle.std.specs.Prelude.{◌^◌, ◌≡◌, ◌+◌, ◌-◌, ◌*◌, ◌/◌, ◌<◌, ◌≤◌, ◌++◌, [], ◌∷◌, min, map, length, slice_get, slice_index_or, slice_set, vec_len, All, OnOk, IfOk, Some, false, true, ℕ};
-ghost use Rattle.delta_store.specs.Chunks.{versions_in, versions_at, free_at, is_own, own_at, linked_ended, AreKept};
+ghost use Rattle.delta_store.specs.Chunks.{versions_in, owns_in, versions_at, free_at, linked_ended, AreKept};
 
 use crate::chunk::{CHUNK, Chunk};
 use crate::version::LinkedVersion;
@@ -8,8 +8,8 @@ use cs_base::Memory;
 use std::alloc::Global;
 use std::marker::Model;
 
-/// Versions by place, in chunks of 1,024, the last of them perhaps filled in part. Contracts see the versions, which
-/// chunks are own, and `spare`, the number of versions that find room without memory. It keeps its allocator.
+/// Versions by place, in chunks of 1,024, the last of them perhaps filled in part. Contracts see the versions, for each of
+/// them whether it is own, and `spare`, the number of versions that find room without memory. It keeps its allocator.
 #[derive(Debug, Drop)]
 pub struct Chunks {
     chunks: Vec<Chunk>,
@@ -18,12 +18,12 @@ pub struct Chunks {
 }
 
 impl Model for Chunks {
-    ghost use Rattle.std.specs.Prelude.{◌+◌, ◌<◌, ◌^◌, map};
-    ghost use Rattle.delta_store.specs.Chunks.{Chunked, joined, is_own, AreFilled};
+    ghost use Rattle.std.specs.Prelude.{◌+◌, ◌<◌, ◌^◌};
+    ghost use Rattle.delta_store.specs.Chunks.{Chunked, joined, owned, AreFilled};
 
     ghost Value = { Chunked };
 
-    ghost view = { λ c. record { versions = joined c.chunks.items; own = map is_own c.chunks.items; spare = c.spare } };
+    ghost view = { λ c. record { versions = joined c.chunks.items; own = owned c.chunks.items; spare = c.spare } };
 
     ghost invariant = { λ c. AreFilled c.chunks.items c.len (c.len + c.spare) × (c.len + c.spare < 2 ^ 64) };
 }
@@ -37,11 +37,11 @@ fn add_chunk_at(chunks: &mut Vec<Chunk>, alloc: Global, at: usize) -> Result<(),
     if at < chunks.len() {
         return Ok(());
     }
-    chunks.push(Chunk::Own(Vec::new(alloc)))?;
+    chunks.push(Chunk::new(alloc))?;
     Ok(())
 }
 
-/// Makes the chunk at a place own, with room for `room` versions in all. A chunk after the last one is a new one.
+/// Makes room for `room` versions in all in the chunk at a place. A chunk after the last one is a new one.
 fn make_room_at(
     chunks: &mut Vec<Chunk>,
     alloc: Global,
@@ -52,13 +52,12 @@ fn make_room_at(
     ensures kept { AreKept chunks.old.items chunks.new.items }
     ensures there { OnOk result (at < vec_len chunks.new) }
     ensures room { OnOk result (room ≤ length (versions_at chunks.new.items at) + free_at chunks.new.items at) }
-    ensures own { OnOk result (own_at chunks.new.items at ≡ true) }
 {
     add_chunk_at(chunks, alloc, at)?;
     chunks[at].reserve(alloc, room)
 }
 
-/// Makes the chunks from `first` on own, with room for versions at the places below `end`.
+/// Makes room in the chunks from `first` on for versions at the places below `end`.
 fn make_room(chunks: &mut Vec<Chunk>, alloc: Global, first: usize, end: usize) -> Result<(), Memory>
     requires { first ≤ vec_len chunks.old }
     ensures kept { AreKept chunks.old.items chunks.new.items }
@@ -70,11 +69,11 @@ fn make_room(chunks: &mut Vec<Chunk>, alloc: Global, first: usize, end: usize) -
     Ok(())
 }
 
-/// Shares each chunk; none is then own.
+/// Shares each chunk; no version is then own.
 fn share_each(chunks: &mut [Chunk], alloc: Global) -> Result<Vec<Chunk>, Memory>
     ensures shared { IfOk result (λ shared. map versions_in shared.items ≡ map versions_in chunks.old) }
     ensures versions { map versions_in chunks.new ≡ map versions_in chunks.old }
-    ensures none_own { OnOk result (All (λ chunk. is_own chunk ≡ false) chunks.new) }
+    ensures none_own { OnOk result (All (λ chunk. All (λ own. own ≡ false) (owns_in chunk)) chunks.new) }
 {
     let mut shared = Vec::with_capacity(alloc, chunks.len())?;
     for chunk in chunks.iter_mut() {
@@ -107,11 +106,10 @@ impl Chunks {
         requires { place < length self.now.versions }
         ensures { slice_get self.now.versions place ≡ Some result.now }
     {
-        &self.chunks[place / CHUNK].versions()[place % CHUNK]
+        self.chunks[place / CHUNK].get(place % CHUNK)
     }
 
-    /// Makes room for `n` versions; the last chunk is then own. After `Memory` the versions are as before. Own chunks stay
-    /// own.
+    /// Makes room for `n` versions. After `Memory` the versions are as before. Own ones stay own.
     pub fn reserve(&mut self, n: usize) -> Result<(), Memory>
         ensures room { OnOk result (n ≤ self.new.spare) }
         ensures versions { self.new.versions ≡ self.old.versions }
@@ -133,8 +131,8 @@ impl Chunks {
     pub fn push(&mut self, version: LinkedVersion)
         requires { 0 < self.old.spare }
         ensures versions { self.new.versions ≡ self.old.versions ++ version ∷ [] }
-        ensures own { self.new.own ≡ self.old.own }
-        ensures here { slice_index_or self.new.own (length self.old.versions / 1024) false ≡ true }
+        ensures own { self.new.own ≡ self.old.own ++ true ∷ [] }
+        ensures here { slice_index_or self.new.own (length self.old.versions) false ≡ true }
         ensures room { self.new.spare + 1 ≡ self.old.spare }
     {
         self.chunks[self.len / CHUNK].push(version);
@@ -142,22 +140,22 @@ impl Chunks {
         self.spare -= 1;
     }
 
-    /// Makes the chunk of a place own. After `Memory` all is as before.
+    /// Makes the version at a place own. After `Memory` the versions are as before. Own ones stay own.
     pub fn make_own(&mut self, place: usize) -> Result<(), Memory>
         requires { place < length self.old.versions }
         ensures versions { self.new.versions ≡ self.old.versions }
         ensures own { (i : ℕ) → slice_index_or self.old.own i false ≡ true → slice_index_or self.new.own i false ≡ true }
-        ensures here { OnOk result (slice_index_or self.new.own (place / 1024) false ≡ true) }
+        ensures here { OnOk result (slice_index_or self.new.own place false ≡ true) }
         ensures room { self.new.spare ≡ self.old.spare }
     {
         let alloc = *self.chunks.allocator();
-        self.chunks[place / CHUNK].make_own(alloc, 0)
+        self.chunks[place / CHUNK].make_own(alloc, place % CHUNK)
     }
 
     /// Gives the version at a place an end.
     pub fn end(&mut self, place: usize, end: u64)
         requires there { place < length self.old.versions }
-        requires own { slice_index_or self.old.own (place / 1024) false ≡ true }
+        requires own { slice_index_or self.old.own place false ≡ true }
         ensures fits { length self.old.versions < 2 ^ 64 }
         ensures versions { (v : LinkedVersion) → slice_get self.old.versions place ≡ Some v → self.new.versions ≡ slice_set self.old.versions place (linked_ended end v) }
         ensures own { self.new.own ≡ self.old.own }
@@ -166,7 +164,7 @@ impl Chunks {
         self.chunks[place / CHUNK].end(place % CHUNK, end);
     }
 
-    /// The same versions, shared. It copies none of them, and leaves no room and no chunk own. After `Memory` the versions
+    /// The same versions, shared. It copies none of them, and leaves no room and no version own. After `Memory` the versions
     /// are as before.
     pub fn share(&mut self) -> Result<Chunks, Memory>
         ensures shared { IfOk result (λ shared. shared.versions ≡ self.old.versions) }

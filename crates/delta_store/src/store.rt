@@ -11,11 +11,11 @@ use cs_types::{Key, Row, Version};
 use std::alloc::Global;
 use std::marker::Model;
 
-/// A delta store that takes rows. Contracts see its versions with their keys, in the order in which they came, which of
-/// its chunks are own, and `spare`, the number of versions that find room without memory. It keeps its allocator.
+/// A delta store that takes rows. Contracts see its versions with their keys, in the order in which they came, for each of
+/// them whether it is own, and `spare`, the number of versions that find room without memory. It keeps its allocator.
 ///
-/// Versions stand in chunks of 1,024 places. A share (`share`) has the chunks in common with the store, and a chunk that
-/// is shared is never changed: to end a version there, the chunk is made own first (`prepare`).
+/// Versions stand in chunks of 1,024 places. A share (`share`) has all versions in common with the store, and what is
+/// shared is never changed: new versions stand after it, and to end a version there, it is made own first (`prepare`).
 #[derive(Debug, Drop)]
 pub struct Delta {
     chunks: Chunks,
@@ -76,8 +76,7 @@ impl Delta {
         }
     }
 
-    /// Makes room for `n` versions, for which the last chunk is made own. After `Memory` the versions are as before. Keys
-    /// that are ready stay so.
+    /// Makes room for `n` versions. After `Memory` the versions are as before. Keys that are ready stay so.
     pub fn reserve(&mut self, n: usize) -> Result<(), Memory>
         ensures room { OnOk result (n ≤ self.new.spare) }
         ensures versions { self.new.versions ≡ self.old.versions }
@@ -87,8 +86,8 @@ impl Delta {
         self.index.reserve(n)
     }
 
-    /// Makes a key ready to be ended: if its live version stands in a chunk that is shared, the chunk becomes own, by a copy
-    /// where someone else still has it. After `Memory` the versions are as before. Keys that are ready stay so.
+    /// Makes a key ready to be ended: if its live version is shared, its chunk becomes own, by a copy where someone else
+    /// still has it. After `Memory` the versions are as before. Keys that are ready stay so.
     pub fn prepare_key(&mut self, key: Key) -> Result<(), Memory>
         ensures versions { self.new.versions ≡ self.old.versions }
         ensures ready { OnOk result (IsReady self.new key) }
@@ -182,8 +181,8 @@ impl Delta {
         self.ended
     }
 
-    /// A frozen store with the same versions, which has its chunks and its index in common with this one: nothing of them is
-    /// copied. There is no room then and no chunk is own, so that no live version may be ended before its key is made ready.
+    /// A frozen store with the same versions, which has them and its index in common with this one: nothing of them is
+    /// copied. There is no room then and no version is own, so that no live one may be ended before its key is made ready.
     /// After `Memory` the versions are as before.
     pub fn share(&mut self) -> Result<Frozen, Memory>
         ensures frozen { IfOk result (λ frozen. frozen ≡ self.old.versions) }

@@ -266,6 +266,73 @@ fn chunk_edges(rt: HostRuntime) -> Result<(), Fail> {
     Ok(())
 }
 
+/// That a share has the keys from 0 to `last`, each in its place, of which the key 0 has ended where `end` says when.
+fn expect_grown(rt: &impl Abort, share: &Frozen, last: u16, end: Option<u64>) {
+    assert!(rt; share.len() == usize::from(last) + 1);
+    expect_version(rt, share, 0, parts(0, end));
+    for key in 1..=last {
+        expect_version(rt, share, usize::from(key), parts(key, None));
+    }
+    let next = i64::from(last) + 1;
+    expect_places(
+        rt,
+        share,
+        &[(next - 1, Some(usize::from(last))), (next, None)],
+    );
+}
+
+/// The shares of a store of the keys from 0 to `last`, to which another key came after each of them, and the store.
+fn held_shares(
+    rt: &impl Abort,
+    alloc: Global,
+    (first, last): (u16, u16),
+) -> Result<(Vec<Frozen>, Delta), Memory> {
+    assert!(rt; first < last);
+    let mut delta = of_keys(alloc, first)?;
+    let mut shares = Vec::new(alloc);
+    for key in first + 1..=last {
+        shares.push(delta.share()?)?;
+        let number = i64::from(key);
+        put(&mut delta, alloc, number, number, u64::from(key) + 1)?;
+    }
+    Ok((shares, delta))
+}
+
+/// First and last keys of stores that grow by a piece at each key after the first: by few pieces, across as many as a chunk has,
+/// twice as many and more, and across the places at which a chunk is full.
+const GROWTHS: [(u16, u16); 9] = [
+    (0, 1),
+    (0, 14),
+    (3, 19),
+    (0, 40),
+    (500, 560),
+    (1020, 1022),
+    (1015, 1023),
+    (1000, 1024),
+    (1022, 1060),
+];
+
+/// That shares stay as they were while their store grows by a piece after each, and while the key 0 ends, which all of them have.
+fn expect_shares_stay(rt: &impl Abort, alloc: Global, keys: (u16, u16)) -> Result<(), Memory> {
+    let (first, last) = keys;
+    let (shares, mut delta) = held_shares(rt, alloc, keys)?;
+    assert!(rt; end(&mut delta, 0, 9000)?);
+    for (share, key) in shares.iter().zip(first..last) {
+        expect_grown(rt, share, key, None);
+    }
+    expect_grown(rt, &delta.share()?, last, Some(9000));
+    expect_grown(rt, &delta.freeze(), last, Some(9000));
+    Ok(())
+}
+
+#[test]
+fn shared_chunks_grow(rt: HostRuntime) -> Result<(), Fail> {
+    for &keys in &GROWTHS {
+        expect_shares_stay(&rt, rt.alloc(), keys)?;
+    }
+    Ok(())
+}
+
 /// The key that comes at a place, the first 4,999 of them all different.
 fn scattered(i: u16) -> i64 {
     i64::from(i) * 1789 % 4999

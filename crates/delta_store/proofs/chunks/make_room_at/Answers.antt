@@ -1,5 +1,5 @@
-use Rattle.std.proofs.Common.{◌<◌, [], length, ap, ◌∙◌, arith, rules, false}
-use Rattle.delta_store.specs.Chunks.{versions_in, free_in, is_own}
+use Rattle.std.proofs.Common.{◌<◌, [], length, ap, arith, rules}
+use Rattle.delta_store.specs.Chunks.{versions_in, free_in}
 use Rattle.delta_store.proofs.ChunkLemmas.{AreKept-trans, AreKept-set, on_ok, at_set-here}
 use Rattle.delta_store.proofs.chunks.make_room_at.Goals as goal
 
@@ -14,8 +14,3 @@ returns-clause-room c =
     let versions = ap length (at_set-here versions_in c.add_chunk_at.new.chunks.items c.args.at c.reserve.new.self [] there) in
     let free = at_set-here free_in c.add_chunk_at.new.chunks.items c.args.at c.reserve.new.self 0 there in
     on_ok c.reserve.result (λ room. omega (arith, room, versions, free)) c.reserve.ensures.room
-
-pub returns-clause-own : goal.returns-clause-own
-returns-clause-own c =
-    let there : c.args.at < length c.add_chunk_at.new.chunks.items = search rules in
-    on_ok c.reserve.result (λ own. at_set-here is_own c.add_chunk_at.new.chunks.items c.args.at c.reserve.new.self false there ∙ own) c.reserve.ensures.own

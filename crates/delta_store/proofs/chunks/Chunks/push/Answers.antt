@@ -1,6 +1,7 @@
-use Rattle.std.proofs.Common.{◌/◌, refl, sym, ◌∙◌, arith, rules, false}
-use Rattle.delta_store.specs.Chunks.{is_own}
-use Rattle.delta_store.proofs.ChunkLemmas.{length-joined, room_there, own_at_end, free_at_end, push-filled, push-joined, own-same, at_set-here}
+use Rattle.std.proofs.Common.{refl, arith, rules, true, false}
+use Rattle.std.proofs.lemmas.List.{get_or_push}
+use Rattle.delta_store.specs.Chunks.{owned}
+use Rattle.delta_store.proofs.ChunkLemmas.{length-joined, length-owned, room_there, free_at_end, push-filled, push-joined, push-owned}
 use Rattle.delta_store.proofs.chunks.Chunks.push.Goals as goal
 
 pub index_mut-requires : goal.index_mut-requires
@@ -9,13 +10,8 @@ index_mut-requires c =
     let there = room_there c.self.inside.chunks.items c.self.inside.len _ c.self.invariant.0 c.self.inside.len (omega (arith, spare)) in
     search rules
 
-pub push-requires-clause-own : goal.push-requires-clause-own
-push-requires-clause-own c =
-    let spare = rw (← c.self.view_is) at c.requires in
-    own_at_end c.self.inside.chunks.items c.self.inside.len _ c.self.invariant.0 c.index_mut.result.now (omega (arith, spare)) c.index_mut.ensures.value
-
-pub push-requires-clause-room : goal.push-requires-clause-room
-push-requires-clause-room c =
+pub push-requires : goal.push-requires
+push-requires c =
     let spare = rw (← c.self.view_is) at c.requires in
     free_at_end c.self.inside.chunks.items c.self.inside.len _ c.self.invariant.0 c.index_mut.result.now (omega (arith, spare)) c.index_mut.ensures.value
 
@@ -35,11 +31,12 @@ returns-clause-versions c =
 pub returns-clause-own : goal.returns-clause-own
 returns-clause-own c =
     let spare = rw (← c.self.view_is) at c.requires in
-    let own = own_at_end c.self.inside.chunks.items c.self.inside.len _ c.self.invariant.0 c.index_mut.result.now (omega (arith, spare)) c.index_mut.ensures.value in
-    rw (← c.self.view_is) (own-same c.self.inside.chunks.items _ c.index_mut.result.now c.push.new.self c.index_mut.ensures.value (c.push.ensures.own ∙ sym own))
+    rw (← c.self.view_is) (push-owned c.self.inside.chunks.items c.self.inside.len _ c.self.invariant.0 c.index_mut.result.now (omega (arith, spare)) c.index_mut.ensures.value c.push.new.self c.push.ensures.own)
 
 pub returns-clause-here : goal.returns-clause-here
 returns-clause-here c =
     let spare = rw (← c.self.view_is) at c.requires in
     let len = length-joined c.self.inside.chunks.items c.self.inside.len _ c.self.invariant.0 in
-    rw (← c.self.view_is, len) (at_set-here is_own c.self.inside.chunks.items (c.self.inside.len / 1024) c.push.new.self false (room_there c.self.inside.chunks.items c.self.inside.len _ c.self.invariant.0 c.self.inside.len (omega (arith, spare))) ∙ c.push.ensures.own)
+    let long = length-owned c.self.inside.chunks.items c.self.inside.len _ c.self.invariant.0 in
+    let owned_is = push-owned c.self.inside.chunks.items c.self.inside.len _ c.self.invariant.0 c.index_mut.result.now (omega (arith, spare)) c.index_mut.ensures.value c.push.new.self c.push.ensures.own in
+    rw (← c.self.view_is, len, owned_is) (get_or_push (owned c.self.inside.chunks.items) true false c.self.inside.len long)

@@ -1,7 +1,6 @@
-use Rattle.std.proofs.Common.{◌≡◌, ◌++◌, length, take, drop, false, sym, ap, ◌∙◌, rules}
+use Rattle.std.proofs.Common.{◌≡◌, ◌++◌, length, take, drop, sym, ap, ◌∙◌, rules}
 use Rattle.std.proofs.Math.Seq.{take-append_seam}
-use Rattle.std.proofs.lemmas.List.Elements.{All-map}
-use Rattle.delta_store.specs.Chunks.{is_own}
+use Rattle.delta_store.proofs.ChunkLemmas.{none_owned}
 use Rattle.delta_store.proofs.chunks.Chunks.share.Goals as goal
 
 pub returns-clause-none_own : goal.returns-clause-none_own
@@ -9,4 +8,4 @@ returns-clause-none_own c =
     let rest = drop (length c.share_each.new.chunks) c.self.inside.chunks.items in
     let long : length c.share_each.new.chunks ≡ c.self.inside.chunks.len = search rules in
     let same = ap (λ n. take n (c.share_each.new.chunks ++ rest)) (sym long) ∙ take-append_seam c.share_each.new.chunks rest in
-    rw same (All-map (λ own. own ≡ false) is_own c.share_each.new.chunks c.in_ok-chunks.ensures.none_own)
+    rw same (none_owned c.share_each.new.chunks c.in_ok-chunks.ensures.none_own)

@@ -1,7 +1,7 @@
 use Rattle.std.proofs.Common.{refl, sym, None}
 use Rattle.std.proofs.lemmas.List.{length-map, map-append}
 use Rattle.delta_store.specs.Places.{keyed_in}
-use Rattle.delta_store.proofs.LinkLemmas.{last_there, IsStored-push, ready-push, keyed, ready_dead}
+use Rattle.delta_store.proofs.LinkLemmas.{last_there, IsStored-push, ready-push, own-more, keyed, ready_dead}
 use Rattle.delta_store.proofs.store.Delta.insert.Goals as goal
 
 pub ended_after-ended_by-requires : goal.ended_after-ended_by-requires
@@ -22,4 +22,4 @@ pub returns-clause-kept : goal.returns-clause-kept
 returns-clause-kept c = λ q ready.
     let was = rw (← c.self.view_is) at ready in
     let here = rw (sym (length-map c.self.inside.chunks.versions keyed)) at c.push.ensures.here in
-    rw (c.push.ensures.versions, map-append keyed c.self.inside.chunks.versions _) (ready-push (keyed_in c.self.inside.chunks.versions) _ c.push.new.self.own q here (rw (sym c.push.ensures.own) at was))
+    rw (c.push.ensures.versions, map-append keyed c.self.inside.chunks.versions _) (ready-push (keyed_in c.self.inside.chunks.versions) _ c.push.new.self.own q here (λ place w is live. rw c.push.ensures.own (own-more c.self.inside.chunks.own place (was place w is live))))

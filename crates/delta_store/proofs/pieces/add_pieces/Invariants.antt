@@ -1,0 +1,6 @@
+use Rattle.std.proofs.Common.{◌≡◌, ◌++◌, take}
+use Rattle.delta_store.specs.Chunks.{pieces_in}
+use Rattle.delta_store.proofs.pieces.add_pieces.Given as goal
+
+abbrev pub invariant-loop-piece : goal.invariant-loop-piece
+invariant-loop-piece l = l.copied.items ≡ l.initial.copied.items ++ pieces_in (take l.piece-index l.pieces)
