@@ -31,8 +31,19 @@ impl Chunk {
         }
     }
 
-    /// The version at a place in it.
+    /// The version at a place in it. Most stand in a chunk's first piece, where a look tells at once.
     pub fn get(&self, at: usize) -> &LinkedVersion
+        requires { at < length (versions_in self.now) }
+        ensures { slice_get (versions_in self.now) at ≡ Some result.now }
+    {
+        match self.pieces.in_first(at) {
+            Some(version) => version,
+            None => self.get_later(at),
+        }
+    }
+
+    /// The same, by a walk over all pieces.
+    fn get_later(&self, at: usize) -> &LinkedVersion
         requires { at < length (versions_in self.now) }
         ensures { slice_get (versions_in self.now) at ≡ Some result.now }
     {

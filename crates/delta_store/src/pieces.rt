@@ -1,5 +1,5 @@
 // Pieces of versions that chunks may have in common.
-ghost use Rattle.std.specs.Prelude.{◌≡◌, ◌+◌, ◌-◌, ◌≤◌, ◌++◌, [], ◌∷◌, ◌<◌, length, slice_get, vec_len, vec_capacity, IfOk, IfErr, OnOk, OnErr, Some, None, MatchOption, MatchResult, IsTrue};
+ghost use Rattle.std.specs.Prelude.{◌≡◌, ◌+◌, ◌-◌, ◌≤◌, ◌++◌, [], ◌∷◌, ◌<◌, length, slice_get, vec_len, vec_capacity, IfOk, IfErr, OnOk, OnErr, Some, None, MatchOption, MatchResult, IfSome, IsTrue};
 ghost use Rattle.delta_store.specs.Chunks.{pieces_in, shared_in};
 
 use crate::version::LinkedVersion;
@@ -102,6 +102,16 @@ impl Pieces {
     /// Whether there are so many that they are to be gathered.
     pub fn are_many(&self) -> bool {
         self.more.len() >= PIECES - 1
+    }
+
+    /// The version at a place of the first piece, if that goes so far.
+    pub fn in_first(&self, place: usize) -> Option<&LinkedVersion>
+        ensures { IfSome result (λ version. slice_get (shared_in self.now) place ≡ Some version.now) }
+    {
+        match &self.first {
+            Some(piece) => piece.get(place),
+            None => None,
+        }
     }
 
     /// The version at a place, or how far the place is past the last one.
