@@ -357,5 +357,12 @@ fn reorganizes_until_it_finds_no_memory(rt: HostRuntime) -> Result<(), Fail> {
 
 #[test]
 fn reorganizes_what_a_mover_gives_back(rt: HostRuntime) -> Result<(), Fail> {
-    check(&rt, rt.alloc(), false, (&[], &[1]), RELEASED, RELEASED_COMPRESSED)
+    check(
+        &rt,
+        rt.alloc(),
+        false,
+        (&[], &[1]),
+        RELEASED,
+        RELEASED_COMPRESSED,
+    )
 }
