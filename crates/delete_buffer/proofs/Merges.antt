@@ -1,4 +1,6 @@
 -- Entries that are merged into a buffer, and entries that are taken out of it.
+use Rattle.std.specs.Bool.{◌==◌}
+use Rattle.std.proofs.lemmas.Bool.Decides.{nat_tests}
 use Rattle.std.proofs.Common.{◌≡◌, ◌≢◌, ℕ, ◌+◌, ◌-◌, ◌<◌, ◌≤◌, inl, inr, pos, Bool, true, false, not, cond, List, [], ◌∷◌, ◌++◌, length, get_or, take, drop, set, refl, sym, ap, subst, ◌∙◌, arith, Contains}
 use Rattle.std.specs.declared.cmp.Ordering.{Ordering}
 use Rattle.std.specs.declared.cmp.Ordering.TheVariants.{Less, Equal, Greater}
@@ -174,3 +176,12 @@ without_kept taken entries place d there is =
 -- what is left of entries in order is in order
 pub in_order-without : (taken entries : List Entry) → AreInOrder entries → AreInOrder (without taken entries)
 in_order-without taken entries order = AllPairs-filter IsLess (λ x. not (is_among taken x)) entries order
+
+-- where nothing is taken, all entries stay
+without_none : (entries : List Entry) → entries ≡ without [] entries
+without_none [] = refl
+without_none (x ∷ entries) = ap (λ (rest : List Entry). x ∷ rest) (without_none entries)
+
+pub none_taken : (taken entries : List Entry) → true ≡ (length taken == 0) → entries ≡ without taken entries
+none_taken [] entries is = without_none entries
+none_taken (x ∷ taken) entries is = absurd (let some : 0 < length (x ∷ taken) = omega arith in grind (arith, nat_tests, is, some))

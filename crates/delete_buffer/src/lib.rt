@@ -82,7 +82,8 @@ impl Buffer {
         }
     }
 
-    /// Adds an entry of each key with one end, none of which is there, in one pass over the buffer. It takes no memory.
+    /// Adds an entry of each key with one end, none of which is there, in one pass over the buffer. Without a key
+    /// it does nothing, so that what was shared stays shared. It takes no memory.
     pub fn add_all(&mut self, keys: &[Key], end: u64)
         requires room { length keys.now ≤ self.old.spare }
         requires ascending { Ascend keys.now }
@@ -91,6 +92,11 @@ impl Buffer {
         ensures order { AreInOrder self.new.entries }
         ensures room { self.old.spare ≤ self.new.spare + length keys.now }
     {
+        // Its contract says that the entries are in order.
+        let _entries = self.as_slice();
+        if keys.is_empty() {
+            return;
+        }
         forget(&mut self.shared);
         batches::add_all(&mut self.entries, keys, end);
     }
@@ -128,13 +134,19 @@ impl Buffer {
         }
     }
 
-    /// Takes away the entries that are among these, which are in order, in one pass over the buffer. It takes no memory.
+    /// Takes away the entries that are among these, which are in order, in one pass over the buffer. Without one it does
+    /// nothing. It takes no memory.
     pub fn remove_all(&mut self, taken: &[(Key, u64)])
         requires { AreInOrder taken.now }
         ensures entries { self.new.entries ≡ without taken.now self.old.entries }
         ensures order { AreInOrder self.new.entries }
         ensures room { self.old.spare ≤ self.new.spare }
     {
+        // Its contract says that the entries are in order.
+        let _entries = self.as_slice();
+        if taken.is_empty() {
+            return;
+        }
         forget(&mut self.shared);
         batches::remove_all(&mut self.entries, taken);
     }

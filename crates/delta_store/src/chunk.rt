@@ -53,7 +53,8 @@ impl Chunk {
         }
     }
 
-    /// Makes the last piece own again where nobody else has it, with no copy of a version.
+    /// Takes the last piece back as own, where the chunk has no own versions and no room for any, and nobody else has the piece. No
+    /// version is copied.
     fn take_back(&mut self)
         ensures { IsKept self.old self.new }
     {
@@ -64,7 +65,8 @@ impl Chunk {
         }
     }
 
-    /// Makes all versions own, those of pieces by a copy, with room for `room` in all. After `Memory` it is as before.
+    /// Makes all versions own: those of pieces are copied, and the own ones move behind them. It has room for `room` in all then. After
+    /// `Memory` it is as before.
     fn gather(&mut self, alloc: Global, room: usize) -> Result<(), Memory>
         ensures kept { IsKept self.old self.new }
         ensures own { OnOk result (own_from self.new ≡ 0) }
@@ -94,8 +96,8 @@ impl Chunk {
         self.gather(alloc, 0)
     }
 
-    /// Makes room for `room` versions in all. Where its pieces are many, or where it is to be full, all become one. After
-    /// `Memory` its versions are as before.
+    /// Makes room for `room` versions in all. Many pieces are gathered first, as a look-up walks along them; so are those of a chunk that
+    /// is to be full, which gets no version more. After `Memory` its versions are as before.
     pub fn reserve(&mut self, alloc: Global, room: usize) -> Result<(), Memory>
         ensures kept { IsKept self.old self.new }
         ensures room { OnOk result (room ≤ length (versions_in self.new) + free_in self.new) }

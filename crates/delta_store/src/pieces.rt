@@ -7,13 +7,13 @@ use cs_base::Memory;
 use std::alloc::Global;
 use std::sync::Arc;
 
-/// The most pieces of a chunk that others may have in common: with as many, a chunk is gathered into one.
+/// With so many pieces a chunk is gathered before it grows, since a look-up walks along them.
 const PIECES: usize = 16;
 
 /// Versions that others may have in common, piece after piece. They are never changed.
 #[derive(Debug, Drop)]
 pub struct Pieces {
-    /// The first piece, if there is one: a chunk has mostly no other, and shares it without memory.
+    /// The first piece. Most chunks have no other, and a share of them takes no memory then.
     first: Option<Arc<Vec<LinkedVersion>>>,
     /// The pieces after it.
     more: Vec<Arc<Vec<LinkedVersion>>>,

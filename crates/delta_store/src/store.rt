@@ -86,8 +86,8 @@ impl Delta {
         self.index.reserve(n)
     }
 
-    /// Makes a key ready to be ended: if its live version is shared, its chunk becomes own, by a copy where someone else
-    /// still has it. After `Memory` the versions are as before. Keys that are ready stay so.
+    /// Makes a key ready to be ended: where a share may see its live version, the versions of its chunk become own, by a copy if
+    /// the share is still there. After `Memory` the versions are as before. Keys that are ready stay so.
     pub fn prepare_key(&mut self, key: Key) -> Result<(), Memory>
         ensures versions { self.new.versions ≡ self.old.versions }
         ensures ready { OnOk result (IsReady self.new key) }

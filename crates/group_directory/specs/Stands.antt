@@ -95,9 +95,9 @@ pub record AreSizes (sizes : Sizes) : Type 0 where
   pub least_direct : 1 ≤ sizes.direct_rows
   pub most_direct : sizes.direct_rows ≤ 1048576
 
--- the directory stands for the changes: its book is one of them at the floor, the rows are theirs, its COMPRESSED groups are
--- packed ones of the table, what it keeps of open transactions, of newest changes and of claims agrees with the changes, and the
--- groups of claims stand as they were lent
+-- the directory stands for the changes: its book is one of these changes at the floor; its groups have the rows that the changes
+-- wrote; its COMPRESSED groups are packed ones of the table; what it keeps of open transactions, of newest changes and of claims agrees
+-- with the changes; and the groups of claims stand as they were lent
 pub record Stands (directory : Directory) (changes : List Change) : Type 0 where
   pub sizes : AreSizes directory.sizes
   pub held : IsHeld directory.list

@@ -53,7 +53,8 @@ pub record HasKept (width : ℕ) (rowed : List Rowed) (kept : Kept) : Type 0 whe
 
 -- ---- the new group
 
--- where the rows of a group stand at these positions, which are all of its, the bitmap has the ends beside their places, and no other
+-- the rows of a group stand at these positions, a position for each row in their order, and the bitmap has each row's end at its
+-- position, and no other end
 pub record AreMarkedAt (ends : List (ℕ × ℕ)) (positions : List ℕ) (marks : List (Option MarkedEnd)) : Type 0 where
   pub counted : length marks ≡ length positions
   pub ended : (place number : ℕ) → Contains ends (place, number) → end_at marks (slice_index positions place) ≡ Some (Stamped number)
