@@ -15,7 +15,7 @@ use Rattle.group_view.specs.declared.groups.GroupContent.{GroupContent}
 use Rattle.group_view.specs.declared.groups.GroupContent.TheVariants.{Opened, Closed, Compressed, Invisible, Tombstone}
 use Rattle.group_view.specs.Books.{claim_of, content_of, rowed_in_content}
 use Rattle.group_view.specs.Lists.{is_open, is_listed, listed}
-use Rattle.group_directory.specs.Rows.{seen, is_shown, shows, entry_of}
+use Rattle.group_view.specs.Seen.{seen, is_shown, shows, entry_of}
 use Rattle.group_directory.proofs.Mapped.{filter-map, first-filter, filter-none}
 use Rattle.group_directory.proofs.Opened.{none_found}
 

@@ -42,7 +42,7 @@ use Rattle.group_directory.specs.Claiming.{PartValue, part_value, valued, IsShar
 use Rattle.group_directory.specs.Claiming.PartValue.{PackedValue, StoreValue}
 use Rattle.group_directory.specs.Lending.{Keeps, place_of}
 use Rattle.group_directory.specs.Lent.{GroupsStay}
-use Rattle.group_directory.specs.Rows.{Seen, seen, shows, is_shown}
+use Rattle.group_view.specs.Seen.{Seen, seen, shows, is_shown}
 use Rattle.group_directory.specs.Sharing.{picks, AreNamed, IsSameList}
 use Rattle.group_directory.specs.Stands.{width_in, rows_in, IsLoanOf, Stands}
 use Rattle.group_directory.proofs.Books.{book_is, all-mapped}

@@ -38,7 +38,7 @@ use Rattle.group_view.specs.Lists.{listed, packed_in, IsHeld}
 use Rattle.group_view.specs.Laws.{IsRowOf}
 use Rattle.group_view.specs.Parts.{Rowed, ArePacked}
 use Rattle.group_directory.specs.declared.directory.Directory.{Directory}
-use Rattle.group_directory.specs.Rows.{rooted}
+use Rattle.group_view.specs.Seen.{rooted}
 use Rattle.group_directory.specs.Stands.{width_in, rows_in, listed_rows, IsLoanOf, IsRecent, Stands}
 use Rattle.group_directory.specs.Laws.{rooted_at, noted_by, sizes_of}
 use Rattle.group_view.specs.Parcels.{keys_in, packed_keys, parcel_rows}

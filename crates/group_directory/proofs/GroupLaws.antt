@@ -40,7 +40,7 @@ use Rattle.group_view.specs.Lists.{is_listed, listed}
 use Rattle.group_view.specs.Laws.{IsRowOf, IsViewOf}
 use Rattle.group_view.specs.Claims.{lent_entries, rowed_of_packed, IsMadeOf}
 use Rattle.group_directory.specs.declared.directory.Directory.{Directory}
-use Rattle.group_directory.specs.Rows.{Seen, seen, entry_of, packed_seen, part_entry, rooted, rooted_in}
+use Rattle.group_view.specs.Seen.{Seen, seen, entry_of, packed_seen, part_entry, rooted, rooted_in}
 use Rattle.group_directory.specs.Claiming.{PartValue, part_value, valued, IsShareOf}
 use Rattle.group_directory.specs.Claiming.PartValue.{PackedValue, StoreValue}
 use Rattle.group_directory.specs.Stands.{width_in, rows_in, listed_rows, IsEndedBy, IsLoanOf, Stands}

@@ -32,7 +32,7 @@ use Rattle.group_view.specs.Views.{endings_of, buffer_of, rowed_of}
 use Rattle.group_view.specs.Books.{book_of, claim_of, content_of, group_of, group_versions, part_versions, rowed_in_content, versions_of}
 use Rattle.group_view.specs.Lists.{is_open, is_listed, IsFittingContent, IsHeld, IsOpenAt}
 use Rattle.group_view.specs.Claims.{lent_entries, IsMarkedOf}
-use Rattle.group_directory.specs.Rows.{rooted, rooted_in}
+use Rattle.group_view.specs.Seen.{rooted, rooted_in}
 use Rattle.group_directory.specs.Installing.{held_by, ids_of, with_marks, marked_by, MayMark}
 use Rattle.group_directory.proofs.Held.{Fits, Lends}
 use Rattle.group_directory.proofs.Books.{book_is}

@@ -34,7 +34,7 @@ use Rattle.group_view.specs.Lists.{listed, packed_in, IsHeld}
 use Rattle.group_view.specs.Laws.{IsRowOf}
 use Rattle.group_view.specs.Claims.{padded_rowed, lent_entries, kept_rowed, rowed_of_packed, IsMadeOf, IsProductOf}
 use Rattle.group_directory.specs.declared.directory.Directory.{Directory}
-use Rattle.group_directory.specs.Rows.{rooted_in}
+use Rattle.group_view.specs.Seen.{rooted_in}
 use Rattle.group_directory.specs.Committing.{NewGroup}
 use Rattle.group_directory.specs.Lent.{GroupsStay}
 use Rattle.group_directory.specs.Stands.{width_in, listed_rows, IsLoanOf, Stands}

@@ -33,7 +33,7 @@ use Rattle.group_view.specs.Books.{versions_of, content_of, group_of, rowed_in_c
 use Rattle.group_directory.specs.declared.claims.Turn.{Turn}
 use Rattle.group_directory.specs.Claiming.{IsShareOf}
 use Rattle.group_directory.specs.Lending.{Lends, Keeps, place_of}
-use Rattle.group_directory.specs.Rows.{Seen, seen, entry_of, part_entry}
+use Rattle.group_view.specs.Seen.{Seen, seen, entry_of, part_entry}
 use Rattle.group_directory.specs.Sharing.{picks, IsViewOf}
 use Rattle.group_directory.proofs.Shared.{map-through}
 

@@ -19,7 +19,7 @@ use Rattle.group_view.specs.Laws.{IsRowOf}
 use Rattle.group_view.specs.Views.{IsView, ShowsTables}
 use Rattle.group_view.proofs.Tables.{is_view, tables_shown}
 use Rattle.group_directory.specs.declared.directory.Directory.{Directory}
-use Rattle.group_directory.specs.Rows.{part_entry, shows}
+use Rattle.group_view.specs.Seen.{part_entry, shows}
 use Rattle.group_directory.specs.Sharing.{IsViewOf}
 use Rattle.group_directory.specs.Stands.{width_in, rows_in, IsLoanOf, Stands}
 use Rattle.group_directory.specs.Laws.{IsLookAt}

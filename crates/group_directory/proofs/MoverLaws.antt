@@ -22,7 +22,7 @@ use Rattle.group_view.specs.Laws.{IsRowOf}
 use Rattle.group_directory.specs.declared.directory.Directory.{Directory}
 use Rattle.group_directory.specs.Events.{IsHiddenBy, MakesHidden}
 use Rattle.group_directory.specs.Lent.{GroupsStay}
-use Rattle.group_directory.specs.Rows.{rooted_in}
+use Rattle.group_view.specs.Seen.{rooted_in}
 use Rattle.group_directory.specs.Stands.{width_in, rows_in, IsLoanOf, Stands}
 use Rattle.group_directory.proofs.LentLaws.{each_held, others_lent, lent_moved, stay_released, stay_cleared, stay_settled}
 use Rattle.group_directory.proofs.GroupLaws.{groups_ended}

@@ -36,7 +36,7 @@ use Rattle.group_directory.specs.Claiming.{PartValue, valued}
 use Rattle.group_directory.specs.Claiming.PartValue.{PackedValue, StoreValue}
 use Rattle.group_directory.specs.Committing.{NewGroup, new_groups, rebased, packed_groups, IsNewGroupOf}
 use Rattle.group_directory.specs.Installing as install
-use Rattle.group_directory.specs.Rows.{Seen, seen, is_shown, shows, entry_of, packed_seen, part_entry}
+use Rattle.group_view.specs.Seen.{Seen, seen, is_shown, shows, entry_of, packed_seen, part_entry}
 use Rattle.group_directory.specs.Settling as settle
 use Rattle.group_directory.proofs.Books.{listed_kind}
 

@@ -35,7 +35,7 @@ use Rattle.group_view.specs.Views.{rowed_of}
 use Rattle.group_view.specs.Books.{claim_of}
 use Rattle.group_view.specs.Claims.{padded_rowed, lent_entries, kept_rowed, rowed_of_packed, IsMadeOf}
 use Rattle.group_view.specs.Laws.{IsRowOf}
-use Rattle.group_directory.specs.Rows.{rooted}
+use Rattle.group_view.specs.Seen.{rooted}
 use Rattle.group_view.specs.Parcels.{IsGiven}
 use Rattle.group_directory.specs.Laws.{rooted_at, AreAmong, BeginsBy, width_of}
 

@@ -29,7 +29,7 @@ use Rattle.group_view.specs.Parts.{Rowed, end_of_mark, packed_version, packed_ve
 use Rattle.group_view.specs.Books.{versions_of, content_of, group_of, claim_of, book_of, rowed_in_content}
 use Rattle.group_view.specs.Lists.{is_open, is_listed, listed, IsFittingContent, IsHeld}
 use Rattle.group_view.specs.Walks.{settles_in}
-use Rattle.group_directory.specs.Rows.{rooted, rooted_in}
+use Rattle.group_view.specs.Seen.{rooted, rooted_in}
 use Rattle.group_directory.specs.Settling.{NewMarks, marked, with_marks, settling_in, IsSettledBy}
 use Rattle.group_directory.proofs.Books.{book_is}
 use Rattle.group_directory.proofs.Held.{Fits}

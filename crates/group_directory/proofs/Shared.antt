@@ -18,7 +18,7 @@ use Rattle.group_view.specs.declared.view.GroupView.{GroupView}
 use Rattle.group_view.specs.Parts.{packed_parts}
 use Rattle.group_view.specs.Books.{group_of}
 use Rattle.group_view.specs.Lists.{is_open, listed, packed_in, IsOpenAt}
-use Rattle.group_directory.specs.Rows.{Seen, seen, shows, entry_of, part_entry}
+use Rattle.group_view.specs.Seen.{Seen, seen, shows, entry_of, part_entry}
 use Rattle.group_directory.specs.Sharing.{picks, is_next, is_number_of, AreNamed, IsViewOf}
 use Rattle.group_directory.proofs.Books.{open_kind, listed_seen}
 use Rattle.group_directory.proofs.Opened.{opens}

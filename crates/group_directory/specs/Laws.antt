@@ -22,7 +22,7 @@ use Rattle.group_view.specs.Books.{book_of, StandsAsLent}
 use Rattle.group_view.specs.Lists.{listed, packed_in, IsHeld}
 use Rattle.group_view.specs.Laws.{IsRowOf}
 use Rattle.group_directory.specs.declared.directory.Directory.{Directory}
-use Rattle.group_directory.specs.Rows.{part_entry, rooted}
+use Rattle.group_view.specs.Seen.{part_entry, rooted}
 use Rattle.group_directory.specs.Stands.{width_in, listed_rows, IsLoanOf, AreSizes}
 
 -- ---- rows

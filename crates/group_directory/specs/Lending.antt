@@ -9,7 +9,7 @@ use Rattle.group_view.specs.declared.groups.GroupList.{GroupList}
 use Rattle.group_view.specs.Lists.{IsFittingContent}
 use Rattle.group_directory.specs.declared.claims.Turn.{Turn}
 use Rattle.group_directory.specs.Claiming.{IsShareOf}
-use Rattle.group_directory.specs.Rows.{seen}
+use Rattle.group_view.specs.Seen.{seen}
 use Rattle.group_directory.specs.Sharing.{picks, IsViewOf}
 
 -- the claim lends these groups of the list, with its buffer and these entries

@@ -1,4 +1,3 @@
-pub mod Rows
 pub mod Claiming
 pub mod Lending
 pub mod Stands

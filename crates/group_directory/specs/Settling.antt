@@ -12,7 +12,7 @@ use Rattle.group_view.specs.declared.groups.GroupContent.TheVariants.{Opened, Cl
 use Rattle.group_view.specs.declared.groups.Group.{Group}
 use Rattle.group_view.specs.Books.{group_of, rowed_in_content}
 use Rattle.group_view.specs.Lists.{IsFittingContent}
-use Rattle.group_directory.specs.Rows.{rooted}
+use Rattle.group_view.specs.Seen.{rooted}
 
 -- a bitmap for a packed group, or none where it keeps its own
 abbrev pub NewMarks : Type 0

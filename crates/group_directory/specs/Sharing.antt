@@ -9,13 +9,7 @@ use Rattle.group_view.specs.declared.view.GroupView.{GroupView}
 use Rattle.group_view.specs.Parts.{rowed_in, packed_part, packed_parts, IsFitting}
 use Rattle.group_view.specs.Books.{rowed_in_content}
 use Rattle.group_view.specs.Lists.{is_listed, packed_content, IsFittingContent}
-use Rattle.group_directory.specs.Rows.{Seen, seen, shows, entry_of, packed_seen, part_entry}
-
--- the part is what a view shows of the group, none where it shows nothing of it
-abbrev pub IsPartOf : GroupContent → Option GroupPart → Type 0
-IsPartOf content None = is_listed content ≡ false
-IsPartOf content (Some part) = (is_listed content ≡ true) × (rowed_in part ≡ rowed_in_content content) × (IsFittingContent content → IsFitting part)
-    × ((id : ℕ) → packed_part (id, part) ≡ packed_content id content)
+use Rattle.group_view.specs.Seen.{Seen, seen, shows, entry_of, packed_seen, part_entry}
 
 -- the group is one of these sources
 abbrev pub picks : List ℕ → Seen → Bool

@@ -3,7 +3,7 @@ ghost use Rattle.std.specs.Prelude.{◌≡◌, ◌+◌, ◌<◌, ◌^◌, ◌∷
 ghost use Rattle.group_view.specs.Lists.{IsHeld};
 ghost use Rattle.group_directory.specs.Claiming.{part_value, valued, IsShareOf};
 ghost use Rattle.group_directory.specs.Lending.{Keeps, Lends};
-ghost use Rattle.group_directory.specs.Rows.{seen};
+ghost use Rattle.group_view.specs.Seen.{seen};
 ghost use Rattle.group_directory.specs.Sharing.{AreNamed, IsSameList};
 
 use crate::share::view_of_sources;

@@ -15,7 +15,7 @@ ghost use Rattle.group_view.specs.Books.{book_of, claim_of, group_of};
 ghost use Rattle.group_view.specs.Parts.{ArePacked, IsPackedGroup};
 ghost use Rattle.group_view.specs.Lists.{listed, packed_in, IsFittingContent, IsHeld};
 ghost use Rattle.group_view.specs.Claims.{IsProductOf};
-ghost use Rattle.group_directory.specs.Rows.{rooted_in};
+ghost use Rattle.group_view.specs.Seen.{rooted_in};
 ghost use Rattle.group_directory.specs.Stands.{Stands};
 ghost use Rattle.group_directory.specs.Installing.{buried, held_by, ids_of, is_first, marked_by, new_versions, placed, with_marks, with_new, HasPlace, IsFilled, IsInstalled, IsOldOrNew, MayMark};
 

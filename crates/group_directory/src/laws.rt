@@ -43,7 +43,7 @@ ghost use Rattle.group_view.specs.Views.{endings_of, buffer_of, rowed_of};
 ghost use Rattle.group_view.specs.Books.{versions_of, rowed_in_content, choice_of, claim_of, book_of};
 ghost use Rattle.group_view.specs.Claims.{padded_rowed, lent_entries, kept_rowed, rowed_of_packed, IsMadeOf};
 ghost use Rattle.group_directory.specs.declared.directory.Directory.{Directory};
-ghost use Rattle.group_directory.specs.Rows.{Seen, seen, entry_of, packed_seen, part_entry, rooted, rooted_in};
+ghost use Rattle.group_view.specs.Seen.{Seen, seen, entry_of, packed_seen, part_entry, rooted, rooted_in};
 ghost use Rattle.group_directory.specs.Claiming.{IsShareOf};
 ghost use Rattle.group_directory.specs.Stands.{width_in, rows_in, listed_rows, IsEndedBy, IsLoanOf, IsRecent, SayReplaced, AreTxns, Stands};
 ghost use Rattle.group_view.specs.Parcels.{IsGiven};

@@ -6,7 +6,7 @@ ghost use Rattle.group_book.specs.Choices.{settling_count};
 ghost use Rattle.group_book.specs.Turns.{after_settle};
 ghost use Rattle.group_view.specs.Books.{book_of, claim_of, group_of};
 ghost use Rattle.group_view.specs.Lists.{packed_in, IsFittingContent, IsHeld};
-ghost use Rattle.group_directory.specs.Rows.{rooted_in};
+ghost use Rattle.group_view.specs.Seen.{rooted_in};
 ghost use Rattle.group_directory.specs.Settling.{marked, settling_in, with_marks, IsSettledBy};
 
 use cs_base::Memory;

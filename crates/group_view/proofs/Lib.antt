@@ -10,3 +10,4 @@ pub mod Chosen
 pub mod Counted
 pub mod EndLemmas
 pub mod PairLemmas
+pub mod ShareLemmas

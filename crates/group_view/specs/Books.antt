@@ -1,49 +1,18 @@
 -- The book that a list of groups stands for.
-use Rattle.std.specs.Prelude.{◌≡◌, ℕ, List, [], map, filter, All, Option, None, Some}
+use Rattle.std.specs.Prelude.{◌≡◌, ℕ, List, map, filter}
 use Rattle.cs_model.specs.declared.work.Actor.{Actor}
 use Rattle.group_book.specs.Book as book
-use Rattle.group_book.specs.Book.{Version, Content, Book, frozen_in}
-use Rattle.group_book.specs.Book.Content.{Opened, Closed, Compressed, Invisible, Tombstone}
+use Rattle.group_book.specs.Book.{Version, Book, frozen_in}
 use Rattle.group_book.specs.Book.Choice.{Compress, Flush, Rebuild, Merge, Settle, Clear, Idle}
 use Rattle.group_book.specs.Turns.{entries_for, is_id_of}
 use Rattle.group_view.specs.declared.claim.Choice.{Choice}
 use Rattle.group_view.specs.declared.claim.Choice.TheVariants as made
 use Rattle.group_view.specs.declared.claim.Claim.{Claim}
-use Rattle.group_view.specs.declared.groups.ClosedStore.{ClosedStore}
-use Rattle.group_view.specs.declared.groups.ClosedStore.TheVariants.{Own, Shared}
-use Rattle.group_view.specs.declared.groups.GroupContent.{GroupContent}
-use Rattle.group_view.specs.declared.groups.GroupContent.TheVariants as kept
-use Rattle.group_view.specs.declared.groups.Group.{Group}
 use Rattle.group_view.specs.declared.groups.GroupList.{GroupList}
 use Rattle.group_view.specs.declared.parts.GroupPart.{GroupPart}
-use Rattle.group_view.specs.Parts.{Rowed, packed_versions, stored_versions, versions_in}
+use Rattle.group_view.specs.Parts.{versions_in}
+pub use Rattle.group_view.specs.Contents.{versions_of, rowed_in_closed, rowed_in_content, content_of, group_of}
 use Rattle.group_view.specs.Views.{endings_of, buffer_of, rowed_of}
-
--- versions without their rows
-abbrev pub versions_of : List Rowed → List Version
-versions_of rowed = map (λ (version : Rowed). version.version) rowed
-
-abbrev pub rowed_in_closed : ClosedStore → List Rowed
-rowed_in_closed (Own store) = stored_versions store
-rowed_in_closed (Shared store) = stored_versions store.value
-
--- the versions of a group, none of one that is being made or has gone
-abbrev pub rowed_in_content : GroupContent → List Rowed
-rowed_in_content (kept.Opened store) = stored_versions store.versions
-rowed_in_content (kept.Closed store) = rowed_in_closed store
-rowed_in_content (kept.Compressed packed marks) = let group = packed.value in packed_versions group.key group.rows marks.value
-rowed_in_content kept.Invisible = []
-rowed_in_content (kept.Tombstone total deleted) = []
-
-abbrev pub content_of : GroupContent → Content
-content_of (kept.Opened store) = Opened (versions_of (rowed_in_content (kept.Opened store)))
-content_of (kept.Closed store) = Closed (versions_of (rowed_in_content (kept.Closed store)))
-content_of (kept.Compressed packed marks) = Compressed (versions_of (rowed_in_content (kept.Compressed packed marks)))
-content_of kept.Invisible = Invisible
-content_of (kept.Tombstone total deleted) = Tombstone total deleted
-
-abbrev pub group_of : Group → book.Group
-group_of group = record { id = group.id; content = content_of group.content }
 
 abbrev pub choice_of : Choice → book.Choice
 choice_of (made.Compress source) = Compress source

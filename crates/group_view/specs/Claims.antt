@@ -8,7 +8,6 @@ use Rattle.cs_types.specs.Rows.{key_in}
 use Rattle.cs_types.specs.Schemas.{IsSchema, IsRowOf}
 use Rattle.delete_bitmap.specs.declared.Marks.{Marks}
 use Rattle.row_group.specs.declared.packed.Packed.{Packed}
-use Rattle.row_group.specs.Rows.{AreInOrder}
 use Rattle.group_book.specs.Book as book
 use Rattle.group_book.specs.Book.{Version, Ending, has_ended}
 use Rattle.group_book.specs.Book.Choice.{Compress, Flush, Rebuild, Merge, Settle, Clear, Idle}
@@ -19,7 +18,7 @@ use Rattle.group_view.specs.declared.claim.Product.{Product}
 use Rattle.group_view.specs.declared.claim.Product.TheVariants.{Group, Marked}
 use Rattle.group_view.specs.declared.parts.GroupPart.{GroupPart}
 use Rattle.group_view.specs.declared.parts.GroupPart.TheVariants as part
-use Rattle.group_view.specs.Parts.{Rowed, padded, packed_versions, IsFitting, rowed_in, IsPackedGroup}
+use Rattle.group_view.specs.Parts.{Rowed, padded, packed_versions, IsFitting, IsPackedGroup}
 use Rattle.group_view.specs.Views.{endings_of, buffer_of, rowed_of}
 use Rattle.group_view.specs.Books.{versions_of, choice_of}
 

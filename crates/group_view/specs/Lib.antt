@@ -1,9 +1,13 @@
 pub mod Parts
 pub mod Scanned
 pub mod Views
+pub mod Contents
 pub mod Books
 pub mod Lists
 pub mod Claims
 pub mod Parcels
 pub mod Laws
 pub mod Walks
+pub mod Seen
+pub mod Shares
+pub mod Lends

@@ -15,12 +15,7 @@ use cs_model::Actor;
 fn is_source(claim: &Claim, id: u64) -> bool
     ensures { result ≡ list_any (λ (group : ℕ × GroupPart). group.0 == id) claim.now.view.groups }
 {
-    claim
-        .view
-        .groups
-        .as_slice()
-        .iter()
-        .any(|group| group.0 == id)
+    claim.view.has(id)
 }
 
 /// Whether one of the claims works on the group of this id.

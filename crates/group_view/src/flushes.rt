@@ -41,7 +41,7 @@ fn is_flushable(list: &GroupList, nears: &mut [usize], key: Key, end: u64) -> bo
     let mut place = list.groups.len();
     while place > 0 {
         place -= 1;
-        let group = &list.groups[place];
+        let group = &list.groups.as_slice()[place];
         let mut near = near_at(nears, place);
         let ended = ends_one(group, &list.buffer, &mut near, key, end);
         keep_near(nears, place, near);
@@ -71,7 +71,7 @@ pub fn flush_sources(alloc: Global, list: &GroupList) -> Result<Items<u64>, Memo
     ensures { IfOk result (λ ids. ids ≡ flush_sources (book_of list.now)) }
 {
     let mut sources = Items::new(alloc);
-    for group in &list.groups {
+    for group in list.groups.as_slice() {
         if has_entry(group, &list.buffer) && !is_claimed(&list.claims, group.id) {
             sources.push(group.id)?;
         }

@@ -1,6 +1,7 @@
 // The groups as the directory keeps them.
 
 use crate::claim::Claim;
+use crate::held::Groups;
 use cs_model::Actor;
 use delete_bitmap::Marks;
 use delete_buffer::Buffer;
@@ -40,7 +41,7 @@ pub struct Group {
 /// All groups by id, the delete buffer, the claims with the actors that hold them, the newest first, and the next id.
 #[derive(Drop)]
 pub struct GroupList {
-    pub groups: Vec<Group>,
+    pub groups: Groups,
     /// The place of the OPEN group, if there is one.
     pub opened: Option<usize>,
     pub buffer: Buffer,

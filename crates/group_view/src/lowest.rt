@@ -28,7 +28,7 @@ fn is_tombstone(group: &Group) -> bool
 pub fn lowest_closed(list: &GroupList) -> Option<u64>
     ensures { result ≡ lowest (λ group. is_closed group.content) (free (book_of list.now)) }
 {
-    for group in &list.groups {
+    for group in list.groups.as_slice() {
         if is_closed(group) && !is_claimed(&list.claims, group.id) {
             return Some(group.id);
         }
@@ -42,7 +42,7 @@ pub fn lowest_thin(list: &GroupList, floor: u64) -> Option<u64>
     requires { All (λ group. IsFittingContent group.content) list.now.groups.items }
     ensures { result ≡ lowest (is_thin floor) (free_packed (book_of list.now)) }
 {
-    for group in &list.groups {
+    for group in list.groups.as_slice() {
         if is_thin(group, floor) && !is_claimed(&list.claims, group.id) {
             return Some(group.id);
         }
@@ -80,7 +80,7 @@ pub fn lowest_fitting(
     requires within { from ≤ length list.now.groups.items }
     ensures { result ≡ lowest (fits_beside floor group_rows kept_beside) (packed_from from list.now) }
 {
-    for group in &list.groups[from..] {
+    for group in &list.groups.as_slice()[from..] {
         if fits(group, floor, kept_beside, group_rows) && !is_claimed(&list.claims, group.id) {
             return Some(group.id);
         }
@@ -93,7 +93,7 @@ pub fn has_settling(list: &GroupList, floor: u64) -> bool
     requires { All (λ group. IsFittingContent group.content) list.now.groups.items }
     ensures { result ≡ nat_le 1 (settling_count floor (book_of list.now)) }
 {
-    for group in &list.groups {
+    for group in list.groups.as_slice() {
         if settles(group, floor) && !is_claimed(&list.claims, group.id) {
             return true;
         }
@@ -105,7 +105,7 @@ pub fn has_settling(list: &GroupList, floor: u64) -> bool
 pub fn has_tombstone(list: &GroupList) -> bool
     ensures { result ≡ nat_le 1 (tombstone_count (book_of list.now)) }
 {
-    for group in &list.groups {
+    for group in list.groups.as_slice() {
         if is_tombstone(group) {
             return true;
         }

@@ -71,7 +71,7 @@ fn scanned(list: &GroupList, place: usize, scan: Scan, floor: u64, group_rows: u
     requires scan { IsScanOf floor group_rows list.now (place + 1) scan }
     ensures { IsScanOf floor group_rows list.now place result }
 {
-    let group = &list.groups[place];
+    let group = &list.groups.as_slice()[place];
     let Some(kept) = kept_if_free(list, group, floor) else {
         return scan;
     };

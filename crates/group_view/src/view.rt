@@ -1,14 +1,16 @@
 // Views of the groups.
-ghost use Rattle.std.specs.Prelude.{◌≡◌, ◌<◌, ◌↔◌, [], length, slice_get, All, IfNone, IfOk, IfSome, IsSome, IsTrue, Some};
+ghost use Rattle.std.specs.Prelude.{◌≡◌, ◌==◌, ◌<◌, ℕ, ◌↔◌, [], length, slice_get, All, IfNone, IfOk, IfSome, IsSome, IsTrue, Some};
+ghost use Rattle.std.specs.List.{list_any};
 ghost use Rattle.std.specs.Option.{option_map};
 ghost use Rattle.group_view.specs.Parts.{lived_version, padded, IsBorrowed, IsFitting};
 ghost use Rattle.group_view.specs.Views.{is_shown, version_at, HidesEach, Shows};
 
 use crate::lived::Lived;
 use crate::parts::{GroupPart, GroupRef};
-use cs_base::{Items, Memory};
+use cs_base::Memory;
 use cs_types::{Key, Row};
 use delete_buffer::Ends;
+use shared_list::SharedList;
 use std::alloc::Global;
 use std::sync::Arc;
 use write_set::Own;
@@ -17,8 +19,8 @@ use write_set::Own;
 /// clock. It shares what it shows and never changes, whatever movers install later.
 #[derive(Drop)]
 pub struct GroupView {
-    /// The groups with their ids, which ascend.
-    pub groups: Items<(u64, GroupPart)>,
+    /// The groups with their ids, which ascend, in chunks that it may have in common with other views.
+    pub groups: SharedList<(u64, GroupPart)>,
     /// The delete buffer.
     pub buffer: Arc<Ends>,
     /// The least snapshot that was still read.
@@ -56,6 +58,18 @@ impl GroupView {
         ensures { IsTrue result ↔ (self.now.groups ≡ []) }
     {
         self.groups.is_empty()
+    }
+
+    /// Whether it shows the group of this id.
+    pub fn has(&self, id: u64) -> bool
+        ensures { result ≡ list_any (λ (group : ℕ × GroupPart). group.0 == id) self.now.groups }
+    {
+        for group in 0..self.groups.len() {
+            if self.groups.at(group).0 == id {
+                return true;
+            }
+        }
+        false
     }
 
     /// The id of a group.

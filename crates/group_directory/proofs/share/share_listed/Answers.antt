@@ -2,7 +2,7 @@ use Rattle.std.proofs.Common.{◌<◌, map, length, get_or, ◌∙◌, arith}
 use Rattle.std.proofs.lemmas.List.{get_or_default, map-append}
 use Rattle.std.proofs.lemmas.Grind.{flat_map-append}
 use Rattle.std.proofs.lemmas.List.Elements.{All-set}
-use Rattle.group_directory.specs.Rows.{Seen, entry_of, packed_seen, part_entry, seen, shows}
+use Rattle.group_view.specs.Seen.{Seen, entry_of, packed_seen, part_entry, seen, shows}
 use Rattle.group_view.specs.Parts.{packed_parts}
 use Rattle.group_directory.proofs.Held.{Fits}
 use Rattle.group_directory.proofs.Mapped.{map-set_alike}

@@ -5,7 +5,7 @@ use Rattle.std.proofs.lemmas.Grind.{flat_map-append}
 use Rattle.std.proofs.lemmas.List.Elements.{All-set}
 use Rattle.group_view.specs.declared.parts.GroupPart.{GroupPart}
 use Rattle.group_view.specs.Parts.{packed_parts, IsFitting}
-use Rattle.group_directory.specs.Rows.{Seen, entry_of, packed_seen, part_entry, seen}
+use Rattle.group_view.specs.Seen.{Seen, entry_of, packed_seen, part_entry, seen}
 use Rattle.group_directory.specs.Sharing.{picks}
 use Rattle.group_directory.proofs.Held.{Fits}
 use Rattle.group_directory.proofs.Mapped.{map-set_alike}

@@ -1,7 +1,7 @@
 use Rattle.std.proofs.Common.{◌≡◌, map, filter, take, All}
 use Rattle.group_view.specs.Lists.{IsFittingContent}
 use Rattle.group_view.specs.Parts.{packed_parts, IsFitting}
-use Rattle.group_directory.specs.Rows.{entry_of, packed_seen, part_entry, seen}
+use Rattle.group_view.specs.Seen.{entry_of, packed_seen, part_entry, seen}
 use Rattle.group_directory.specs.Sharing.{picks}
 use Rattle.group_directory.proofs.share.share_sources.Given as goal
 

@@ -12,13 +12,13 @@ pub returns-then-not-is_claimed : goal.returns-then-not-is_claimed
 returns-then-not-is_claimed c =
     let list = c.args.list.now in
     let group = c.group-item.result in
-    let inside : c.loop-group.group-index < length list.groups.items = rw c.deref-group-items.ensures.value at c.loop-group-test.true in
-    let at : get_or list.groups.items c.loop-group.group-index group ≡ group = rw c.deref-group-items.ensures.value at (sym c.group-item.is) in
+    let inside : c.loop-group.group-index < length list.groups.items = rw c.as_slice-group-items.ensures at c.loop-group-test.true in
+    let at : get_or list.groups.items c.loop-group.group-index group ≡ group = rw c.as_slice-group-items.ensures at (sym c.group-item.is) in
     let unclaimed : is_claimed (map claim_of list.claims.items) (group_of group) ≡ false = sym (c.is_claimed.ensures (group_of group) refl ∙ ap (λ claims. is_claimed (map claim_of claims) (group_of group)) c.deref.ensures.value) ∙ c.if-not-is_claimed.true in
     sym (counts_one (λ (version : Version). is_settling c.args.floor version.end) (frozen (free_packed (book_of list))) ∙ any_packed (book_of list) (λ (version : Version). is_settling c.args.floor version.end) ∙ one_found (book_of list) (settles_in c.args.floor) list.groups.items c.loop-group.group-index group inside at (sym c.settles.ensures ∙ c.if-settles.true) unclaimed)
 
 pub returns : goal.returns
 returns c =
     let list = c.args.list.now in
-    let past : length list.groups.items ≤ c.loop-group.group-index = rw c.deref-group-items.ensures.value at c.loop-group-test.false in
+    let past : length list.groups.items ≤ c.loop-group.group-index = rw c.as_slice-group-items.ensures at c.loop-group-test.false in
     sym (counts_one (λ (version : Version). is_settling c.args.floor version.end) (frozen (free_packed (book_of list))) ∙ any_packed (book_of list) (λ (version : Version). is_settling c.args.floor version.end) ∙ none_found (book_of list) (settles_in c.args.floor) list.groups.items c.loop-group.group-index c.loop-group.invariant past)

@@ -10,8 +10,8 @@ pub returns-then-is_tombstone : goal.returns-then-is_tombstone
 returns-then-is_tombstone c =
     let list = c.args.list.now in
     let group = c.group-item.result in
-    let inside : c.loop-group.group-index < length list.groups.items = rw c.deref-group-items.ensures.value at c.loop-group-test.true in
-    let at : get_or list.groups.items c.loop-group.group-index group ≡ group = rw c.deref-group-items.ensures.value at (sym c.group-item.is) in
+    let inside : c.loop-group.group-index < length list.groups.items = rw c.as_slice-group-items.ensures at c.loop-group-test.true in
+    let at : get_or list.groups.items c.loop-group.group-index group ≡ group = rw c.as_slice-group-items.ensures at (sym c.group-item.is) in
     sym (counts_one (λ (other : Group). is_tombstone other.content) (book_of list).groups ∙ any-map (λ (other : Group). is_tombstone other.content) group_of list.groups.items
     ∙ list_any_at (λ (other : Kept). is_tombstone (group_of other).content) list.groups.items c.loop-group.group-index group inside
     (ap (λ (other : Kept). is_tombstone (group_of other).content) at ∙ sym c.is_tombstone.ensures ∙ c.if-is_tombstone.true))
@@ -19,6 +19,6 @@ returns-then-is_tombstone c =
 pub returns : goal.returns
 returns c =
     let list = c.args.list.now in
-    let past : length list.groups.items ≤ c.loop-group.group-index = rw c.deref-group-items.ensures.value at c.loop-group-test.false in
+    let past : length list.groups.items ≤ c.loop-group.group-index = rw c.as_slice-group-items.ensures at c.loop-group-test.false in
     sym (counts_one (λ (other : Group). is_tombstone other.content) (book_of list).groups ∙ any-map (λ (other : Group). is_tombstone other.content) group_of list.groups.items
     ∙ any_done (λ (other : Kept). is_tombstone (group_of other).content) list.groups.items c.loop-group.group-index c.loop-group.invariant past)

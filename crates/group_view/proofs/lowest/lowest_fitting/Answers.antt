@@ -16,14 +16,14 @@ returns-then-not-is_claimed c =
     let list = c.args.list.now in
     let group = c.group-item.result in
     let i = c.loop-group.group-index in
-    let same = rest c.args.from c.deref.result.now list.groups.items c.deref.ensures.value c.requires.within in
+    let same = rest c.args.from c.as_slice.result.now list.groups.items c.as_slice.ensures c.requires.within in
     let inside = subst (λ (groups : List Group). i < length groups) same c.loop-group-test.true in
     let at = subst (λ (groups : List Group). get_or groups i group ≡ group) same (sym c.group-item.is) in
-    let unclaimed : is_claimed (map claim_of list.claims.items) (group_of group) ≡ false = sym (c.is_claimed.ensures (group_of group) refl ∙ ap (λ claims. is_claimed (map claim_of claims) (group_of group)) c.deref-then-fits.ensures.value) ∙ c.if-not-is_claimed.true in
+    let unclaimed : is_claimed (map claim_of list.claims.items) (group_of group) ≡ false = sym (c.is_claimed.ensures (group_of group) refl ∙ ap (λ claims. is_claimed (map claim_of claims) (group_of group)) c.deref.ensures.value) ∙ c.if-not-is_claimed.true in
     sym (packed_found (book_of list) (fits_beside c.args.floor c.args.group_rows c.args.kept_beside) (drop c.args.from list.groups.items) i group c.loop-group.invariant inside at (sym c.fits.ensures ∙ c.if-fits.true) unclaimed)
 
 pub returns : goal.returns
 returns c =
     let list = c.args.list.now in
-    let past = subst (λ (groups : List Group). length groups ≤ c.loop-group.group-index) (rest c.args.from c.deref.result.now list.groups.items c.deref.ensures.value c.requires.within) c.loop-group-test.false in
+    let past = subst (λ (groups : List Group). length groups ≤ c.loop-group.group-index) (rest c.args.from c.as_slice.result.now list.groups.items c.as_slice.ensures c.requires.within) c.loop-group-test.false in
     sym (packed_none (book_of list) (fits_beside c.args.floor c.args.group_rows c.args.kept_beside) (drop c.args.from list.groups.items) c.loop-group.group-index c.loop-group.invariant past)

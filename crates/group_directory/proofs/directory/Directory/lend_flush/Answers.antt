@@ -1,6 +1,6 @@
 use Rattle.std.proofs.Common.{None, List, ℕ, map, sym, subst, ◌∙◌}
 use Rattle.group_directory.specs.Lending.{Keeps}
-use Rattle.group_directory.specs.Rows.{seen}
+use Rattle.group_view.specs.Seen.{seen}
 use Rattle.group_directory.specs.Sharing.{AreNamed}
 use Rattle.group_directory.proofs.ClaimLaws.{flush_named, stands_flush, sound_flush, taken_flush, stands_shared, as_before}
 use Rattle.group_directory.proofs.CommitLaws.{on_err}

@@ -10,8 +10,7 @@ use Rattle.group_book.specs.Book.Content.{Opened, Closed, Compressed, Invisible,
 use Rattle.group_view.specs.declared.groups.Group.{Group}
 use Rattle.group_view.specs.declared.parts.GroupPart.{GroupPart}
 use Rattle.group_view.specs.Parts.{Rowed, rowed_in}
-use Rattle.group_view.specs.Books.{group_of, rowed_in_content}
-use Rattle.group_view.specs.Lists.{listed, packed_of}
+use Rattle.group_view.specs.Contents.{group_of, rowed_in_content, listed, packed_of}
 
 -- a group of the book with the versions and rows of its list, and as a packed group where it is COMPRESSED; whether it shares
 -- them is not seen
