@@ -76,12 +76,9 @@ module _ (schema : Schema) (condition : Option Pred) where
   few (Store store) = omega arith
 
   -- one group more
-  module _ (groups : List (ℕ × GroupPart)) (i : ℕ) (group : ℕ × GroupPart) (within : i < length groups) (is : group ≡ get_or groups i group) where
-    taken : take (i + 1) groups ≡ take i groups ++ group ∷ []
-    taken = take_more groups i group within ∙ ap (λ x. take i groups ++ x ∷ []) (sym is)
+  module _ (before : List (ℕ × GroupPart)) (group : ℕ × GroupPart) where
+    pub read_more : (counts_of schema condition (before ++ group ∷ [])).0 ≡ (counts_of schema condition before).0 + (part_counts schema condition group.1).0
+    read_more = counted_more not before group ∙ ap (λ n. counted not before + n) (read_adds group)
 
-    pub read_more : (counts_of schema condition (take (i + 1) groups)).0 ≡ (counts_of schema condition (take i groups)).0 + (part_counts schema condition group.1).0
-    read_more = ap (counted not) taken ∙ counted_more not (take i groups) group ∙ ap (λ n. counted not (take i groups) + n) (read_adds group)
-
-    pub skip_more : (counts_of schema condition (take (i + 1) groups)).1 ≡ (counts_of schema condition (take i groups)).1 + (part_counts schema condition group.1).1
-    skip_more = ap (counted (λ t. t)) taken ∙ counted_more (λ t. t) (take i groups) group ∙ ap (λ n. counted (λ t. t) (take i groups) + n) (skip_adds group)
+    pub skip_more : (counts_of schema condition (before ++ group ∷ [])).1 ≡ (counts_of schema condition before).1 + (part_counts schema condition group.1).1
+    skip_more = counted_more (λ t. t) before group ∙ ap (λ n. counted (λ t. t) before + n) (skip_adds group)

@@ -1,5 +1,5 @@
 // How many segments a scan reads, and how many it skips.
-ghost use Rattle.std.specs.Prelude.{◌≡◌};
+ghost use Rattle.std.specs.Prelude.{◌≡◌, ◌≤◌, length};
 ghost use Rattle.std.specs.Option.{option_copied};
 ghost use Rattle.cs_model.specs.Scans as scans;
 ghost use Rattle.row_group.specs.Rows.{column_of};
@@ -8,7 +8,7 @@ ghost use Rattle.batch_scan.specs.Scans as spec;
 use batch_filter::skips;
 use cs_model::Pred;
 use cs_types::Schema;
-use group_view::GroupPart;
+use group_view::{GroupPart, GroupView};
 use row_group::Packed;
 
 /// Whether a predicate skips a packed group; without a predicate none is skipped.
@@ -37,19 +37,23 @@ fn part_counts(schema: &Schema, pred: Option<&Pred>, part: &GroupPart) -> (u64, 
     }
 }
 
-/// How many segments a scan of some groups reads, and how many it skips: it counts one for each packed group, by all cells of that,
-/// those of ended versions too.
+/// How many segments a scan of the groups at the places from `from` up to but without `to` reads, and how many it skips: it counts one
+/// for each packed group, by all cells of that, those of ended versions too.
 pub fn segment_counts(
     schema: &Schema,
     pred: Option<&Pred>,
-    groups: &[(u64, GroupPart)],
+    view: &GroupView,
+    from: usize,
+    to: usize,
 ) -> (u64, u64)
-    ensures { result ≡ spec.counts_of schema.now (option_copied pred.entry) groups.now }
+    requires ordered { from ≤ to }
+    requires within { to ≤ length view.now.groups }
+    ensures { result ≡ spec.counts_of schema.now (option_copied pred.entry) (spec.groups_between view.now from to) }
 {
     let mut read = 0;
     let mut skipped = 0;
-    for group in groups {
-        let more = part_counts(schema, pred, &group.1);
+    for place in from..to {
+        let more = part_counts(schema, pred, &view.groups.at(place).1);
         read += more.0;
         skipped += more.1;
     }

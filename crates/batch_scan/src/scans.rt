@@ -153,7 +153,7 @@ pub fn scan(
     for group in from..to {
         scan_group(alloc, pinned, pred, schema, group, &mut rows)?;
     }
-    let (read, skipped) = segment_counts(schema, pred, &pinned.view.groups.as_slice()[from..to]);
+    let (read, skipped) = segment_counts(schema, pred, &pinned.view, from, to);
     Ok(Scan {
         rows,
         read,

@@ -72,7 +72,7 @@ roomy_shut group_rows rows [] shut = tt
 roomy_shut group_rows rows (group ∷ groups) shut = (roomy-shut group_rows rows group.content shut.0, roomy_shut group_rows rows groups shut.1)
 
 pub room_loaded : (group_rows rows count : ℕ) (old new : GroupList) (pool : List Store) (loads : List NewGroup) → new.groups.items ≡ old.groups.items ++ new_groups old.next loads
-    → vec_len new.groups ≡ vec_len old.groups + count → vec_capacity new.groups ≡ vec_capacity old.groups → new.next ≡ old.next + count
+    → length new.groups.items ≡ length old.groups.items + count → new.groups.room ≡ old.groups.room → new.next ≡ old.next + count
     → HasRoom group_rows rows count old pool → HasRoom group_rows rows 0 new pool
 room_loaded group_rows rows count old new pool loads items len capacity next room =
     let more = new_groups old.next loads in

@@ -125,7 +125,7 @@ held_made old new at s made held items fits claims opened = record {
 
 -- one row less is to come
 pub room-put : (group_rows rows : ℕ) (old new : GroupList) (pool : List Store) (at : ℕ) (s : IsSplit old.groups.items at) (made : Group) → new.groups.items ≡ s.before ++ made ∷ s.after
-    → vec_len new.groups ≡ vec_len old.groups → vec_capacity new.groups ≡ vec_capacity old.groups → new.next ≡ old.next
+    → length new.groups.items ≡ length old.groups.items → new.groups.room ≡ old.groups.room → new.next ≡ old.next
     → IsRoomy group_rows rows made.content → places_in group_rows (content_of made.content) + 1 ≡ places_in group_rows (content_of s.group.content)
     → HasRoom group_rows (suc rows) 0 old pool → HasRoom group_rows rows 0 new pool
 room-put group_rows rows old new pool at s made items len capacity next roomy fewer room =
@@ -143,7 +143,7 @@ room-put group_rows rows old new pool at s made items len capacity next roomy fe
 
 -- where the open store stays, with as much room, all stays as it was
 pub room-kept : (group_rows rows loads : ℕ) (old new : GroupList) (pool : List Store) (at : ℕ) (s : IsSplit old.groups.items at) (made : Group) → new.groups.items ≡ s.before ++ made ∷ s.after
-    → vec_len new.groups ≡ vec_len old.groups → vec_capacity new.groups ≡ vec_capacity old.groups → new.next ≡ old.next
+    → length new.groups.items ≡ length old.groups.items → new.groups.room ≡ old.groups.room → new.next ≡ old.next
     → IsRoomy group_rows rows made.content → places_in group_rows (content_of made.content) ≡ places_in group_rows (content_of s.group.content)
     → HasRoom group_rows rows loads old pool → HasRoom group_rows rows loads new pool
 room-kept group_rows rows loads old new pool at s made items len capacity next roomy same room =
@@ -229,7 +229,7 @@ module _ (old new : GroupList) (store : Store) (shut : All IsShut old.groups.ite
       same_books : put_in group_rows version (book_of new) ≡ with_group (store_of group_rows (version ∷ [])) (book_of old)
       same_books = λ i. record { groups = groups i; buffer = endings_of (buffer i); claims = map claim_of (claims i); next = next i }
 
-  pub room_new : (group_rows rows : ℕ) (pool rest : List Store) → 1 ≤ group_rows → pool ≡ rest ++ store ∷ [] → vec_len new.groups ≡ vec_len old.groups + 1 → vec_capacity new.groups ≡ vec_capacity old.groups → new.next ≡ old.next + 1
+  pub room_new : (group_rows rows : ℕ) (pool rest : List Store) → 1 ≤ group_rows → pool ≡ rest ++ store ∷ [] → length new.groups.items ≡ length old.groups.items + 1 → new.groups.room ≡ old.groups.room → new.next ≡ old.next + 1
       → HasRoom group_rows (suc rows) 0 old pool → HasRoom group_rows (suc rows) 0 new rest
   room_new zero rows pool rest some is len capacity next room = absurd (omega (arith, some))
   room_new (suc g) rows pool rest some is len capacity next room =

@@ -89,12 +89,12 @@ pub record HasRoom (group_rows rows loads : ℕ) (list : GroupList) (pool : List
   pub opened : All (λ (group : Group). IsRoomy group_rows rows group.content) list.groups.items
   pub stores : All (λ (store : Store). (store.versions ≡ []) × (min rows group_rows ≤ store.spare)) pool
   pub enough : stores_opened group_rows (places group_rows (map group_of list.groups.items)) rows ≤ length pool
-  pub groups : vec_len list.groups + loads + stores_opened group_rows (places group_rows (map group_of list.groups.items)) rows ≤ vec_capacity list.groups
+  pub groups : length list.groups.items + loads + stores_opened group_rows (places group_rows (map group_of list.groups.items)) rows ≤ list.groups.room
   pub ids : list.next + loads + stores_opened group_rows (places group_rows (map group_of list.groups.items)) rows < 2 ^ 64
 
 -- where no store is open, one may be opened without memory
 abbrev pub IsReadyToOpen : GroupList → List Store → Option ℕ → Type 0
-IsReadyToOpen list pool None = (0 < length pool) × (vec_len list.groups < vec_capacity list.groups) × (list.next + 1 < 2 ^ 64)
+IsReadyToOpen list pool None = (0 < length pool) × (length list.groups.items < list.groups.room) × (list.next + 1 < 2 ^ 64)
 IsReadyToOpen list pool (Some at) = Unit {0}
 
 -- an open store may end its live versions of these keys

@@ -2,13 +2,11 @@
 use Rattle.std.specs.Prelude.{◌≡◌, ◌==◌, ℕ, List, map, filter, slice_get, All, Option, None, Some, Bool, true, false}
 use Rattle.group_book.specs.Turns.{is_id_of}
 use Rattle.group_view.specs.declared.groups.Group.{Group}
-use Rattle.group_view.specs.declared.groups.GroupContent.{GroupContent}
 use Rattle.group_view.specs.declared.groups.GroupList.{GroupList}
 use Rattle.group_view.specs.declared.parts.GroupPart.{GroupPart}
 use Rattle.group_view.specs.declared.view.GroupView.{GroupView}
-use Rattle.group_view.specs.Parts.{rowed_in, packed_part, packed_parts, IsFitting}
-use Rattle.group_view.specs.Books.{rowed_in_content}
-use Rattle.group_view.specs.Lists.{is_listed, packed_content, IsFittingContent}
+use Rattle.group_view.specs.Parts.{packed_parts, IsFitting}
+use Rattle.group_view.specs.Lists.{IsFittingContent}
 use Rattle.group_view.specs.Seen.{Seen, seen, shows, entry_of, packed_seen, part_entry}
 
 -- the group is one of these sources
@@ -38,6 +36,12 @@ pub record IsSameList (list other : GroupList) : Type 0 where
   pub buffer : other.buffer.entries ≡ list.buffer.entries
   pub claims : other.claims.items ≡ list.claims.items
   pub next : other.next ≡ list.next
+
+-- the parts are what a view shows of the groups that pass the test
+pub record AreSharesOf (test : Seen → Bool) (list : GroupList) (parts : List (ℕ × GroupPart)) : Type 0 where
+  pub groups : map part_entry parts ≡ map entry_of (filter test (map seen list.groups.items))
+  pub packed : packed_parts parts ≡ packed_seen (filter test (map seen list.groups.items))
+  pub fitting : All (λ (part : ℕ × GroupPart). IsFitting part.1) parts
 
 -- the view shows the groups that pass the test, and the whole buffer
 pub record IsViewOf (test : Seen → Bool) (list : GroupList) (least last : ℕ) (view : GroupView) : Type 0 where

@@ -12,7 +12,7 @@ use crate::directory::{Directory, Sizes};
 use cs_base::Memory;
 use cs_types::Schema;
 use delete_buffer::Buffer;
-use group_view::GroupList;
+use group_view::{GroupList, Groups};
 use std::alloc::Global;
 use std::sync::Arc;
 use txn_table::Txns;
@@ -28,7 +28,7 @@ fn no_groups(alloc: Global) -> GroupList
     ensures next { result.next ≡ 1 }
 {
     GroupList {
-        groups: Vec::new(alloc),
+        groups: Groups::from_vec(Vec::new(alloc)),
         opened: None,
         buffer: Buffer::new(alloc),
         claims: Vec::new(alloc),

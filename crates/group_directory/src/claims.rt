@@ -1,7 +1,7 @@
 // Claims: a list keeps one and lends a share of it.
 ghost use Rattle.std.specs.Prelude.{◌≡◌, ◌+◌, ◌<◌, ◌^◌, ◌∷◌, [], map, IfOk, OnErr, None, Some, vec_len, vec_capacity};
 ghost use Rattle.group_view.specs.Lists.{IsHeld};
-ghost use Rattle.group_directory.specs.Claiming.{part_value, valued, IsShareOf};
+ghost use Rattle.group_directory.specs.Claiming.{IsShareOf};
 ghost use Rattle.group_directory.specs.Lending.{Keeps, Lends};
 ghost use Rattle.group_view.specs.Seen.{seen};
 ghost use Rattle.group_directory.specs.Sharing.{AreNamed, IsSameList};
@@ -10,7 +10,7 @@ use crate::share::view_of_sources;
 use cs_base::{Items, Memory};
 use cs_model::Actor;
 use cs_types::{Key, Schema};
-use group_view::{Choice, Claim, Group, GroupContent, GroupList, GroupPart, GroupView};
+use group_view::{Choice, Claim, Group, GroupContent, GroupList, GroupView};
 use std::alloc::Global;
 use std::sync::Arc;
 
@@ -23,42 +23,11 @@ pub(crate) struct Turn {
     pub clock: u64,
 }
 
-/// A share of what a part of a view shares.
-fn share_of_part(part: &GroupPart) -> Result<GroupPart, Memory>
-    ensures { IfOk result (λ shared. part_value shared ≡ part_value part.now) }
-{
-    match part {
-        GroupPart::Packed(packed, marks) => {
-            let packed = Arc::try_clone(packed)?;
-            let marks = Arc::try_clone(marks)?;
-            Ok(GroupPart::Packed(packed, marks))
-        }
-        GroupPart::Store(store) => {
-            let store = Arc::try_clone(store)?;
-            Ok(GroupPart::Store(store))
-        }
-    }
-}
-
-/// Shares of the parts of a view, in order.
-fn shares_of_parts(
-    alloc: Global,
-    parts: &[(u64, GroupPart)],
-) -> Result<Items<(u64, GroupPart)>, Memory>
-    ensures { IfOk result (λ shared. map valued shared ≡ map valued parts.now) }
-{
-    let mut shared = Items::new(alloc);
-    for part in parts {
-        shared.push((part.0, share_of_part(&part.1)?))?;
-    }
-    Ok(shared)
-}
-
 /// Another claim of the same, which shares the groups and the buffer.
 fn share_of(alloc: Global, claim: &Claim) -> Result<Claim, Memory>
     ensures { IfOk result (IsShareOf claim.now) }
 {
-    let groups = shares_of_parts(alloc, claim.view.groups.as_slice())?;
+    let groups = claim.view.groups.share()?;
     let buffer = Arc::try_clone(&claim.view.buffer)?;
     let schema = Arc::try_clone(&claim.schema)?;
     let entries = Vec::from_slice(alloc, claim.entries.as_slice())?;

@@ -70,7 +70,8 @@ pub(crate) fn end_replaced(list: &mut GroupList, replaced: &[Key], mut others: V
     let _entries = list.buffer.as_slice();
     match list.opened {
         Some(at) => {
-            end_in_open(&mut list.groups[at].content, replaced, &mut others, c);
+            let group = list.groups.at_mut(at);
+            end_in_open(&mut group.content, replaced, &mut others, c);
             list.buffer.add_all(&others, c);
         }
         None => list.buffer.add_all(replaced, c),

@@ -44,11 +44,11 @@ pub(crate) fn loads_of(
 pub(crate) fn load_groups(list: &mut GroupList, loads: Vec<(Arc<Packed>, Arc<Marks>)>)
     requires held { IsHeld list.old }
     requires unmarked { All IsUnmarked loads.items }
-    requires room { vec_len list.old.groups + vec_len loads ≤ vec_capacity list.old.groups }
+    requires room { length list.old.groups.items + vec_len loads ≤ list.old.groups.room }
     requires ids { list.old.next + vec_len loads < 2 ^ 64 }
     ensures groups { list.new.groups.items ≡ list.old.groups.items ++ new_groups list.old.next loads.items }
-    ensures len { vec_len list.new.groups ≡ vec_len list.old.groups + vec_len loads }
-    ensures capacity { vec_capacity list.new.groups ≡ vec_capacity list.old.groups }
+    ensures len { length list.new.groups.items ≡ length list.old.groups.items + vec_len loads }
+    ensures room { list.new.groups.room ≡ list.old.groups.room }
     ensures next { list.new.next ≡ list.old.next + vec_len loads }
     ensures opened { list.new.opened ≡ list.old.opened }
     ensures buffer { list.new.buffer ≡ list.old.buffer }

@@ -75,12 +75,12 @@ fn put_version(content: &mut GroupContent, group_rows: u64, key: Key, row: Row, 
 
 /// Opens a store without versions, under the next id. Gives its place.
 fn open_store(list: &mut GroupList, store: Delta) -> usize
-    requires room { vec_len list.old.groups < vec_capacity list.old.groups }
+    requires room { length list.old.groups.items < list.old.groups.room }
     requires id { list.old.next + 1 < 2 ^ 64 }
     ensures groups { list.new.groups.items ≡ list.old.groups.items ++ record { id = list.old.next; content = Opened store } ∷ [] }
-    ensures len { vec_len list.new.groups ≡ vec_len list.old.groups + 1 }
-    ensures capacity { vec_capacity list.new.groups ≡ vec_capacity list.old.groups }
-    ensures place { result ≡ vec_len list.old.groups }
+    ensures len { length list.new.groups.items ≡ length list.old.groups.items + 1 }
+    ensures room { list.new.groups.room ≡ list.old.groups.room }
+    ensures place { result ≡ length list.old.groups.items }
     ensures opened { list.new.opened ≡ Some result }
     ensures buffer { list.new.buffer ≡ list.old.buffer }
     ensures claims { list.new.claims ≡ list.old.claims }
@@ -134,7 +134,8 @@ fn put_row(list: &mut GroupList, at: usize, group_rows: u64, key: Key, row: Row,
     ensures room { (pool : List Store) (rows : ℕ) → HasRoom group_rows (suc rows) 0 list.old pool → HasRoom group_rows rows 0 list.new pool }
     ensures live { (other : Key) → same_key other key ≡ false → has_live other (opened (book_of list.old).groups) ≡ false → has_live other (opened (book_of list.new).groups) ≡ false }
 {
-    if !put_version(&mut list.groups[at].content, group_rows, key, row, begin) {
+    let group = list.groups.at_mut(at);
+    if !put_version(&mut group.content, group_rows, key, row, begin) {
         list.opened = None;
     }
 }

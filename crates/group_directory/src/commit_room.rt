@@ -37,7 +37,7 @@ fn free_places(list: &GroupList, group_rows: u64) -> u64
     ensures { result ≡ places group_rows (map group_of list.now.groups.items) }
 {
     match list.opened {
-        Some(at) => places_in(&list.groups[at].content, group_rows),
+        Some(at) => places_in(&list.groups.as_slice()[at].content, group_rows),
         None => 0,
     }
 }
@@ -116,7 +116,10 @@ fn make_room_in_open(
     ensures ready { OnOk result (All (λ group. IsReadyFor replaced.now group.content) list.new.groups.items) }
 {
     match list.opened {
-        Some(at) => make_room_in(&mut list.groups[at].content, group_rows, rows, replaced),
+        Some(at) => {
+            let group = list.groups.at_mut(at);
+            make_room_in(&mut group.content, group_rows, rows, replaced)
+        }
         None => Ok(()),
     }
 }

@@ -94,8 +94,9 @@ fn lines(alloc: Global, groups: &[Group]) -> Result<Items<GroupLine>, Memory>
 fn add_holders(holders: &mut Items<(u64, Actor)>, held: &(Actor, Claim)) -> Result<(), Memory>
     ensures { OnOk result (holders.new ≡ holders.old ++ holders_of held.now) }
 {
-    for part in held.1.view.groups.as_slice() {
-        holders.push((part.0, held.0))?;
+    let groups = &held.1.view.groups;
+    for place in 0..groups.len() {
+        holders.push((groups.at(place).0, held.0))?;
     }
     Ok(())
 }
@@ -118,7 +119,7 @@ pub(crate) fn ledger(alloc: Global, list: &GroupList) -> Result<Ledger, Memory>
     ensures buffered { IfOk result (λ ledger. ledger.buffered ≡ length (book_of list.now).buffer) }
     ensures holders { IfOk result (λ ledger. ledger.holders ≡ flat_map holders_of list.now.claims.items) }
 {
-    let lines = lines(alloc, &list.groups)?;
+    let lines = lines(alloc, list.groups.as_slice())?;
     let holders = holders(alloc, &list.claims)?;
     Ok(Ledger {
         lines,

@@ -10,7 +10,7 @@ ghost use Rattle.group_directory.specs.Events.{MakesHidden};
 
 use crate::lists::{claim_place, drop_claims, drop_fresh, open_place};
 use cs_model::Actor;
-use group_view::{ClosedStore, Group, GroupContent, GroupList};
+use group_view::{ClosedStore, Group, GroupContent, GroupList, Groups};
 use std::mem;
 
 /// Gives the actor's claim back: the group that it was to make is gone, and nothing else changes. Without a claim nothing
@@ -28,8 +28,10 @@ pub(crate) fn release(list: &mut GroupList, actor: Actor)
         return;
     };
     let fresh = list.claims[place].1.fresh;
-    drop_fresh(&mut list.groups, fresh);
-    list.opened = open_place(&list.groups);
+    let mut groups = list.groups.take();
+    drop_fresh(&mut groups, fresh);
+    list.opened = open_place(&groups);
+    list.groups = Groups::from_vec(groups);
     drop_claims(&mut list.claims, actor);
 }
 
@@ -60,10 +62,13 @@ pub(crate) fn clear(list: &mut GroupList) -> u64
     ensures listed { listed list.new.groups.items ≡ listed list.old.groups.items }
     ensures packed { packed_in list.new.groups.items ≡ packed_in list.old.groups.items }
 {
-    let before = list.groups.len();
-    drop_tombstones(&mut list.groups);
-    list.opened = open_place(&list.groups);
-    (before - list.groups.len()) as u64
+    let mut groups = list.groups.take();
+    let before = groups.len();
+    drop_tombstones(&mut groups);
+    let dropped = before - groups.len();
+    list.opened = open_place(&groups);
+    list.groups = Groups::from_vec(groups);
+    dropped as u64
 }
 
 /// Closes a group that is OPEN; any other stays.
@@ -99,6 +104,7 @@ pub(crate) fn close(list: &mut GroupList) -> Option<u64>
         None => return None,
     };
     list.opened = None;
-    close_group(&mut list.groups[place]);
-    Some(list.groups[place].id)
+    let group = list.groups.at_mut(place);
+    close_group(group);
+    Some(group.id)
 }

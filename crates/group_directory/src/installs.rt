@@ -1,6 +1,5 @@
 // The installs of what a claim's work gave. They take no memory.
-ghost use Rattle.std.specs.Prelude.{◌≡◌, ◌==◌, ◌∷◌, ℕ, List, map, filter, not, position, reverse, All, Option, IfSome, IsSome};
-ghost use Rattle.std.specs.List.{list_any};
+ghost use Rattle.std.specs.Prelude.{◌≡◌, ◌∷◌, ℕ, List, map, filter, not, position, reverse, All, Option, IfSome, IsSome};
 ghost use Rattle.std.specs.Option.{option_map};
 ghost use Rattle.cs_types.specs.declared.Schema.{Schema};
 ghost use Rattle.cs_model.specs.declared.work.Actor.{Actor};
@@ -26,7 +25,7 @@ use cs_base::Items;
 use cs_model::Actor;
 use cs_types::Key;
 use delete_bitmap::Marks;
-use group_view::{Claim, Group, GroupContent, GroupList, GroupPart, Product};
+use group_view::{Claim, Group, GroupContent, GroupList, GroupView, Groups, Product};
 use row_group::Packed;
 use std::sync::Arc;
 
@@ -43,26 +42,12 @@ fn take_claim(claims: &mut Vec<(Actor, Claim)>, actor: Actor) -> Option<(Actor, 
     Some(held)
 }
 
-/// Whether a part of a view is of the group of this id.
-fn is_part_of(part: &(u64, GroupPart), id: u64) -> bool
-    ensures { result ≡ (part.now.0 == id) }
-{
-    part.0 == id
-}
-
-/// Whether one of the parts is of the group of this id.
-fn is_source(sources: &[(u64, GroupPart)], id: u64) -> bool
-    ensures { result ≡ list_any (λ part. part.0 == id) sources.now }
-{
-    sources.iter().any(|part| is_part_of(part, id))
-}
-
-/// Makes a tombstone of a group, with its counts, if one of the parts is of it.
-fn bury_source(group: &mut Group, sources: &[(u64, GroupPart)])
+/// Makes a tombstone of a group, with its counts, if the view shows it.
+fn bury_source(group: &mut Group, sources: &GroupView)
     requires { IsFittingContent group.old.content }
-    ensures { group.new ≡ buried (ids_of sources.now) group.old }
+    ensures { group.new ≡ buried (ids_of sources.now.groups) group.old }
 {
-    if is_source(sources, group.id) {
+    if sources.has(group.id) {
         group.content = GroupContent::Tombstone {
             total: total(&group.content),
             deleted: deleted(&group.content),
@@ -70,10 +55,10 @@ fn bury_source(group: &mut Group, sources: &[(u64, GroupPart)])
     }
 }
 
-/// Makes tombstones of the groups of these parts, with their counts. A claim that makes a group has one or two of them.
-fn bury_sources(groups: &mut [Group], sources: &[(u64, GroupPart)])
+/// Makes tombstones of the groups that the view shows, with their counts. A claim that makes a group has one or two of them.
+fn bury_sources(groups: &mut [Group], sources: &GroupView)
     requires { All (λ group. IsFittingContent group.content) groups.old }
-    ensures { groups.new ≡ map (buried (ids_of sources.now)) groups.old }
+    ensures { groups.new ≡ map (buried (ids_of sources.now.groups)) groups.old }
 {
     for group in groups.iter_mut() {
         bury_source(group, sources);
@@ -127,9 +112,11 @@ pub(crate) fn install_group(
     };
     // Its contract says that the entries are in order.
     let _entries = claim.view.buffer().as_slice();
-    bury_sources(&mut list.groups, claim.view.groups.as_slice());
-    put_group(&mut list.groups, claim.fresh, group);
-    list.opened = open_place(&list.groups);
+    let mut groups = list.groups.take();
+    bury_sources(&mut groups, &claim.view);
+    put_group(&mut groups, claim.fresh, group);
+    list.opened = open_place(&groups);
+    list.groups = Groups::from_vec(groups);
     list.buffer.remove_all(spent);
 }
 
@@ -190,7 +177,9 @@ pub(crate) fn install_marks(list: &mut GroupList, actor: Actor, marks: Items<(u6
     };
     // Its contract says that the entries are in order.
     let _entries = claim.view.buffer().as_slice();
-    mark_sources(&mut list.groups, marks.into_vec());
+    let mut groups = list.groups.take();
+    mark_sources(&mut groups, marks.into_vec());
+    list.groups = Groups::from_vec(groups);
     list.buffer.remove_all(claim.entries.as_slice());
 }
 

@@ -40,7 +40,7 @@ pub(crate) fn rows(list: &GroupList) -> u128
     requires { IsHeld list.now }
     ensures { result ≡ total_sum (book_of list.now).groups - deleted_sum (book_of list.now).groups - length (book_of list.now).buffer }
 {
-    let (all, ended) = sums(&list.groups);
+    let (all, ended) = sums(list.groups.as_slice());
     all.saturating_sub(ended)
         .saturating_sub(list.buffer.len() as u128)
 }

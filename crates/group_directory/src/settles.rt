@@ -12,7 +12,7 @@ ghost use Rattle.group_directory.specs.Settling.{marked, settling_in, with_marks
 use cs_base::Memory;
 use cs_model::Actor;
 use delete_bitmap::Marks;
-use group_view::{Claim, Group, GroupContent, GroupList, is_claimed, settles};
+use group_view::{Claim, Group, GroupContent, GroupList, Groups, is_claimed, settles};
 use std::alloc::Global;
 use std::sync::Arc;
 
@@ -73,7 +73,7 @@ fn settling_of(alloc: Global, list: &GroupList, floor: u64) -> Result<Settling, 
 {
     let mut marks = Vec::with_capacity(alloc, list.groups.len())?;
     let mut number = 0;
-    for group in &list.groups {
+    for group in list.groups.as_slice() {
         let made = new_marks(alloc, group, &list.claims, floor)?;
         let sum = added(number, made.1)?;
         marks.push(made.0)?;
@@ -118,6 +118,8 @@ pub(crate) fn settle(alloc: Global, list: &mut GroupList, floor: u64) -> Result<
     ensures packed { packed_in list.new.groups.items ≡ packed_in list.old.groups.items }
 {
     let settling = settling_of(alloc, list, floor)?;
-    put_each(&mut list.groups, settling.marks);
+    let mut groups = list.groups.take();
+    put_each(&mut groups, settling.marks);
+    list.groups = Groups::from_vec(groups);
     Ok(settling.number)
 }

@@ -12,6 +12,7 @@ use cs_model::{GroupLine, Reply, SegmentLine};
 use cs_types::Schema;
 use group_view::{GroupPart, GroupView};
 use row_group::Packed;
+use shared_list::SharedList;
 use std::alloc::Global;
 
 /// The report on row groups: these lines, by id, and the number of entries of the delete buffer. It takes no memory.
@@ -79,14 +80,15 @@ fn part_lines(
 fn all_lines(
     alloc: Global,
     schema: &Schema,
-    groups: &[(u64, GroupPart)],
+    groups: &SharedList<(u64, GroupPart)>,
 ) -> Result<Items<SegmentLine>, Memory>
     requires schema { IsSchema schema.now }
     requires packed { ArePackedParts schema.now groups.now }
     ensures { IfOk result (AreSegmentLines schema.now (compressed groups.now)) }
 {
     let mut lines = Items::new(alloc);
-    for group in groups {
+    for place in 0..groups.len() {
+        let group = groups.at(place);
         lines.append(part_lines(alloc, schema, group.0, &group.1)?)?;
     }
     Ok(lines)
@@ -102,7 +104,7 @@ pub fn segment_lines(alloc: Global, schema: &Schema, view: &GroupView) -> Result
     // Where the columns hold the rows it can be printed.
     ensures printable { AreHeld schema.now (compressed view.now.groups) → IfOk result (IsPrintableReply schema.now) }
 {
-    let lines = all_lines(alloc, schema, view.groups.as_slice())?;
+    let lines = all_lines(alloc, schema, &view.groups)?;
     Ok(Reply::Segments(lines))
 }
 

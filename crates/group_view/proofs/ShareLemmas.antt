@@ -86,7 +86,7 @@ module _ {X : Type 0} where
       ])
 
   -- one item further
-  window_more : (xs : List X) (from i : ℕ) (d : X) → from ≤ i → i < length xs → drop from (take (i + 1) xs) ≡ drop from (take i xs) ++ get_or xs i d ∷ []
+  pub window_more : (xs : List X) (from i : ℕ) (d : X) → from ≤ i → i < length xs → drop from (take (i + 1) xs) ≡ drop from (take i xs) ++ get_or xs i d ∷ []
   window_more xs from i d below inside =
       ap (drop from) (take_more xs i d inside)
       ∙ drop-append-le from (take i xs) (get_or xs i d ∷ []) (omega (arith, length-take i xs, below, inside))

@@ -1,5 +1,5 @@
 // The groups of a list, and what views share of them.
-ghost use Rattle.std.specs.Prelude.{◌≡◌, ◌+◌, ◌*◌, ◌<◌, ◌≤◌, ◌++◌, ◌∷◌, [], List, map, length, slice_get, take, drop, All, IfOk, OnOk, OnErr, vec_len, vec_capacity};
+ghost use Rattle.std.specs.Prelude.{◌≡◌, ◌+◌, ◌*◌, ◌<◌, ◌≤◌, ◌++◌, ◌∷◌, [], List, map, length, slice_index_or, take, drop, All, IfOk, OnOk, OnErr, vec_len, vec_capacity};
 ghost use Rattle.group_view.specs.Contents.{IsFittingContent};
 ghost use Rattle.group_view.specs.Seen.{seen, Seen};
 ghost use Rattle.group_view.specs.Shares.{chunk_in, parts_of, AreShared, HaveLower, HaveOthers, IsShareOf};
@@ -184,7 +184,7 @@ impl Groups {
     pub fn at_mut(&mut self, place: usize) -> &mut Group
         requires { place < length self.old.items }
         ensures* writes_back { sem 𝓛 (LendsGroup self.entry place result) }
-        ensures value { slice_get self.old.items place ≡ Some result.now }
+        ensures value { result.now ≡ slice_index_or self.old.items place result.now }
     {
         forget(&mut self.shares, place / CHUNK);
         &mut self.items[place]

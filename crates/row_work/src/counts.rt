@@ -12,5 +12,6 @@ use group_view::Pinned;
 pub fn segment_counts(schema: &Schema, condition: &Option<Pred>, pinned: &Pinned) -> (u64, u64)
     ensures { result ≡ counts_in schema.now pinned.now.view condition.now }
 {
-    batch_scan::segment_counts(schema, condition.as_ref(), pinned.view.groups.as_slice())
+    let view = &pinned.view;
+    batch_scan::segment_counts(schema, condition.as_ref(), view, 0, view.len())
 }

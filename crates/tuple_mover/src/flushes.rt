@@ -142,7 +142,8 @@ pub fn locate(alloc: Global, claim: &Claim) -> Result<Product, Memory>
     ensures { IfOk result (IsProductOf claim.now) }
 {
     let mut marked = Vec::new(alloc);
-    for source in claim.view.groups.as_slice() {
+    for place in 0..claim.view.groups.len() {
+        let source = claim.view.groups.at(place);
         marked.push(marked_source(alloc, source, claim)?)?;
     }
     Ok(Product::Marked(Items::from_vec(marked)))

@@ -163,7 +163,8 @@ pub(crate) fn kept_rows(alloc: Global, claim: &Claim) -> Result<Kept, Memory>
         packer: Packer::new(alloc, claim.schema.columns.len())?,
         ends: Vec::new(alloc),
     };
-    for part in claim.view.groups.as_slice() {
+    for place in 0..claim.view.groups.len() {
+        let part = claim.view.groups.at(place);
         keep_part(&mut kept, &part.1, &claim.view.buffer, claim.floor)?;
     }
     Ok(kept)

@@ -77,7 +77,8 @@ pub(crate) fn spent(alloc: Global, claim: &Claim) -> Result<Vec<(Key, u64)>, Mem
         return Ok(Vec::new(alloc));
     }
     let mut spent = vec![in alloc; false; entries.len()]?;
-    for part in claim.view.groups.as_slice() {
+    for place in 0..claim.view.groups.len() {
+        let part = claim.view.groups.at(place);
         spend_part(&mut spent, &part.1, buffer, claim.floor);
     }
     marked(alloc, entries, &spent)

@@ -1,6 +1,6 @@
-use Rattle.std.proofs.Common.{◌≡◌, ◌+◌, ◌≤◌, ℕ, take}
+use Rattle.std.proofs.Common.{◌≡◌, ◌+◌, ◌≤◌, ℕ}
 use Rattle.std.specs.Option.{option_copied}
-use Rattle.batch_scan.specs.Scans.{counts_of}
+use Rattle.batch_scan.specs.Scans.{counts_of, groups_between}
 use Rattle.batch_scan.proofs.counts.segment_counts.Given as goal
 
 -- the groups so far are counted, each once at most
@@ -9,5 +9,5 @@ pub record CountedTo (read skipped to : ℕ) (counts : ℕ × ℕ) : Type 0 wher
   pub skipped_so_far : skipped ≡ counts.1
   pub few : read + skipped ≤ to
 
-abbrev pub invariant-loop-group : goal.invariant-loop-group
-invariant-loop-group l = CountedTo l.read l.skipped l.group-index (counts_of l.schema (option_copied l.pred) (take l.group-index l.groups))
+abbrev pub invariant-loop-place : goal.invariant-loop-place
+invariant-loop-place l = CountedTo l.read l.skipped l.place (counts_of l.schema (option_copied l.pred) (groups_between l.view l.from l.place))

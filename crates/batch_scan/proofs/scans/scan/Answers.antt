@@ -22,13 +22,3 @@ loop-group-preserved c =
     let more = between_more pinned.view c.args.from n (omega (arith, c.loop-group.auto.group)) (omega (arith, c.loop-group-test.true, c.requires.within)) in
     kept_behind schema condition (filter_map f front) (filter_map f next) [] c.loop-group.rows.items c.scan_group.new.rows.items c.loop-group.invariant c.in_ok-scan_group.ensures
     ∙ ap (kept_rows schema condition) (sym (filter_map-append f front next) ∙ ap (filter_map f) (sym more))
-
-pub returns-clause-counts : goal.returns-clause-counts
-returns-clause-counts c =
-    let groups = c.args.pinned.now.view.groups in
-    let from = c.args.from in
-    let to = c.args.to in
-    let whole : from + (to - from) ≡ to = omega (arith, c.requires.ordered) in
-    c.segment_counts-read.ensures
-    ∙ ap (λ (given : List (ℕ × GroupPart)). counts_of c.args.schema.now (option_copied c.args.pred) (take (to - from) (drop from given))) c.as_slice.ensures
-    ∙ ap (counts_of c.args.schema.now (option_copied c.args.pred)) (sym (drop-take from (to - from) groups) ∙ ap (λ n. drop from (take n groups)) whole)

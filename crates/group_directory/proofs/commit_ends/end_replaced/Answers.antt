@@ -16,35 +16,35 @@ use Rattle.group_directory.proofs.commit_ends.end_replaced.Goals as goal
 
 pub add_all-requires-clause-room : goal.add_all-requires-clause-room
 add_all-requires-clause-room c =
-    let keys : c.deref.result.now ≡ not_live (versions_of (rowed_in_content c.index_mut.result.now.content)) c.args.replaced.now = c.deref.ensures.value ∙ c.end_in_open.ensures.others in
-    omega (arith, ap (λ (ks : List Key). length ks) keys, few_others (versions_of (rowed_in_content c.index_mut.result.now.content)) c.args.replaced.now, c.requires.buffer)
+    let keys : c.deref.result.now ≡ not_live (versions_of (rowed_in_content c.at_mut-group.result.now.content)) c.args.replaced.now = c.deref.ensures.value ∙ c.end_in_open.ensures.others in
+    omega (arith, ap (λ (ks : List Key). length ks) keys, few_others (versions_of (rowed_in_content c.at_mut-group.result.now.content)) c.args.replaced.now, c.requires.buffer)
 
 pub add_all-requires-clause-ascending : goal.add_all-requires-clause-ascending
 add_all-requires-clause-ascending c =
-    let keys : c.deref.result.now ≡ not_live (versions_of (rowed_in_content c.index_mut.result.now.content)) c.args.replaced.now = c.deref.ensures.value ∙ c.end_in_open.ensures.others in
+    let keys : c.deref.result.now ≡ not_live (versions_of (rowed_in_content c.at_mut-group.result.now.content)) c.args.replaced.now = c.deref.ensures.value ∙ c.end_in_open.ensures.others in
     subst (λ (ks : List Key). Ascend ks) (sym keys)
-    (AllPairs-filter (λ a b. key_cmp a b ≡ Less) (λ key. not (has_live key (versions_of (rowed_in_content c.index_mut.result.now.content)))) c.args.replaced.now c.requires.ascending)
+    (AllPairs-filter (λ a b. key_cmp a b ≡ Less) (λ key. not (has_live key (versions_of (rowed_in_content c.at_mut-group.result.now.content)))) c.args.replaced.now c.requires.ascending)
 
 pub returns-in-Some-clause-book : goal.returns-in-Some-clause-book
 returns-in-Some-clause-book c =
-    book_ended c.args.list.now c.in-Some.at c.index_mut.result.now c.end_in_open.new.content c.args.list.now.opened c.add_all.new.self c.requires.held c.in-Some.is c.index_mut.ensures.value
+    book_ended c.args.list.now c.in-Some.at c.at_mut-group.result.now c.end_in_open.new.content c.args.list.now.opened c.add_all.new.self c.requires.held c.in-Some.is c.at_mut-group.ensures.value
     c.args.replaced.now c.deref.result.now c.args.c c.end_in_open.ensures.content
     c.as_slice-entries.ensures.order c.add_all.ensures.order (subst (λ (ks : List Key). Ascend ks) (sym (c.deref.ensures.value ∙ c.end_in_open.ensures.others))
-    (AllPairs-filter (λ a b. key_cmp a b ≡ Less) (λ key. not (has_live key (versions_of (rowed_in_content c.index_mut.result.now.content)))) c.args.replaced.now c.requires.ascending)) c.requires.later c.add_all.ensures.entries (c.deref.ensures.value ∙ c.end_in_open.ensures.others)
+    (AllPairs-filter (λ a b. key_cmp a b ≡ Less) (λ key. not (has_live key (versions_of (rowed_in_content c.at_mut-group.result.now.content)))) c.args.replaced.now c.requires.ascending)) c.requires.later c.add_all.ensures.entries (c.deref.ensures.value ∙ c.end_in_open.ensures.others)
 
 pub returns-in-Some-clause-held : goal.returns-in-Some-clause-held
 returns-in-Some-clause-held c =
-    held_open c.args.list.now c.in-Some.at c.index_mut.result.now c.end_in_open.new.content c.args.list.now.opened c.add_all.new.self c.requires.held c.in-Some.is c.index_mut.ensures.value c.end_in_open.ensures.state c.in-Some.is
+    held_open c.args.list.now c.in-Some.at c.at_mut-group.result.now c.end_in_open.new.content c.args.list.now.opened c.add_all.new.self c.requires.held c.in-Some.is c.at_mut-group.ensures.value c.end_in_open.ensures.state c.in-Some.is
 
 pub returns-in-Some-clause-origins : goal.returns-in-Some-clause-origins
 returns-in-Some-clause-origins c =
-    same_origins c.args.list.now c.in-Some.at c.index_mut.result.now c.end_in_open.new.content c.args.list.now.opened c.add_all.new.self c.requires.held c.in-Some.is c.index_mut.ensures.value c.end_in_open.ensures.origins
+    same_origins c.args.list.now c.in-Some.at c.at_mut-group.result.now c.end_in_open.new.content c.args.list.now.opened c.add_all.new.self c.requires.held c.in-Some.is c.at_mut-group.ensures.value c.end_in_open.ensures.origins
 
 pub returns-in-Some-clause-room : goal.returns-in-Some-clause-room
 returns-in-Some-clause-room c = λ group_rows rows loads pool room.
-    let roomy = all_here c.args.list.now c.in-Some.at c.index_mut.result.now c.requires.held c.in-Some.is c.index_mut.ensures.value (λ (group : Group). IsRoomy group_rows rows group.content) room.opened in
-    let places = ap (places_in group_rows) c.end_in_open.ensures.content ∙ places_ended group_rows (map (ended_by c.args.replaced.now c.args.c)) (content_of c.index_mut.result.now.content) (λ versions. length-map versions (ended_by c.args.replaced.now c.args.c)) in
-    same_room c.args.list.now c.in-Some.at c.index_mut.result.now c.end_in_open.new.content c.args.list.now.opened c.add_all.new.self c.requires.held c.in-Some.is c.index_mut.ensures.value
+    let roomy = all_here c.args.list.now c.in-Some.at c.at_mut-group.result.now c.requires.held c.in-Some.is c.at_mut-group.ensures.value (λ (group : Group). IsRoomy group_rows rows group.content) room.opened in
+    let places = ap (places_in group_rows) c.end_in_open.ensures.content ∙ places_ended group_rows (map (ended_by c.args.replaced.now c.args.c)) (content_of c.at_mut-group.result.now.content) (λ versions. length-map versions (ended_by c.args.replaced.now c.args.c)) in
+    same_room c.args.list.now c.in-Some.at c.at_mut-group.result.now c.end_in_open.new.content c.args.list.now.opened c.add_all.new.self c.requires.held c.in-Some.is c.at_mut-group.ensures.value
     group_rows rows loads pool (c.end_in_open.ensures.room group_rows rows roomy) places room
 
 pub returns-clause-book : goal.returns-clause-book
@@ -54,5 +54,5 @@ returns-clause-book c =
 
 pub returns-in-Some-clause-packed : goal.returns-in-Some-clause-packed
 returns-in-Some-clause-packed c =
-    same_packed c.args.list.now c.in-Some.at c.index_mut.result.now c.end_in_open.new.content c.args.list.now.opened c.add_all.new.self c.requires.held c.in-Some.is c.index_mut.ensures.value
+    same_packed c.args.list.now c.in-Some.at c.at_mut-group.result.now c.end_in_open.new.content c.args.list.now.opened c.add_all.new.self c.requires.held c.in-Some.is c.at_mut-group.ensures.value
     (open_kind_is c.end_in_open.new.content c.end_in_open.ensures.state)

@@ -7,8 +7,8 @@ use Rattle.group_directory.proofs.commit_loads.load_groups.Given as goal
 abbrev pub invariant-loop-packed : goal.invariant-loop-packed
 invariant-loop-packed l = record {
   groups : l.list.groups.items ++ new_groups l.list.next (into_iter_items l.packed-iterator) ≡ l.fn.list.groups.items ++ new_groups l.fn.list.next l.fn.loads.items;
-  len : vec_len l.list.groups + length (into_iter_items l.packed-iterator) ≡ vec_len l.fn.list.groups + vec_len l.fn.loads;
-  capacity : vec_capacity l.list.groups ≡ vec_capacity l.fn.list.groups;
+  len : length l.list.groups.items + length (into_iter_items l.packed-iterator) ≡ length l.fn.list.groups.items + vec_len l.fn.loads;
+  capacity : l.list.groups.room ≡ l.fn.list.groups.room;
   next : l.list.next + length (into_iter_items l.packed-iterator) ≡ l.fn.list.next + vec_len l.fn.loads;
   opened : l.list.opened ≡ l.fn.list.opened;
   buffer : l.list.buffer ≡ l.fn.list.buffer;

@@ -16,8 +16,8 @@ returns-in-None-clause-book c = book_is (book_of c.args.list.now) (after_close (
 pub returns-in-None-clause-closed : goal.returns-in-None-clause-closed
 returns-in-None-clause-closed c = sym (none_lowest c.args.list.now.groups.items (subst (IsOpenAt c.args.list.now.groups.items) c.in-None.is c.requires.held.opened))
 
-pub index_mut-requires : goal.index_mut-requires
-index_mut-requires c = let within = open_within c.args.list.now.groups.items c.in-Some.place (subst (IsOpenAt c.args.list.now.groups.items) c.in-Some.is c.requires.held.opened) in omega (arith, within, c.args.list.now.groups.ok.0)
+pub at_mut-group-requires : goal.at_mut-group-requires
+at_mut-group-requires c = let within = open_within c.args.list.now.groups.items c.in-Some.place (subst (IsOpenAt c.args.list.now.groups.items) c.in-Some.is c.requires.held.opened) in omega (arith, within, c.args.list.now.groups.ok.0)
 
 pub index-requires : goal.index-requires
 index-requires c = let within = open_within c.args.list.now.groups.items c.in-Some.place (subst (IsOpenAt c.args.list.now.groups.items) c.in-Some.is c.requires.held.opened) in omega (arith, within, c.args.list.now.groups.ok.0)
@@ -25,28 +25,28 @@ index-requires c = let within = open_within c.args.list.now.groups.items c.in-So
 pub returns-clause-book : goal.returns-clause-book
 returns-clause-book c =
     let here = subst (IsOpenAt c.args.list.now.groups.items) c.in-Some.is c.requires.held.opened in
-    book_is _ (after_close (book_of c.args.list.now)) (closed_book c.args.list.now.groups.items c.in-Some.place c.index_mut.result.now c.close_group.new.group here c.index_mut.ensures.value c.close_group.ensures.id c.close_group.ensures.content) refl refl refl
+    book_is _ (after_close (book_of c.args.list.now)) (closed_book c.args.list.now.groups.items c.in-Some.place c.at_mut-group.result.now c.close_group.new.group here c.at_mut-group.ensures.value c.close_group.ensures.id c.close_group.ensures.content) refl refl refl
 
 pub returns-clause-closed : goal.returns-clause-closed
 returns-clause-closed c =
     let here = subst (IsOpenAt c.args.list.now.groups.items) c.in-Some.is c.requires.held.opened in
     ap (λ (g : Group). Some g.id) (c.index.ensures ∙ get_or-set_same c.args.list.now.groups.items c.in-Some.place c.close_group.new.group c.index.result.now (open_within c.args.list.now.groups.items c.in-Some.place here))
     ∙ ap Some c.close_group.ensures.id
-    ∙ sym (closed_lowest c.args.list.now.groups.items c.in-Some.place c.index_mut.result.now here c.index_mut.ensures.value)
+    ∙ sym (closed_lowest c.args.list.now.groups.items c.in-Some.place c.at_mut-group.result.now here c.at_mut-group.ensures.value)
 
 pub returns-clause-held : goal.returns-clause-held
 returns-clause-held c =
     let here = subst (IsOpenAt c.args.list.now.groups.items) c.in-Some.is c.requires.held.opened in
     record {
-      fitting = All-set Fits c.args.list.now.groups.items c.in-Some.place c.close_group.new.group (c.close_group.ensures.fitting (subst Fits (sym c.index_mut.ensures.value) (c.requires.held.fitting c.in-Some.place c.index_mut.result.now (open_within c.args.list.now.groups.items c.in-Some.place here)))) c.requires.held.fitting;
+      fitting = All-set Fits c.args.list.now.groups.items c.in-Some.place c.close_group.new.group (c.close_group.ensures.fitting (subst Fits (sym c.at_mut-group.ensures.value) (c.requires.held.fitting c.in-Some.place c.at_mut-group.result.now (open_within c.args.list.now.groups.items c.in-Some.place here)))) c.requires.held.fitting;
       opened = closed_open c.args.list.now.groups.items c.in-Some.place c.close_group.new.group here c.close_group.ensures.not_open;
       lent = c.requires.held.lent;
     }
 
 pub returns-clause-listed : goal.returns-clause-listed
-returns-clause-listed c = listed-set c.args.list.now.groups.items c.in-Some.place c.index_mut.result.now c.close_group.new.group c.index_mut.ensures.value c.close_group.ensures.id c.close_group.ensures.shown c.close_group.ensures.rows
+returns-clause-listed c = listed-set c.args.list.now.groups.items c.in-Some.place c.at_mut-group.result.now c.close_group.new.group c.at_mut-group.ensures.value c.close_group.ensures.id c.close_group.ensures.shown c.close_group.ensures.rows
 
 pub returns-clause-packed : goal.returns-clause-packed
 returns-clause-packed c =
     let here = subst (IsOpenAt c.args.list.now.groups.items) c.in-Some.is c.requires.held.opened in
-    closed_packed c.args.list.now.groups.items c.in-Some.place c.index_mut.result.now c.close_group.new.group here c.index_mut.ensures.value c.close_group.ensures.content
+    closed_packed c.args.list.now.groups.items c.in-Some.place c.at_mut-group.result.now c.close_group.new.group here c.at_mut-group.ensures.value c.close_group.ensures.content

@@ -9,7 +9,7 @@ abbrev pub invariant-loop-group : goal.invariant-loop-group
 invariant-loop-group l = record {
   alike : map seen l.groups ≡ map seen l.initial.groups;
   kept : All (λ group. IsFittingContent group.content) l.groups;
-  parts : map part_entry l.parts ≡ map entry_of (filter (picks l.sources) (take l.group-index (map seen l.initial.groups)));
-  packed : packed_parts l.parts ≡ packed_seen (filter (picks l.sources) (take l.group-index (map seen l.initial.groups)));
-  fitting : All (λ part. IsFitting part.1) l.parts;
+  parts : map part_entry l.parts.items ≡ map entry_of (filter (picks l.sources) (take l.group-index (map seen l.initial.groups)));
+  packed : packed_parts l.parts.items ≡ packed_seen (filter (picks l.sources) (take l.group-index (map seen l.initial.groups)));
+  fitting : All (λ part. IsFitting part.1) l.parts.items;
 }

@@ -3,5 +3,5 @@ use Rattle.group_log.specs.Segments.{AreSegmentLines}
 use Rattle.group_reports.specs.Segments.{compressed}
 use Rattle.group_reports.proofs.segments.all_lines.Given as goal
 
-abbrev pub invariant-loop-group : goal.invariant-loop-group
-invariant-loop-group l = AreSegmentLines l.schema (compressed (take l.group-index l.groups)) l.lines
+abbrev pub invariant-loop-place : goal.invariant-loop-place
+invariant-loop-place l = AreSegmentLines l.schema (compressed (take l.place l.groups)) l.lines

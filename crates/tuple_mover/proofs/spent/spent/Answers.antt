@@ -14,24 +14,24 @@ use Rattle.tuple_mover.specs.Spent.{is_spent, spent_by}
 use Rattle.tuple_mover.proofs.SpentLemmas.{none-spent, spent-filter, versions-groups, versions-all}
 use Rattle.tuple_mover.proofs.spent.spent.Goals as goal
 
-pub loop-part-init : goal.loop-part-init
-loop-part-init c =
+pub loop-place-init : goal.loop-place-init
+loop-place-init c =
     let claim = c.args.claim.now in
     c.in_ok-spent.ensures.items_if_clones_equal (λ y same. same)
     ∙ ap (λ (entries : List Entry). replicate (length entries) false) (c.as_slice-entries.ensures.value ∙ c.deref.ensures)
     ∙ none-spent claim.floor (buffer_of claim.view) claim.view.buffer.value
 
-pub loop-part-preserved : goal.loop-part-preserved
-loop-part-preserved c =
+pub loop-place-preserved : goal.loop-place-preserved
+loop-place-preserved c =
     let claim = c.args.claim.now in
     let groups = claim.view.groups in
-    let i = c.loop-part.part-index in
-    let there : i < length groups = omega (arith, ap length c.as_slice-part-items.ensures) in
-    let item : ℕ × GroupPart = c.part-item.result in
+    let i = c.loop-place.place in
+    let there : i < length groups = omega (arith, c.loop-place-test.true, c.len-place-end.ensures) in
+    let item : ℕ × GroupPart = c.at-part.result.now in
     let before = flat_map (λ (group : ℕ × GroupPart). versions_in group.1) (take i groups) in
-    let step = subst (λ (entries : List Entry). (versions : List Version) → c.loop-part.spent.items ≡ spent_by claim.floor (endings_of entries) versions → c.spend_part.new.spent.items ≡ spent_by claim.floor (endings_of entries) (versions ++ versions_in item.1)) c.deref-in-loop-part.ensures c.spend_part.ensures in
-    step before c.loop-part.invariant
-    ∙ ap (spent_by claim.floor (buffer_of claim.view)) (ap (λ (group : ℕ × GroupPart). before ++ versions_in group.1) (c.part-item.is ∙ ap (λ (all : List (ℕ × GroupPart)). get_or all i item) c.as_slice-part-items.ensures) ∙ versions-groups groups i item there)
+    let step = subst (λ (entries : List Entry). (versions : List Version) → c.loop-place.spent.items ≡ spent_by claim.floor (endings_of entries) versions → c.spend_part.new.spent.items ≡ spent_by claim.floor (endings_of entries) (versions ++ versions_in item.1)) c.deref-in-loop-place.ensures c.spend_part.ensures in
+    step before c.loop-place.invariant
+    ∙ ap (spent_by claim.floor (buffer_of claim.view)) (ap (λ (group : ℕ × GroupPart). before ++ versions_in group.1) c.at-part.ensures.item ∙ versions-groups groups i item there)
 
 pub returns : goal.returns
 returns c =
@@ -39,11 +39,11 @@ returns c =
     let groups = claim.view.groups in
     let buffer = buffer_of claim.view in
     let versions = versions_of (rowed_of claim.view) in
-    let all : length groups ≤ c.loop-part.part-index = omega (arith, ap length c.as_slice-part-items.ensures) in
+    let all : length groups ≤ c.loop-place.place = omega (arith, c.loop-place-test.false, c.len-place-end.ensures) in
     let entries : c.as_slice-entries.result.now ≡ claim.view.buffer.value = c.as_slice-entries.ensures.value ∙ c.deref.ensures in
     let marks : c.deref-2.result.now ≡ map (is_spent claim.floor buffer versions) (endings_of c.as_slice-entries.result.now) =
-    c.deref-2.ensures.value ∙ c.loop-part.invariant
-    ∙ ap (λ (some : List (ℕ × GroupPart)). spent_by claim.floor buffer (flat_map (λ (group : ℕ × GroupPart). versions_in group.1) some)) (take_all c.loop-part.part-index groups all)
+    c.deref-2.ensures.value ∙ c.loop-place.invariant
+    ∙ ap (λ (some : List (ℕ × GroupPart)). spent_by claim.floor buffer (flat_map (λ (group : ℕ × GroupPart). versions_in group.1) some)) (take_all c.loop-place.place groups all)
     ∙ ap (spent_by claim.floor buffer) (versions-all groups)
     ∙ ap (λ (some : List Entry). map (is_spent claim.floor buffer versions) (endings_of some)) (sym entries) in
     IfOk-weaker c.marked.result (λ (some : Vec Entry Global). endings_of some.items ≡ filter (is_spent claim.floor buffer versions) (endings_of c.as_slice-entries.result.now))

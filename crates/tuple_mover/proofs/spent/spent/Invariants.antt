@@ -5,5 +5,5 @@ use Rattle.group_view.specs.Views.{buffer_of}
 use Rattle.tuple_mover.specs.Spent.{spent_by}
 use Rattle.tuple_mover.proofs.spent.spent.Given as goal
 
-abbrev pub invariant-loop-part : goal.invariant-loop-part
-invariant-loop-part l = l.spent.items ≡ spent_by l.claim.floor (buffer_of l.claim.view) (flat_map (λ (group : ℕ × _). versions_in group.1) (take l.part-index l.claim.view.groups))
+abbrev pub invariant-loop-place : goal.invariant-loop-place
+invariant-loop-place l = l.spent.items ≡ spent_by l.claim.floor (buffer_of l.claim.view) (flat_map (λ (group : ℕ × _). versions_in group.1) (take l.place l.claim.view.groups))
