@@ -5,8 +5,8 @@ use Rattle.std.specs.Prelude.{nat_lt}
 use Rattle.std.specs.List.Sorted.{IsPermutation}
 use Rattle.cs_types.specs.declared.Key.{Key}
 use Rattle.cs_types.specs.Keys.{same_key}
-use Rattle.std.specs.Vec.{with_item}
-use Rattle.std.proofs.lemmas.List.{length-map}
+use Rattle.group_view.specs.Lends.{with_group}
+use Rattle.std.proofs.lemmas.List.{length-set, length-map}
 use Rattle.std.proofs.lemmas.List.Elements.{recursion_from_All}
 use Rattle.std.proofs.lemmas.List.Folds.{list_any-append}
 use Rattle.delete_buffer.specs.Entries.{Entry, Room, AreInOrder, Ascend, ended}
@@ -33,7 +33,7 @@ use Rattle.group_directory.proofs.PutLemmas as put
 
 -- the list with this content at the place, and with another buffer
 abbrev pub changed_list : GroupList → ℕ → Group → GroupContent → Option ℕ → Room → GroupList
-changed_list list at here content opened buffer = record list { groups = with_item list.groups at (record here { content = content }); opened = opened; buffer = buffer }
+changed_list list at here content opened buffer = record list { groups = with_group list.groups at (record here { content = content }); opened = opened; buffer = buffer }
 
 pub split_at : (old : GroupList) (at : ℕ) → IsHeld old → old.opened ≡ Some at → IsSplit old.groups.items at
 split_at old at held opened = split old.groups.items at (subst (λ (place : Option ℕ). IsOpenAt old.groups.items place) opened held.opened)
@@ -154,13 +154,13 @@ module _ (old : GroupList) (at : ℕ) (here : Group) (content : GroupContent) (o
       → HasRoom group_rows (suc rows) 0 old pool → HasRoom group_rows rows 0 (changed_list old at here content opened_at buffer) pool
   unfolding new made
   less_room group_rows rows pool roomy fewer room =
-      put.room-put group_rows rows old new pool at t made whole refl refl refl roomy (fewer ∙ ap (λ (group : Group). places_in group_rows (content_of group.content)) same) room
+      put.room-put group_rows rows old new pool at t made whole (length-set old.groups.items at (record here { content = content })) refl refl roomy (fewer ∙ ap (λ (group : Group). places_in group_rows (content_of group.content)) same) room
 
   pub same_room : (group_rows rows loads : ℕ) (pool : List Store) → IsRoomy group_rows rows content → places_in group_rows (content_of content) ≡ places_in group_rows (content_of here.content)
       → HasRoom group_rows rows loads old pool → HasRoom group_rows rows loads (changed_list old at here content opened_at buffer) pool
   unfolding new made
   same_room group_rows rows loads pool roomy is room =
-      put.room-kept group_rows rows loads old new pool at t made whole refl refl refl roomy (is ∙ ap (λ (group : Group). places_in group_rows (content_of group.content)) same) room
+      put.room-kept group_rows rows loads old new pool at t made whole (length-set old.groups.items at (record here { content = content })) refl refl roomy (is ∙ ap (λ (group : Group). places_in group_rows (content_of group.content)) same) room
 
   -- what is true of every group that is not open is true of the others
   pub all_changed : (P : Group → Type 0) → ((group : Group) → is_open group.content ≡ false → P group) → P (record here { content = content }) → All P (set old.groups.items at (record here { content = content }))

@@ -1,5 +1,5 @@
 -- A directory stands for the same changes after the first event of a turn.
-use Rattle.std.proofs.Common.{◌≡◌, ℕ, ◌<◌, ◌≤◌, ◌^◌, Bool, true, false, cond, List, [], ◌∷◌, ◌++◌, map, filter, length, Option, Some, None, refl, sym, ap, subst, ◌∙◌, inl, inr}
+use Rattle.std.proofs.Common.{◌≡◌, ℕ, ◌<◌, ◌≤◌, ◌^◌, Bool, true, false, cond, List, [], ◌∷◌, ◌++◌, map, filter, Option, Some, None, refl, sym, ap, subst, ◌∙◌, inl, inr}
 use Rattle.std.specs.Prelude.{◌⊎◌}
 use Rattle.std.specs.List.{All, AllByRecursion, Contains}
 use Rattle.std.proofs.lemmas.List.{append-nil, map-append}
@@ -25,7 +25,6 @@ use Rattle.group_view.specs.declared.claim.Claim.{Claim}
 use Rattle.group_view.specs.declared.groups.Group.{Group}
 use Rattle.group_view.specs.declared.groups.GroupList.{GroupList}
 use Rattle.group_view.specs.declared.parts.GroupPart.{GroupPart}
-use Rattle.group_view.specs.declared.parts.GroupPart.TheVariants as part
 use Rattle.group_view.specs.Laws.{IsRowOf}
 use Rattle.std.proofs.lemmas.Grind.{flat_map-append}
 use Rattle.group_view.specs.Parts.{ArePacked, Rowed, IsFitting}
@@ -38,8 +37,7 @@ use Rattle.group_directory.specs.declared.directory.Directory.{Directory}
 use Rattle.group_directory.specs.declared.movers.Claimed.TheVariants.{Lent}
 use Rattle.group_directory.specs.Calls.{IsAsBefore}
 use Rattle.group_directory.specs.Claimed.{IsTurnOf, IsOfMoment, IsTaken, IsSound}
-use Rattle.group_directory.specs.Claiming.{PartValue, part_value, valued, IsShareOf}
-use Rattle.group_directory.specs.Claiming.PartValue.{PackedValue, StoreValue}
+use Rattle.group_directory.specs.Claiming.{IsShareOf}
 use Rattle.group_directory.specs.Lending.{Keeps, place_of}
 use Rattle.group_directory.specs.Lent.{GroupsStay}
 use Rattle.group_view.specs.Seen.{Seen, seen, shows, is_shown}
@@ -50,7 +48,7 @@ use Rattle.group_directory.proofs.CommitLemmas.{opened_more}
 use Rattle.group_directory.proofs.GroupLaws.{loan_made, loan_shared, same_lent}
 use Rattle.group_directory.proofs.Held.{Lends as LendsFitting, book_same, held_same}
 use Rattle.group_directory.proofs.LendLaws.{Rises, InOrder, IsDrawn, choice_in, choice_drawn, named_ids, rises_flush, flush_lends, picked_groups, lent_are, ids_are, stands_lent}
-use Rattle.group_directory.proofs.LentLaws.{all_lent, each_held, lent_same, shared_ids, stay_claimed, stay_grown}
+use Rattle.group_directory.proofs.LentLaws.{all_lent, each_held, lent_same, stay_claimed, stay_grown}
 use Rattle.group_directory.proofs.LookLaws.{stands_looked}
 use Rattle.group_directory.proofs.OpenLemmas.{IsShut}
 use Rattle.group_directory.proofs.PackedLaws.{packed_same, packed_view}
@@ -75,54 +73,17 @@ share_claim actor claim other share = λ i. record {
     rows = same_lent claim other share
 
     ids : map (λ (group : ℕ × GroupPart). group.0) other.view.groups ≡ map (λ (group : ℕ × GroupPart). group.0) claim.view.groups
-    ids = sym (shared_ids other.view.groups) ∙ ap (map (λ (group : ℕ × PartValue). group.0)) share.groups ∙ shared_ids claim.view.groups
+    ids = ap (map (λ (group : ℕ × GroupPart). group.0)) share.groups
 
 map_all : {X Y : Type 0} (Q : Y → Type 0) (f : X → Y) (xs : List X) → AllByRecursion (λ x. Q (f x)) xs → AllByRecursion Q (map f xs)
 map_all Q f [] all = tt
 map_all Q f (x ∷ xs) all = (all.0, map_all Q f xs all.1)
 
--- what is said of a claim's parts by what is shared is true of those of a share
-pub shared_parts : (P : GroupPart → Type 0) (Q : PartValue → Type 0) → ((part : GroupPart) → P part → Q (part_value part)) → ((part : GroupPart) → Q (part_value part) → P part)
-    → (claim other : Claim) → IsShareOf claim other → All (λ (p : ℕ × GroupPart). P p.1) claim.view.groups → All (λ (p : ℕ × GroupPart). P p.1) other.view.groups
-shared_parts P Q to from claim other share all = All-from_recursion OfPart other.view.groups
-    (weaker (λ (p : ℕ × GroupPart). OfValue (valued p)) OfPart other.view.groups (λ p. from p.1) (all-mapped OfValue valued other.view.groups
-    (subst (AllByRecursion OfValue) (sym share.groups) (map_all OfValue valued claim.view.groups (weaker OfPart (λ (p : ℕ × GroupPart). OfValue (valued p)) claim.view.groups (λ p. to p.1) (recursion_from_All OfPart claim.view.groups all))))))
-  where
-    OfPart : ℕ × GroupPart → Type 0
-    OfPart p = P p.1
-
-    OfValue : ℕ × PartValue → Type 0
-    OfValue v = Q v.1
-
-abbrev FitsValue : PartValue → Type 0
-FitsValue (PackedValue group marks) = length marks ≡ length group.rows
-FitsValue (StoreValue versions) = Unit {0}
-
-fits_to : (p : GroupPart) → IsFitting p → FitsValue (part_value p)
-fits_to (part.Packed group marks) fits = fits
-fits_to (part.Store store) fits = tt
-
-fits_from : (p : GroupPart) → FitsValue (part_value p) → IsFitting p
-fits_from (part.Packed group marks) fits = fits
-fits_from (part.Store store) fits = tt
-
 pub share_fits : (claim other : Claim) → IsShareOf claim other → All (λ (p : ℕ × GroupPart). IsFitting p.1) claim.view.groups → All (λ (p : ℕ × GroupPart). IsFitting p.1) other.view.groups
-share_fits claim other share fits = shared_parts IsFitting FitsValue fits_to fits_from claim other share fits
-
-abbrev IsPackedValue : PartValue → Type 0
-IsPackedValue (PackedValue group marks) = Unit {0}
-IsPackedValue (StoreValue versions) = ⊥
-
-packed_to : (p : GroupPart) → IsPackedPart p → IsPackedValue (part_value p)
-packed_to (part.Packed group marks) is = tt
-packed_to (part.Store store) is = is
-
-packed_from : (p : GroupPart) → IsPackedValue (part_value p) → IsPackedPart p
-packed_from (part.Packed group marks) is = tt
-packed_from (part.Store store) is = is
+share_fits claim other share fits = subst (All (λ (p : ℕ × GroupPart). IsFitting p.1)) (sym share.groups) fits
 
 pub share_packed : (claim other : Claim) → IsShareOf claim other → All (λ (p : ℕ × GroupPart). IsPackedPart p.1) claim.view.groups → All (λ (p : ℕ × GroupPart). IsPackedPart p.1) other.view.groups
-share_packed claim other share all = shared_parts IsPackedPart IsPackedValue packed_to packed_from claim other share all
+share_packed claim other share all = subst (All (λ (p : ℕ × GroupPart). IsPackedPart p.1)) (sym share.groups) all
 
 -- ---- the place of a new group
 

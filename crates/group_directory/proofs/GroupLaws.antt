@@ -32,8 +32,7 @@ use Rattle.group_view.specs.declared.groups.GroupContent.TheVariants.{Opened, Cl
 use Rattle.group_view.specs.declared.groups.Group.{Group}
 use Rattle.group_view.specs.declared.view.GroupView.{GroupView}
 use Rattle.group_view.specs.declared.parts.GroupPart.{GroupPart}
-use Rattle.group_view.specs.declared.parts.GroupPart.TheVariants.{Packed, Store}
-use Rattle.group_view.specs.Parts.{Rowed, packed_parts, ArePacked, IsPackedGroup, packed_versions, stored_versions, rowed_in}
+use Rattle.group_view.specs.Parts.{Rowed, packed_parts, ArePacked, IsPackedGroup, rowed_in}
 use Rattle.group_view.specs.Views.{endings_of, buffer_of, rowed_of}
 use Rattle.group_view.specs.Books.{versions_of, rowed_in_content, choice_of, claim_of, book_of}
 use Rattle.group_view.specs.Lists.{is_listed, listed}
@@ -41,13 +40,12 @@ use Rattle.group_view.specs.Laws.{IsRowOf, IsViewOf}
 use Rattle.group_view.specs.Claims.{lent_entries, rowed_of_packed, IsMadeOf}
 use Rattle.group_directory.specs.declared.directory.Directory.{Directory}
 use Rattle.group_view.specs.Seen.{Seen, seen, entry_of, packed_seen, part_entry, rooted, rooted_in}
-use Rattle.group_directory.specs.Claiming.{PartValue, part_value, valued, IsShareOf}
-use Rattle.group_directory.specs.Claiming.PartValue.{PackedValue, StoreValue}
+use Rattle.group_directory.specs.Claiming.{IsShareOf}
 use Rattle.group_directory.specs.Stands.{width_in, rows_in, listed_rows, IsEndedBy, IsLoanOf, Stands}
 use Rattle.group_view.specs.Parcels.{IsGiven}
 use Rattle.group_directory.specs.Laws.{rooted_at, width_of, IsLookAt}
 use Rattle.group_directory.proofs.RowLaws.{rows_moved, rows_later, rows_committed, rows_packed}
-use Rattle.group_directory.proofs.PackedLaws.{packed_picked, packed_shared}
+use Rattle.group_directory.proofs.PackedLaws.{packed_picked}
 use Rattle.group_directory.proofs.LoanLaws.{ends_lent, ends_later}
 use Rattle.group_directory.proofs.BookLaws.{each_claim, lows, reach, listed_low, lent_low, listed_versions}
 use Rattle.std.proofs.lemmas.List.Sorted.{IsPermutation-refl}
@@ -181,21 +179,8 @@ module _ (directory : Directory) (view : GroupView) (cs : List Change) (j : Stan
 
 -- ---- a new claim
 
--- the versions of a part, by what it shares
-abbrev pub value_rows : PartValue → List Rowed
-value_rows (PackedValue group marks) = packed_versions group.key group.rows marks
-value_rows (StoreValue versions) = stored_versions versions
-
-pub part_rows : (part : GroupPart) → value_rows (part_value part) ≡ rowed_in part
-part_rows (Packed group marks) = refl
-part_rows (Store store) = refl
-
-shared_rows : (parts : List (ℕ × GroupPart)) → flat_map (λ (part : ℕ × PartValue). value_rows part.1) (map valued parts) ≡ flat_map (λ (part : ℕ × GroupPart). rowed_in part.1) parts
-shared_rows [] = refl
-shared_rows (part ∷ parts) = ap (λ (l : List Rowed). l ++ flat_map (λ (other : ℕ × PartValue). value_rows other.1) (map valued parts)) (part_rows part.1) ∙ ap (λ (l : List Rowed). rowed_in part.1 ++ l) (shared_rows parts)
-
 pub same_lent : (claim other : Claim) → IsShareOf claim other → rowed_of other.view ≡ rowed_of claim.view
-same_lent claim other share = sym (shared_rows other.view.groups) ∙ ap (flat_map (λ (part : ℕ × PartValue). value_rows part.1)) share.groups ∙ shared_rows claim.view.groups
+same_lent claim other share = ap (flat_map (λ (part : ℕ × GroupPart). rowed_in part.1)) share.groups
 
 -- a share of a claim keeps what the claim keeps
 pub loan_shared : (schema : Schema) (cs : List Change) (by : Actor) (claim other : Claim) → IsShareOf claim other → IsLoanOf schema cs (by, claim) → IsLoanOf schema cs (by, other)
@@ -204,7 +189,7 @@ loan_shared schema cs by claim other share loan = record {
   rows = subst (All (IsRowOf (length schema.columns) cs)) (sym rows) loan.rows;
   ends = subst (λ (entries : List Ending). All (IsEndedBy cs entries) (versions_of (rowed_of other.view))) (sym buffer)
       (subst (λ (l : List Rowed). All (IsEndedBy cs (buffer_of claim.view)) (versions_of l)) (sym rows) loan.ends);
-  packed = subst (ArePacked schema) (sym (packed_shared claim.view.groups other.view.groups share.groups)) loan.packed;
+  packed = subst (λ (parts : List (ℕ × GroupPart)). ArePacked schema (packed_parts parts)) (sym share.groups) loan.packed;
   entries = λ flush. ap endings_of share.entries ∙ loan.entries (sym (ap choice_of share.choice) ∙ flush)
       ∙ sym (ap (λ (entries : List Ending). entries_for entries (versions_of (rowed_of other.view))) buffer ∙ ap (λ (l : List Rowed). entries_for (buffer_of claim.view) (versions_of l)) rows);
 }

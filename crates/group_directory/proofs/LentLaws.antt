@@ -23,12 +23,10 @@ use Rattle.group_book.proofs.Steady.{changed}
 use Rattle.group_view.specs.declared.claim.Claim as view
 use Rattle.group_view.specs.declared.groups.GroupList.{GroupList}
 use Rattle.group_view.specs.declared.parts.GroupPart.{GroupPart}
-use Rattle.group_view.specs.Parts.{Rowed}
-use Rattle.group_view.specs.Books.{claim_of, versions_of, book_of, part_versions, group_versions, StandsAsLent}
-use Rattle.group_directory.specs.Claiming.{PartValue, valued, IsShareOf}
+use Rattle.group_view.specs.Books.{claim_of, book_of, part_versions, group_versions, StandsAsLent}
+use Rattle.group_directory.specs.Claiming.{IsShareOf}
 use Rattle.group_directory.specs.Lent.{GroupsStay}
 use Rattle.group_directory.proofs.EventLaws.{mapped_there}
-use Rattle.group_directory.proofs.GroupLaws.{value_rows, part_rows}
 
 module _ (sources : List ℕ) where
   -- a change leaves the group, if it is one of the sources
@@ -305,24 +303,6 @@ lent_moved old new after is claims stay lent =
     subst (All (StandsAsLent (book_of new))) (sym claims) (subst (λ (whole : Book). All (StandsAsLent whole) old.claims.items) (sym is)
     (all_lent (book_of old) after old.claims.items (each_held old (λ (claim : Claim). GroupsStay claim.sources (book_of old) after) stay) lent))
 
--- by what a part shares
-abbrev value_versions : ℕ × PartValue → Entry
-value_versions part = (part.0, versions_of (value_rows part.1))
-
-same_versions : (part : ℕ × GroupPart) → value_versions (valued part) ≡ part_versions part
-same_versions part = ap (λ (rows : List Rowed). let entry : Entry = (part.0, versions_of rows) in entry) (part_rows part.1)
-
-shared_entries : (parts : List (ℕ × GroupPart)) → map value_versions (map valued parts) ≡ map part_versions parts
-shared_entries [] = refl
-shared_entries (part ∷ parts) = ap (λ (entry : Entry). entry ∷ map value_versions (map valued parts)) (same_versions part) ∙ ap (λ (l : List Entry). part_versions part ∷ l) (shared_entries parts)
-
-pub shared_ids : (parts : List (ℕ × GroupPart)) → map (λ (part : ℕ × PartValue). part.0) (map valued parts) ≡ map (λ (part : ℕ × GroupPart). part.0) parts
-shared_ids [] = refl
-shared_ids (part ∷ parts) = ap (λ (l : List ℕ). part.0 ∷ l) (shared_ids parts)
-
 pub share_lent : (book : Book) (actor : Actor) (claim other : view.Claim) → IsShareOf claim other → StandsAsLent book (actor, claim) → StandsAsLent book (actor, other)
 share_lent book actor claim other share lent =
-    sym (shared_entries other.view.groups) ∙ ap (map value_versions) share.groups ∙ shared_entries claim.view.groups
-    ∙ lent
-    ∙ ap (λ (ids : List ℕ). map group_versions (filter (is_id_of ids) book.groups))
-    (sym (shared_ids claim.view.groups) ∙ sym (ap (map (λ (part : ℕ × PartValue). part.0)) share.groups) ∙ shared_ids other.view.groups)
+    subst (λ (parts : List (ℕ × GroupPart)). map part_versions parts ≡ map group_versions (filter (is_id_of (map (λ (part : ℕ × GroupPart). part.0) parts)) book.groups)) (sym share.groups) lent

@@ -1,7 +1,7 @@
 -- The packed groups of a list, where its groups change; and packed groups of a table, where a commit loads them.
 use Rattle.std.proofs.Common.{◌≡◌, ℕ, zero, suc, ◌<◌, ◌≤◌, ◌+◌, ◌==◌, Bool, true, false, cond, List, [], ◌∷◌, ◌++◌, map, filter, length, get_or, set, not, Option, None, Some, refl, sym, ap, subst, ◌∙◌, arith}
 use Rattle.std.specs.Prelude.{IfSome}
-use Rattle.std.specs.List.{All, AllByRecursion, AllZip, flat_map}
+use Rattle.std.specs.List.{All, AllByRecursion, AllZip}
 use Rattle.std.specs.declared.alloc.Global.{Global}
 use Rattle.std.specs.declared.cmp.Ordering.{Ordering}
 use Rattle.std.specs.declared.sync.Arc.{Arc}
@@ -32,8 +32,6 @@ use Rattle.group_view.specs.Books.{content_of, group_of}
 use Rattle.group_view.specs.Claims.{IsPackedPart}
 use Rattle.group_view.specs.Lists.{is_open, is_listed, packed_content, packed_of, packed_in}
 use Rattle.group_view.specs.Parcels.{HasOneBegin}
-use Rattle.group_directory.specs.Claiming.{PartValue, valued}
-use Rattle.group_directory.specs.Claiming.PartValue.{PackedValue, StoreValue}
 use Rattle.group_directory.specs.Committing.{NewGroup, new_groups, rebased, packed_groups, IsNewGroupOf}
 use Rattle.group_directory.specs.Installing as install
 use Rattle.group_view.specs.Seen.{Seen, seen, is_shown, shows, entry_of, packed_seen, part_entry}
@@ -190,20 +188,6 @@ packed_flushed (marks ∷ all) (g ∷ gs) = step (g.id == marks.0) (packed_flush
         → packed_in (cond t (record g { content = install.with_marks marks.1 g.content } ∷ install.marked_by all gs) (g ∷ install.marked_by (marks ∷ all) gs)) ≡ packed_of g ++ packed_in gs
     step true rest others = ap (λ (es : Entries). es ++ packed_in (install.marked_by all gs)) (flushed_one g.id marks.1 g.content) ∙ ap (λ (es : Entries). packed_of g ++ es) rest
     step false rest others = ap (λ (es : Entries). packed_of g ++ es) others
-
--- ---- shares of a claim
-
-abbrev value_packed : ℕ × PartValue → Entries
-value_packed (id, PackedValue group marks) = (id, group) ∷ []
-value_packed (id, StoreValue versions) = []
-
-values_packed : (parts : List (ℕ × GroupPart)) → flat_map value_packed (map valued parts) ≡ packed_parts parts
-values_packed [] = refl
-values_packed ((id, Packed group marks) ∷ parts) = ap (λ (es : Entries). (id, group.value) ∷ es) (values_packed parts)
-values_packed ((id, Store store) ∷ parts) = values_packed parts
-
-pub packed_shared : (parts others : List (ℕ × GroupPart)) → map valued others ≡ map valued parts → packed_parts others ≡ packed_parts parts
-packed_shared parts others same = sym (values_packed others) ∙ ap (flat_map value_packed) same ∙ values_packed parts
 
 -- ---- direct groups
 

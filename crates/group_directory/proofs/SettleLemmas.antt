@@ -1,5 +1,5 @@
 -- What a settle makes of bitmaps, of groups and of lists of them.
-use Rattle.std.proofs.Common.{◌≡◌, ℕ, suc, ◌<◌, ◌≤◌, ◌+◌, ◌&&◌, Bool, true, false, cond, leb, List, Vec, [], ◌∷◌, ◌++◌, map, filter, length, get_or, set, take, drop, not, Option, Some, None, refl, sym, ap, subst, ◌∙◌, arith}
+use Rattle.std.proofs.Common.{◌≡◌, ℕ, suc, ◌<◌, ◌≤◌, ◌+◌, ◌&&◌, Bool, true, false, cond, leb, List, [], ◌∷◌, ◌++◌, map, filter, length, get_or, set, take, drop, not, Option, Some, None, refl, sym, ap, subst, ◌∙◌, arith}
 use Rattle.std.specs.Prelude.{count_by}
 use Rattle.std.specs.List.{All, AllByRecursion, AllZip, list_any}
 use Rattle.std.specs.declared.alloc.Global.{Global}
@@ -24,6 +24,7 @@ use Rattle.group_book.proofs.Lists.{how_many-append, how_many-none, none_pass}
 use Rattle.group_view.specs.declared.groups.GroupContent.{GroupContent}
 use Rattle.group_view.specs.declared.groups.GroupContent.TheVariants.{Opened, Closed, Compressed, Invisible, Tombstone}
 use Rattle.group_view.specs.declared.groups.Group.{Group}
+use Rattle.group_view.specs.Shares.{Grouped}
 use Rattle.group_view.specs.declared.groups.GroupList.{GroupList}
 use Rattle.group_view.specs.Parts.{Rowed, end_of_mark, packed_version, packed_versions}
 use Rattle.group_view.specs.Books.{versions_of, content_of, group_of, claim_of, book_of, rowed_in_content}
@@ -284,7 +285,7 @@ pub whole_items : {X : Type 0} (n : ℕ) (xs items : List X) → n ≡ length it
 whole_items n xs items is same =
     ap (λ (rest : List _). take n (xs ++ rest)) (drop_all (length xs) items (omega (arith, same))) ∙ ap (take n) (append-nil xs) ∙ take_all n xs (omega (arith, is, same))
 
-module _ (list : GroupList) (floor : ℕ) (plan : List NewMarks) (zip : AllZip (IsSettledBy floor (map claim_of list.claims.items)) list.groups.items plan) (groups : Vec Group Global) (is : groups.items ≡ with_marks plan list.groups.items) where
+module _ (list : GroupList) (floor : ℕ) (plan : List NewMarks) (zip : AllZip (IsSettledBy floor (map claim_of list.claims.items)) list.groups.items plan) (groups : Grouped) (is : groups.items ≡ with_marks plan list.groups.items) where
   pub book_after : book_of (record list { groups = groups }) ≡ after_settle floor (book_of list)
   book_after = book_is (book_of (record list { groups = groups })) (after_settle floor (book_of list)) (ap (map group_of) is ∙ book_settled floor (map claim_of list.claims.items) list.groups.items plan zip) refl refl refl
 

@@ -1,5 +1,5 @@
 -- What a commit makes of a list of groups, and the room that it takes first.
-use Rattle.std.specs.Prelude.{◌≡◌, ◌≤◌, ◌<◌, ◌+◌, ◌-◌, ◌^◌, ℕ, zero, suc, min, max, not, List, [], ◌∷◌, ◌++◌, map, filter, length, replicate, Option, None, Some, All, vec_len, vec_capacity}
+use Rattle.std.specs.Prelude.{◌≡◌, ◌≤◌, ◌<◌, ◌+◌, ◌-◌, ◌^◌, ℕ, zero, suc, min, max, not, List, [], ◌∷◌, ◌++◌, map, filter, length, replicate, Option, None, Some, All}
 use Rattle.std.specs.declared.alloc.Global.{Global}
 use Rattle.std.specs.declared.sync.Arc.{Arc}
 use Rattle.cs_types.specs.declared.Key.{Key}

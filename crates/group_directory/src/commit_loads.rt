@@ -1,5 +1,5 @@
 // The groups that a commit loads directly.
-ghost use Rattle.std.specs.Prelude.{◌≡◌, ◌≤◌, ◌<◌, ◌+◌, ◌^◌, ℕ, List, ◌++◌, All, IfOk, vec_len, vec_capacity};
+ghost use Rattle.std.specs.Prelude.{◌≡◌, ◌≤◌, ◌<◌, ◌+◌, ◌^◌, ℕ, List, ◌++◌, length, All, IfOk, vec_len};
 ghost use Rattle.std.specs.List.{AllZip};
 ghost use Rattle.delta_store.specs.Versions.{Store};
 ghost use Rattle.group_view.specs.Lists.{IsHeld};

@@ -1,5 +1,5 @@
 // The rows of a commit that go into delta stores.
-ghost use Rattle.std.specs.Prelude.{List, ◌≡◌, ◌≤◌, ◌<◌, ◌+◌, ◌^◌, ℕ, suc, [], ◌∷◌, ◌++◌, map, length, All, IsPermutation, false, Option, true, None, Some, vec_len, vec_capacity};
+ghost use Rattle.std.specs.Prelude.{List, ◌≡◌, ◌≤◌, ◌<◌, ◌+◌, ◌^◌, ℕ, suc, [], ◌∷◌, ◌++◌, map, length, All, IsPermutation, false, Option, true, None, Some};
 ghost use Rattle.cs_types.specs.declared.Key.{Key};
 ghost use Rattle.cs_types.specs.Keys.{same_key};
 ghost use Rattle.delta_store.specs.Versions.{Store};

@@ -1,4 +1,4 @@
-use Rattle.std.proofs.Common.{◌≡◌, ◌+◌, ◌++◌, length, vec_len, vec_capacity}
+use Rattle.std.proofs.Common.{◌≡◌, ◌+◌, ◌++◌, length, vec_len}
 use Rattle.std.specs.Vec.Iter.{into_iter_items}
 use Rattle.group_directory.specs.Committing.{new_groups}
 use Rattle.group_directory.proofs.commit_loads.load_groups.Given as goal

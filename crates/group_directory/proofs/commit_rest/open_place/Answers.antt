@@ -19,7 +19,7 @@ returns-in-Some-clause-book c = λ group_rows version.
 pub returns-in-Some-pop-clause-held : goal.returns-in-Some-pop-clause-held
 returns-in-Some-pop-clause-held c =
     let shut = subst (λ (at : Option ℕ). IsOpenAt c.args.list.now.groups.items at) c.in-None.is c.requires.held.opened in
-    let place = c.open_store.ensures.opened ∙ ap (λ (at : ℕ). Some at) (c.open_store.ensures.place ∙ c.args.list.now.groups.ok.0) in
+    let place = c.open_store.ensures.opened ∙ ap (λ (at : ℕ). Some at) c.open_store.ensures.place in
     held_new c.args.list.now c.open_store.new.list c.in-Some-pop.store c.requires.held shut c.open_store.ensures.groups place c.open_store.ensures.claims
 
 pub returns-in-Some-pop-clause-book : goal.returns-in-Some-pop-clause-book
@@ -44,7 +44,7 @@ pub returns-in-Some-pop-clause-room : goal.returns-in-Some-pop-clause-room
 returns-in-Some-pop-clause-room c = λ group_rows rows some room.
     let shut = subst (λ (at : Option ℕ). IsOpenAt c.args.list.now.groups.items at) c.in-None.is c.requires.held.opened in
     let empty = last_of (λ (store : Store). store.versions ≡ []) c.args.pool.now.items c.pop.new.self.items c.in-Some-pop.store c.in-Some-pop.ensures.items c.requires.empty in
-    room_new c.args.list.now c.open_store.new.list c.in-Some-pop.store shut empty c.open_store.ensures.groups group_rows rows c.args.pool.now.items c.pop.new.self.items some c.in-Some-pop.ensures.items c.open_store.ensures.len c.open_store.ensures.capacity c.open_store.ensures.next room
+    room_new c.args.list.now c.open_store.new.list c.in-Some-pop.store shut empty c.open_store.ensures.groups group_rows rows c.args.pool.now.items c.pop.new.self.items some c.in-Some-pop.ensures.items c.open_store.ensures.len c.open_store.ensures.room c.open_store.ensures.next room
 
 pub returns-in-Some-pop-clause-packed : goal.returns-in-Some-pop-clause-packed
 returns-in-Some-pop-clause-packed c =

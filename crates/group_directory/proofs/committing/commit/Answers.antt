@@ -54,7 +54,7 @@ store_rest-requires-clause-room c =
     let room = c.end_replaced.ensures.room c.args.group_rows c.len-3.result c.len-4.result c.in_ok-room.room.pool.items c.in_ok-room.ensures.room in
     subst (λ (rows : ℕ). HasRoom c.args.group_rows rows 0 c.load_groups.new.list c.in_ok-room.room.pool.items) c.len-3.ensures
     (room_loaded c.args.group_rows c.len-3.result c.len-4.result c.end_replaced.new.list c.load_groups.new.list c.in_ok-room.room.pool.items c.in_ok-loads.loads.items c.load_groups.ensures.groups
-    (omega (arith, c.load_groups.ensures.len, c.len-4.ensures)) c.load_groups.ensures.capacity (omega (arith, c.load_groups.ensures.next, c.len-4.ensures)) room)
+    (omega (arith, c.load_groups.ensures.len, c.len-4.ensures)) c.load_groups.ensures.room (omega (arith, c.load_groups.ensures.next, c.len-4.ensures)) room)
 
 pub returns-clause-book : goal.returns-clause-book
 returns-clause-book c =

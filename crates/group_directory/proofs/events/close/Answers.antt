@@ -1,7 +1,5 @@
 use Rattle.std.proofs.Common.{Some, refl, sym, ap, subst, ◌∙◌, arith}
-use Rattle.std.proofs.lemmas.List.{get_or-set_same}
 use Rattle.std.proofs.lemmas.List.Elements.{All-set}
-use Rattle.group_view.specs.declared.groups.Group.{Group}
 use Rattle.group_view.specs.Books.{book_of}
 use Rattle.group_view.specs.Lists.{IsOpenAt}
 use Rattle.group_book.specs.Turns.{after_close}
@@ -17,10 +15,7 @@ pub returns-in-None-clause-closed : goal.returns-in-None-clause-closed
 returns-in-None-clause-closed c = sym (none_lowest c.args.list.now.groups.items (subst (IsOpenAt c.args.list.now.groups.items) c.in-None.is c.requires.held.opened))
 
 pub at_mut-group-requires : goal.at_mut-group-requires
-at_mut-group-requires c = let within = open_within c.args.list.now.groups.items c.in-Some.place (subst (IsOpenAt c.args.list.now.groups.items) c.in-Some.is c.requires.held.opened) in omega (arith, within, c.args.list.now.groups.ok.0)
-
-pub index-requires : goal.index-requires
-index-requires c = let within = open_within c.args.list.now.groups.items c.in-Some.place (subst (IsOpenAt c.args.list.now.groups.items) c.in-Some.is c.requires.held.opened) in omega (arith, within, c.args.list.now.groups.ok.0)
+at_mut-group-requires c = let within = open_within c.args.list.now.groups.items c.in-Some.place (subst (IsOpenAt c.args.list.now.groups.items) c.in-Some.is c.requires.held.opened) in omega (arith, within)
 
 pub returns-clause-book : goal.returns-clause-book
 returns-clause-book c =
@@ -30,8 +25,7 @@ returns-clause-book c =
 pub returns-clause-closed : goal.returns-clause-closed
 returns-clause-closed c =
     let here = subst (IsOpenAt c.args.list.now.groups.items) c.in-Some.is c.requires.held.opened in
-    ap (λ (g : Group). Some g.id) (c.index.ensures ∙ get_or-set_same c.args.list.now.groups.items c.in-Some.place c.close_group.new.group c.index.result.now (open_within c.args.list.now.groups.items c.in-Some.place here))
-    ∙ ap Some c.close_group.ensures.id
+    ap Some c.close_group.ensures.id
     ∙ sym (closed_lowest c.args.list.now.groups.items c.in-Some.place c.at_mut-group.result.now here c.at_mut-group.ensures.value)
 
 pub returns-clause-held : goal.returns-clause-held

@@ -6,5 +6,5 @@ use Rattle.group_directory.proofs.installs.bury_sources.Goals as goal
 
 pub loop-group-preserved : goal.loop-group-preserved
 loop-group-preserved c =
-    ap (λ (group : Group). set c.loop-group.groups c.loop-group.group-index group) (c.bury_source.ensures ∙ ap (buried (ids_of c.args.sources.now)) (sym c.group-item.is))
-    ∙ map_over_more (buried (ids_of c.args.sources.now)) c.args.groups.now c.loop-group.groups c.loop-group.group-index c.group-item.result (omega arith) c.loop-group.invariant c.group-item.is
+    ap (λ (group : Group). set c.loop-group.groups c.loop-group.group-index group) (c.bury_source.ensures ∙ ap (buried (ids_of c.args.sources.now.groups)) (sym c.group-item.is))
+    ∙ map_over_more (buried (ids_of c.args.sources.now.groups)) c.args.groups.now c.loop-group.groups c.loop-group.group-index c.group-item.result (omega arith) c.loop-group.invariant c.group-item.is

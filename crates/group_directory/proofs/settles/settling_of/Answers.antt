@@ -15,7 +15,7 @@ loop-group-preserved c =
     let i = c.loop-group.group-index in
     let claims = map claim_of c.args.list.now.claims.items in
     let group = c.group-item.result in
-    let here = c.deref-group-items.ensures.value in
+    let here = c.as_slice-group-items.ensures in
     let same = c.deref.ensures.value in
     let more : take (i + 1) gs ≡ take i gs ++ group ∷ [] = take_more gs i group (subst (λ (l : List Group). i < length l) here c.loop-group-test.true)
     ∙ ap (λ (g : Group). take i gs ++ g ∷ []) (ap (λ (l : List Group). get_or l i group) (sym here) ∙ sym c.group-item.is) in

@@ -34,7 +34,7 @@ loop-group-preserved c =
     let held = c.loop-group.invariant in
     let inside : i < length gs = omega arith in
     let here = get_or_default gs i c.group-item.result g inside in
-    let next = next_picks sources all gs i c.len.result g parts c.requires.named held.alike inside here held.parts c.len.ensures in
+    let next = next_picks sources all gs i c.len.result g parts c.requires.named held.alike inside here held.parts (c.len.ensures ∙ c.loop-group.parts.ok.0) in
     elim c.if-is_next.branch [
       | then-is_next+in_ok-add_part w ↦
           let picked : picks sources (seen g) ≡ true = sym next.0 ∙ sym c.is_next.ensures ∙ w.if-is_next.true in

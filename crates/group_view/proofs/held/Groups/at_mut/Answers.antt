@@ -1,4 +1,4 @@
-use Rattle.std.proofs.Common.{map, set, refl, ap, length}
+use Rattle.std.proofs.Common.{map, set, refl, ap}
 use Rattle.group_view.specs.Lends.{with_group}
 use Rattle.group_view.specs.Seen.{seen}
 use Rattle.group_view.proofs.ShareLemmas.{others_set}
