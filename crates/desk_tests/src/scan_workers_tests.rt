@@ -16,6 +16,7 @@ use delete_buffer::Buffer;
 use delta_store::Delta;
 use group_view::{GroupPart, GroupView, Pinned};
 use statement_work::{Turn, answer};
+use shared_list::SharedList;
 use std::alloc::Global;
 use std::hint;
 use std::process::Abort;
@@ -143,7 +144,7 @@ fn pinned_of(alloc: Global, count: u8) -> Result<Pinned, Memory>
     let mut buffer = Buffer::new(alloc);
     Ok(Pinned {
         view: GroupView {
-            groups,
+            groups: SharedList::from_vec(alloc, groups.into_vec())?,
             buffer: buffer.copy()?,
             floor: 1,
             clock: 1,

@@ -12,6 +12,7 @@ use cs_base::{Items, Memory};
 use cs_types::{ColumnType, Key, Value, Version};
 use group_view::{GroupView, Pinned};
 use row_group::{Packed, pack_rows};
+use shared_list::SharedList;
 use std::alloc::Global;
 use std::process::Abort;
 use std::test::Fail;
@@ -68,7 +69,7 @@ fn shown_of(rt: &impl Abort, alloc: Global, case: &Case) -> Result<Shown, Memory
     let packed = packed.unwrap();
     let marks = marked(rt, alloc, packed.len(), ends, *floor)?;
     let view = GroupView {
-        groups: Items::new(alloc),
+        groups: SharedList::new(alloc),
         buffer: buffered(alloc, entries)?,
         floor: *floor,
         clock: 100,

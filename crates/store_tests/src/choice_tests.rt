@@ -10,10 +10,11 @@ use delete_bitmap::Marks;
 use delete_buffer::Buffer;
 use delta_store::Delta;
 use group_view::{
-    Choice, Claim, ClosedStore, Group, GroupContent, GroupList, GroupPart, GroupView,
+    Choice, Claim, ClosedStore, Group, GroupContent, GroupList, GroupPart, GroupView, Groups,
     flush_entries, flush_sources, next_work,
 };
 use row_group::{Packed, pack_rows};
+use shared_list::SharedList;
 use std::alloc::Global;
 use std::process::Abort;
 use std::sync::Arc;
@@ -110,7 +111,7 @@ fn claim_of(alloc: Global, ids: &[u64]) -> Result<Claim, Memory>
         groups.push((*id, GroupPart::Store(store)))?;
     }
     let view = GroupView {
-        groups,
+        groups: SharedList::from_vec(alloc, groups.into_vec())?,
         buffer: Buffer::new(alloc).copy()?,
         floor: 0,
         clock: 0,
@@ -141,7 +142,7 @@ fn list_of(
     let claim = claim_of(alloc, claimed)?;
     claims.push((Actor::Mover(9), claim))?;
     Ok(GroupList {
-        groups,
+        groups: Groups::from_vec(groups),
         opened: None,
         buffer: buffer_of(alloc, entries)?,
         claims,

@@ -14,6 +14,7 @@ use delta_store::Delta;
 use group_reports::{group_lines, segment_lines};
 use group_view::{GroupPart, GroupView};
 use row_group::pack_rows;
+use shared_list::SharedList;
 use std::alloc::Global;
 use std::process::Abort;
 use std::sync::Arc;
@@ -178,7 +179,7 @@ fn view_of(rt: &impl Abort, alloc: Global, schema: &Schema) -> Result<GroupView,
     groups.push((5, last))?;
     let mut buffer = Buffer::new(alloc);
     Ok(GroupView {
-        groups,
+        groups: SharedList::from_vec(alloc, groups.into_vec())?,
         buffer: buffer.copy()?,
         floor: 1,
         clock: 9,

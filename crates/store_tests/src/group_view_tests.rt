@@ -9,6 +9,7 @@ use delete_buffer::Ends;
 use delta_store::Delta;
 use group_view::{GroupPart, GroupRef, GroupView, Place};
 use row_group::{Packed, pack_rows};
+use shared_list::SharedList;
 use std::alloc::Global;
 use std::process::Abort;
 use std::sync::Arc;
@@ -80,7 +81,7 @@ fn view_of(rt: &impl Abort, alloc: Global) -> Result<GroupView, Memory>
     groups.push((1, stored(alloc, &[(1, 3), (2, 4), (1, 6), (3, 7)])?))?;
     groups.push((4, part))?;
     Ok(GroupView {
-        groups,
+        groups: SharedList::from_vec(alloc, groups.into_vec())?,
         buffer: buffered(alloc, &[(2, 9), (6, 8), (8, 7)])?,
         floor: 3,
         clock: 12,
@@ -115,7 +116,7 @@ fn view_of_versions(alloc: Global) -> Result<GroupView, Memory>
     let mut groups = Items::new(alloc);
     groups.push((1, stored(alloc, &[(1, 3), (1, 6), (2, 7), (1, 9)])?))?;
     Ok(GroupView {
-        groups,
+        groups: SharedList::from_vec(alloc, groups.into_vec())?,
         buffer: buffered(alloc, &[(1, 11)])?,
         floor: 3,
         clock: 12,

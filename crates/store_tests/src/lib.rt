@@ -20,6 +20,8 @@ mod group_view_tests;
 #[cfg(test)]
 mod made;
 #[cfg(test)]
+mod shared_list_tests;
+#[cfg(test)]
 mod tuple_mover_tests;
 #[cfg(test)]
 mod txn_table_tests;

@@ -16,6 +16,7 @@ use delete_buffer::{Buffer, Ends};
 use delta_store::Delta;
 use group_view::{GroupPart, GroupView, Pinned};
 use row_group::{Packed, pack_rows};
+use shared_list::SharedList;
 use std::alloc::Global;
 use std::process::Abort;
 use std::sync::Arc;
@@ -243,7 +244,7 @@ pub fn pinned_of(
     let groups = groups_of(rt, alloc, case, count, setting)?;
     let entries = given(alloc, setting.entries, count)?;
     let view = GroupView {
-        groups,
+        groups: SharedList::from_vec(alloc, groups.into_vec())?,
         buffer: buffered(alloc, &entries)?,
         floor: FLOOR,
         clock: 100,
