@@ -195,7 +195,8 @@ impl Recent {
     /// Whether it can be told at once that no key between the two has a change: no key was noted by itself, and the keys of each
     /// run lie below the least one or above the greatest.
     pub fn is_apart(&self, least: Key, greatest: Key) -> bool
-        ensures { IsTrue result → IsApart least greatest (map.get self.now.changes) }
+        ensures apart { IsTrue result → IsApart least greatest (map.get self.now.changes) }
+        ensures none { self.now.held ≡ 0 → IsTrue result }
     {
         self.changes.is_empty() && self.runs.is_apart(least, greatest)
     }

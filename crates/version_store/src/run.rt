@@ -52,7 +52,8 @@ impl Run {
 
     /// Whether its keys lie below the least one or above the greatest.
     pub fn is_apart(&self, least: Key, greatest: Key) -> bool
-        ensures { IsTrue result → IsApart least greatest (found (changes_of self.now)) }
+        ensures apart { IsTrue result → IsApart least greatest (found (changes_of self.now)) }
+        ensures none { length self.now.keys ≡ 0 → IsTrue result }
     {
         match (self.keys.first(), self.keys.last()) {
             (Some(first), Some(last)) => *last < least || greatest < *first,

@@ -136,7 +136,8 @@ impl Runs {
 
     /// Whether each run lies apart from the keys between the two.
     pub fn is_apart(&self, least: Key, greatest: Key) -> bool
-        ensures { IsTrue result → IsApart least greatest (found (newest_first self.now.loads)) }
+        ensures apart { IsTrue result → IsApart least greatest (found (newest_first self.now.loads)) }
+        ensures none { length (newest_first self.now.loads) ≡ 0 → IsTrue result }
     {
         for run in &self.runs {
             if !run.is_apart(least, greatest) {

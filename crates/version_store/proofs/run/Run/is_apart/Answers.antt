@@ -24,14 +24,14 @@ module _ (load : Load) (up : Ascend load.keys) (keys : List Key) (same : keys �
       let at : key_cmp greatest (get_or load.keys 0 first) ≡ Less = subst (λ (ks : List Key). key_cmp greatest (get_or ks 0 first) ≡ Less) same (subst (λ (k : Key). key_cmp greatest k ≡ Less) is (less_of (key_cmp greatest first) less)) in
       found-load load.change load.keys key ∙ ap (λ (t : Bool). cond t (Some load.change) None) (apart_above load.keys up least greatest first at key within)
 
-pub returns-then-lt : goal.returns-then-lt
-returns-then-lt c = λ yes.
+pub returns-then-lt-clause-apart : goal.returns-then-lt-clause-apart
+returns-then-lt-clause-apart c = λ yes.
     let load : Load = record { keys = c.self.inside.keys.items; change = c.self.inside.change } in
     subst (λ (own : Load). IsApart c.args.least c.args.greatest (found (changes_of own))) c.self.view_is
     (below load c.self.invariant c.deref-2.result.now c.deref-2.ensures.value c.args.least c.args.greatest c.in-Some-Some.last.now (c.in-Some-Some.ensures'.item.1) (sym c.lt.ensures ∙ c.if-lt.true))
 
-pub returns-else-lt : goal.returns-else-lt
-returns-else-lt c = λ yes.
+pub returns-else-lt-clause-apart : goal.returns-else-lt-clause-apart
+returns-else-lt-clause-apart c = λ yes.
     let load : Load = record { keys = c.self.inside.keys.items; change = c.self.inside.change } in
     subst (λ (own : Load). IsApart c.args.least c.args.greatest (found (changes_of own))) c.self.view_is
     (above load c.self.invariant c.deref.result.now c.deref.ensures.value c.args.least c.args.greatest c.in-Some-Some.first.now (c.in-Some-Some.ensures.item.1) (sym c.lt-else-lt.ensures ∙ yes))
