@@ -1,9 +1,7 @@
 -- Why a key has an obstacle.
-use Rattle.std.proofs.Common.{◌≡◌, ◌≢◌, ℕ, ◌+◌, ◌<◌, ◌≤◌, ◌⊎◌, List, [], ◌∷◌, length, get_or, take, refl, sym, ap, ◌∙◌, subst, inl, inr, Bool, true, false, ◌||◌, cond, arith, Option, None, Some, Result, Ok, Err, Any, All, is_some, is_eq, Less, Equal, Greater}
-use Rattle.std.specs.Prelude.{◌==◌, is_ok, nat_lt}
+use Rattle.std.proofs.Common.{◌≡◌, ◌≢◌, ℕ, ◌+◌, ◌-◌, ◌<◌, ◌≤◌, ◌⊎◌, List, [], ◌∷◌, length, get_or, take, refl, sym, ap, ◌∙◌, subst, inl, inr, Bool, true, false, ◌||◌, cond, arith, Option, None, Some, Any, All, is_some, is_eq, Greater}
+use Rattle.std.specs.Prelude.{◌==◌, nat_lt}
 use Rattle.std.specs.List.{list_any}
-use Rattle.std.specs.List.Sorted.{IsSearchInRange, IsBinarySearchResult, IsNonDecreasingBy}
-use Rattle.std.specs.Ordering.{is_lt, ordering_index, ordering_reverse}
 use Rattle.std.specs.FinMap as finite
 use Rattle.std.proofs.lemmas.Cmp.{tied_itself}
 use Rattle.std.proofs.lemmas.List.Folds.{list_any-from_Any, Any-from_list_any}
@@ -11,7 +9,6 @@ use Rattle.std.proofs.lemmas.Bool.{cases_lt}
 use Rattle.std.proofs.lemmas.Bool.Decides.{nat_tests}
 use Rattle.std.proofs.lemmas.List.{length-take-le, get_or_default, get_or-take, take_more}
 use Rattle.std.proofs.lemmas.List.Elements.{All-push}
-use Rattle.std.proofs.lemmas.List.Sorted.{searchable_from_sorted}
 use Rattle.cs_types.specs.declared.Key.{Key}
 use Rattle.cs_types.specs.Keys.{key_cmp, same_key}
 use Rattle.cs_types.proofs.KeyLemmas.{key_total, one_key}
@@ -27,7 +24,8 @@ use Rattle.write_set.specs.declared.write.Write.{Write}
 use Rattle.txn_table.specs.declared.txn.Txn.{Txn}
 use Rattle.txn_table.specs.Txns.{Table, txn_of, own_of, Owns, OwnsAs, IsHolder}
 use Rattle.version_store.specs.declared.NewestChange.{NewestChange}
-use Rattle.version_store.specs.Newest.{Changes, above}
+use Rattle.version_store.specs.Newest.{Changes, IsApart, above}
+use Rattle.version_store.proofs.RunLaws.{within_ends}
 use Rattle.group_book.specs.Commits.{is_one_of}
 use Rattle.group_directory.specs.Stands.{IsRecent}
 use Rattle.group_directory.proofs.RecentLaws.{judged, named}
@@ -66,39 +64,21 @@ unowned (Some txn) key h = among key txn.own ∙ by (list_any (λ (write : Write
 pub free_is : (table : Table) (key : Key) (but : ℕ) → ((other : ℕ) → other ≢ but → Owns (txn_of table other) key → ⊥) → IsFree (txns_of table) but key
 free_is table key but h other apart = unowned (txn_of table other) key (h other apart)
 
--- ---- a search in ascending keys
+-- ---- keys that ascend
 
-module _ (keys : List Key) (up : Ascend keys) (key : Key) where
-  sorted : (k : ℕ) (d : Key) → k + 1 < length keys → is_lt (key_cmp (get_or keys (k + 1) d) (get_or keys k d)) ≡ false
-  sorted k d l = ap is_lt (key_total.antisymm (get_or keys (k + 1) d) (get_or keys k d) ∙ ap ordering_reverse (up k (k + 1) d (omega arith) l))
+-- no change is noted of one, where none is of a key from the first to the last
+pub none_noted : (keys : List Key) → Ascend keys → (noted : Changes) (least greatest : Key) → least ≡ get_or keys 0 least → greatest ≡ get_or keys (length keys - 1) greatest → IsApart least greatest (finite.get noted)
+    → All (λ (key : Key). finite.get noted key ≡ None) keys
+none_noted keys up noted least greatest first last none k d within = none key (
+  subst (λ (bound : Key). key_cmp bound key ≢ Greater) (sym first) (within_ends keys up least key among).0,
+  subst (λ (bound : Key). key_cmp key bound ≢ Greater) (sym last) (within_ends keys up greatest key among).1,
+)
+  where
+    key : Key
+    key = get_or keys k d
 
-  rising : IsNonDecreasingBy (λ (other : Key). ordering_index (key_cmp other key)) keys
-  rising = searchable_from_sorted key_total (λ (other : Key). other) keys key (λ k d _ l. sorted k d l)
-
-  -- a key that is there at no place
-  apart : (place k : ℕ) (d : Key) → IsBinarySearchResult (λ (other : Key). key_cmp other key) keys (Err place) → k < length keys → same_key key (get_or keys k d) ≡ true → ⊥
-  apart place k d parted within is = elim (cases_lt k place) [
-    | inl less ↦ let e = (parted rising).0 k d (omega arith) less in differ e
-    | inr more ↦ let e = (parted rising).1 k d more within in differ' e
-  ]
-    where
-      equal : key_cmp (get_or keys k d) key ≡ Equal
-      equal = ap (λ (other : Key). key_cmp other key) (sym (one_key key (get_or keys k d) is)) ∙ tied_itself key_total key
-
-      differ : key_cmp (get_or keys k d) key ≡ Less → ⊥
-      differ e = cc (equal, e)
-
-      differ' : key_cmp (get_or keys k d) key ≡ Greater → ⊥
-      differ' e = cc (equal, e)
-
-  pub searched : (r : Result ℕ ℕ) → IsSearchInRange r (length keys) → IsBinarySearchResult (λ (other : Key). key_cmp other key) keys r → is_ok r ≡ is_one_of keys key
-  searched (Ok place) within equal =
-      sym (list_any-from_Any (same_key key) keys (place, get_or keys place key, within, get_or_default keys place (get_or keys place key) key within, ap is_eq (key_total.antisymm key (get_or keys place key) ∙ ap ordering_reverse (equal key))))
-  searched (Err place) within parted = by (list_any (same_key key) keys) refl
-    where
-      by : (b : Bool) → list_any (same_key key) keys ≡ b → false ≡ b
-      by true e = let f = Any-from_list_any (same_key key) keys e in absurd (apart place f.0 f.1 parted f.2 (ap (same_key key) f.3 ∙ f.4))
-      by false e = refl
+    among : list_any (same_key (get_or keys k d)) keys ≡ true
+    among = list_any-from_Any (same_key (get_or keys k d)) keys (k, get_or keys k d, within, get_or_default keys k (get_or keys k d) d within, ap is_eq (tied_itself key_total (get_or keys k d)))
 
 -- ---- the obstacle of one key
 
@@ -150,10 +130,10 @@ module _ (m : State) (session s : ℕ) (present : List Key) (key : Key) where
     no_obstacle None none h is = (free_in, h, is)
     no_obstacle (Some refusal) none h is = absurd (cc none)
 
--- no key has one, where no other transaction has own writes, no change is noted and no key is present
+-- a key has none, where no other transaction has own writes, no change of it is noted and no key is present
 pub never_obstacle : (m : State) (session s : ℕ) (key : Key) (table : Table) (pruned : ℕ) (noted : Changes) (present : List Key) → m.txns ≡ txns_of table → IsRecent pruned noted m.changes → pruned ≤ s
-    → ((other : ℕ) → other ≢ session → own_of (txn_of table other) ≡ []) → finite.len noted ≡ 0 → present ≡ [] → IsObstacle m session (Some s) (is_one_of present) key None
-never_obstacle m session s key table pruned noted present same recent low bare few none = no_obstacle m session s present key table same free None refl unchanged (ap (λ keys. is_one_of keys key) none)
+    → ((other : ℕ) → other ≢ session → own_of (txn_of table other) ≡ []) → finite.get noted key ≡ None → present ≡ [] → IsObstacle m session (Some s) (is_one_of present) key None
+never_obstacle m session s key table pruned noted present same recent low bare fresh none = no_obstacle m session s present key table same free None refl unchanged (ap (λ keys. is_one_of keys key) none)
   where
     free : IsFree (txns_of table) session key
     free = free_is table key session (λ other apart owns. bare_owns (own_of (txn_of table other)) (bare other apart) owns)
@@ -162,7 +142,7 @@ never_obstacle m session s key table pruned noted present same recent low bare f
         bare_owns own is (k, write, within, at, h) = omega (arith, within, ap length is)
 
     unchanged : IsChanged m.changes s key None
-    unchanged = unchanged_at pruned s noted m.changes key recent low (ap (λ (map : Changes). above s (finite.get map key)) (finite.empty_of_len noted few) ∙ ap (above s) (finite.get-empty key_cmp key))
+    unchanged = unchanged_at pruned s noted m.changes key recent low (ap (above s) fresh)
 
 -- ---- the least key that has one
 

@@ -1,48 +1,25 @@
 -- The newest changes, as changes are committed and pruned.
-use Rattle.std.proofs.Common.{◌≡◌, ℕ, ◌<◌, ◌≤◌, ◌+◌, Bool, true, false, ◌||◌, cond, ltb, List, [], ◌∷◌, ◌++◌, fold, length, get_or, take, Option, Some, None, is_some, IfSome, refl, sym, ap, subst, ◌∙◌, arith}
-use Rattle.std.specs.List.{AllByRecursion, AllPairs}
-use Rattle.std.specs.declared.cmp.Ordering.TheVariants.{Less}
+use Rattle.std.proofs.Common.{◌≡◌, ℕ, ◌<◌, ◌≤◌, ◌+◌, Bool, true, false, ◌||◌, cond, ltb, List, [], ◌∷◌, ◌++◌, fold, Option, Some, None, is_some, IfSome, refl, sym, ap, subst, ◌∙◌, arith}
+use Rattle.std.specs.List.{AllByRecursion}
 use Rattle.std.specs.Option.{option_map, ForSome}
 use Rattle.std.specs.FinMap as finite
 use Rattle.std.proofs.lemmas.Bool.Decides.{nat_tests}
 use Rattle.std.proofs.lemmas.List.Sums.{fold-append}
 use Rattle.cs_types.specs.declared.Key.{Key}
 use Rattle.cs_types.specs.Keys.{key_cmp, same_key}
-use Rattle.cs_types.proofs.KeyLemmas.{key_total}
 use Rattle.cs_model.specs.Changes.{Edit, Change, newest}
 use Rattle.cs_model.specs.Obstacles.{keys_of, is_above, IsChange}
 use Rattle.cs_model.specs.Steps.{numbered}
 use Rattle.version_store.specs.declared.NewestChange.{NewestChange}
-use Rattle.version_store.specs.Newest.{Changes, above, KeepsAbove}
+use Rattle.version_store.specs.Newest.{Changes, noted_by, above, KeepsAbove}
+use Rattle.version_store.proofs.Laid.{get-noted}
 use Rattle.group_book.specs.Commits.{is_one_of}
 use Rattle.group_book.specs.Stocks.{AreChanges}
 use Rattle.group_book.proofs.Visible.{below_of}
 use Rattle.group_book.proofs.Made.{is_written}
 use Rattle.group_directory.specs.Stands.{note_of, IsRecent}
-use Rattle.group_directory.specs.Laws.{noted_by}
-use Rattle.group_directory.proofs.EndLemmas.{apart_before}
 
 -- ---- what is noted
-
-noted_step : (p q : Bool) (note : NewestChange) (o : Option NewestChange) → cond q (Some note) (cond p (Some note) o) ≡ cond (p || q) (Some note) o
-noted_step true true note o = refl
-noted_step true false note o = refl
-noted_step false q note o = refl
-
-pub get-noted : (note : NewestChange) (noted : Changes) (keys : List Key) (key : Key) → finite.get (noted_by note noted keys) key ≡ cond (is_one_of keys key) (Some note) (finite.get noted key)
-get-noted note noted [] key = refl
-get-noted note noted (k ∷ keys) key =
-    get-noted note (finite.insert noted k note) keys key
-    ∙ ap (cond (is_one_of keys key) (Some note)) (finite.get-insert key_total noted k note key)
-    ∙ noted_step (same_key key k) (is_one_of keys key) note (finite.get noted key)
-
--- a key that is not noted yet has an older change
-pub still_older : (note : NewestChange) (noted now : Changes) (keys : List Key) (i : ℕ) (d : Key) → AllPairs (λ a b. key_cmp a b ≡ Less) keys → i < length keys → now ≡ noted_by note noted (take i keys)
-    → ((key : Key) → ForSome (finite.get noted key) (λ other. other.commit < note.commit)) → ForSome (finite.get now (get_or keys i d)) (λ other. other.commit < note.commit)
-still_older note noted now keys i d up there is older other found =
-    let key : Key = get_or keys i d in
-    older key other (
-    sym (ap (λ (m : Changes). finite.get m key) is ∙ get-noted note noted (take i keys) key ∙ ap (λ (t : Bool). cond t (Some note) (finite.get noted key)) (apart_before keys i d up there)) ∙ found)
 
 keys_written : (own : List Edit) (key : Key) → is_one_of (keys_of own) key ≡ is_written own key
 keys_written [] key = refl

@@ -14,12 +14,13 @@ use Rattle.write_set.specs.declared.write.Write.{Write}
 use Rattle.txn_table.specs.declared.txn.Txn.{Txn}
 use Rattle.txn_table.specs.Txns.{with, opened, fixed, widened, Owns}
 use Rattle.version_store.specs.Newest.{Changes}
+use Rattle.version_store.proofs.Laid.{get-noted}
 use Rattle.group_book.specs.Stocks.{AreChanges}
 use Rattle.group_view.specs.Parts.{Rowed}
 use Rattle.group_view.specs.Laws.{IsRowOf}
 use Rattle.group_directory.specs.Stands.{IsRecent, AreTxns}
 use Rattle.group_directory.specs.Laws.{noted_by, MayStage}
-use Rattle.group_directory.proofs.RecentLaws.{get-noted, named, recent_none, recent_new}
+use Rattle.group_directory.proofs.RecentLaws.{named, recent_none, recent_new}
 use Rattle.group_directory.proofs.TxnLaws.{txns_none, txns_opened, txns_fixed, txns_staged, txns_committed}
 
 abbrev seven : Key

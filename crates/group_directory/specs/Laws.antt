@@ -1,5 +1,5 @@
 -- What the laws of a directory ask for and give.
-use Rattle.std.specs.Prelude.{◌≡◌, ◌≢◌, ℕ, ◌≤◌, List, [], map, fold, length, All, Contains, Option, None, Some, false}
+use Rattle.std.specs.Prelude.{◌≡◌, ◌≢◌, ℕ, ◌≤◌, List, [], map, length, All, Contains, Option, None, Some, false}
 use Rattle.std.specs.FinMap as finite
 use Rattle.cs_types.specs.declared.Key.{Key}
 use Rattle.cs_types.specs.declared.Value.{Value}
@@ -9,8 +9,7 @@ use Rattle.cs_model.specs.Obstacles.{has_row, is_above}
 use Rattle.write_set.specs.declared.write.Write.{Write}
 use Rattle.txn_table.specs.declared.txn.Txn.{Txn}
 use Rattle.txn_table.specs.Txns.{txn_of, snapshots_in, Owns}
-use Rattle.version_store.specs.declared.NewestChange.{NewestChange}
-use Rattle.version_store.specs.Newest as newest_changes
+pub use Rattle.version_store.specs.Newest.{noted_by}
 use Rattle.group_book.specs.Book.{empty}
 use Rattle.group_book.specs.Commits.{Sizes, is_in_table}
 use Rattle.group_view.specs.declared.claim.Claim.{Claim}
@@ -41,12 +40,6 @@ width_of claim = length claim.schema.value.columns
 
 abbrev pub BeginsBy : ℕ → Rowed → Type 0
 BeginsBy clock rowed = rowed.version.begin ≤ clock
-
--- ---- newest changes
-
--- with this one as the newest change of each of the keys
-abbrev pub noted_by : NewestChange → newest_changes.Changes → List Key → newest_changes.Changes
-noted_by note noted keys = fold (λ changes key. finite.insert changes key note) noted keys
 
 -- ---- open transactions
 

@@ -10,13 +10,12 @@ ghost use Rattle.write_set.specs.declared.write.Write.{Write};
 ghost use Rattle.write_set.specs.Writes.{write_keys};
 ghost use Rattle.txn_table.specs.declared.txn.Txn.{Txn};
 ghost use Rattle.txn_table.specs.Txns.{Table, txn_of, with, own_of, IsSession};
-ghost use Rattle.version_store.specs.Newest.{Newest};
+ghost use Rattle.version_store.specs.Newest.{Newest, noted_by, HasRoom};
 ghost use Rattle.group_book.specs.Commits.{draws_past};
 ghost use Rattle.group_view.specs.Books.{book_of};
 ghost use Rattle.group_view.specs.Lists.{IsHeld};
 ghost use Rattle.group_directory.specs.declared.committing.CommitRefusal.TheVariants as refusal;
 ghost use Rattle.group_directory.specs.Stands.{Stands};
-ghost use Rattle.group_directory.specs.Laws.{noted_by};
 ghost use Rattle.group_directory.specs.Committing.{after_parcel};
 ghost use Rattle.group_directory.specs.Calls.{replaced_in, commit_number, IsParcelFor, IsCommitOf, IsAsBefore};
 
@@ -66,18 +65,6 @@ fn replaced_keys(alloc: Global, own: &Own) -> Result<Vec<Key>, Memory>
     Ok(keys)
 }
 
-/// Notes the change as the newest one of each of the keys. It takes no memory.
-fn note_all(recent: &mut Recent, keys: &[Key], change: NewestChange)
-    requires ascending { buffer.Ascend keys.now }
-    requires room { length keys.now ≤ recent.old.spare }
-    requires older { (key : Key) → ForSome (finite.get recent.old.changes key) (λ other. other.commit < change.commit) }
-    ensures { recent.new.changes ≡ noted_by change recent.old.changes keys.now }
-{
-    for key in keys {
-        recent.note(*key, change);
-    }
-}
-
 /// Whether a commit of the parcel would draw a group id above 2^62.
 fn is_full(list: &GroupList, group_rows: u64, parcel: &Parcel) -> bool
     requires rows { 1 ≤ group_rows }
@@ -122,7 +109,7 @@ impl Directory {
     /// noted.
     fn note(&mut self, keys: &[Key], change: NewestChange)
         requires ascending { buffer.Ascend keys.now }
-        requires room { length keys.now ≤ self.old.recent.spare }
+        requires room { HasRoom (length keys.now) self.old.recent }
         requires older { (key : Key) → ForSome (finite.get self.old.recent.changes key) (λ other. other.commit < change.commit) }
         ensures rest { self.new ≡ record self.old { recent = self.new.recent; pruned = self.new.pruned; kept = self.new.kept } }
         ensures stands { (changes : List Change) → ((recent : Newest) → recent.changes ≡ noted_by change self.old.recent.changes keys.now → Stands (record self.old { recent = recent }) changes) → Stands self.new changes }
@@ -133,7 +120,7 @@ impl Directory {
             self.pruned = floor;
             self.kept = 0;
         } else {
-            note_all(&mut self.recent, keys, change);
+            self.recent.note_all(keys, change);
             self.prune();
         }
     }
@@ -155,7 +142,7 @@ impl Directory {
         requires ids { draws_past (book_of self.old.list) (after_parcel self.old.sizes.group_rows number ends.now parcel (book_of self.old.list)) ≡ false }
         ensures rest { self.new ≡ record self.old { list = self.new.list; recent = self.new.recent } }
         ensures noted { self.new.recent.changes ≡ self.old.recent.changes }
-        ensures room { OnOk result (length keys.now ≤ self.new.recent.spare) }
+        ensures room { OnOk result (HasRoom (length keys.now) self.new.recent) }
         ensures claims { self.new.list.claims ≡ self.old.list.claims }
         ensures book { OnOk result (book_of self.new.list ≡ after_parcel self.old.sizes.group_rows number ends.now parcel (book_of self.old.list)) }
         ensures stands { (changes : List Change) (session txn : ℕ) (list : List Write) (txns : Table) (recent : Newest) → Stands self.old changes → IsCommitOf self.old changes session keys.now ends.now parcel list
@@ -165,7 +152,7 @@ impl Directory {
         ensures same { OnErr result (IsAsBefore self.old self.new) }
         ensures refused { (changes : List Change) → Stands self.old changes → OnErr result (Stands self.new changes) }
     {
-        self.recent.reserve(keys.len())?;
+        self.recent.reserve_all(keys.len())?;
         commit(
             self.alloc,
             &mut self.list,

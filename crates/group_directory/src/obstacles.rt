@@ -1,5 +1,5 @@
 // The obstacle of a write: why it may not be laid over the own writes of its transaction.
-ghost use Rattle.std.specs.Prelude.{◌≡◌, ◌≤◌, ℕ, List, IsTrue, IsSome, IfSome, IfNone, None, Some};
+ghost use Rattle.std.specs.Prelude.{◌≡◌, ◌≤◌, ℕ, List, IsTrue, IsSome, IfSome, IfNone, None, Some, All};
 ghost use Rattle.std.specs.FinMap as finite;
 ghost use Rattle.cs_types.specs.declared.Key.{Key};
 ghost use Rattle.cs_model.specs.Changes.{Change};
@@ -60,6 +60,17 @@ fn changed(recent: &Recent, snapshot: u64, key: Key) -> Option<Refusal>
     }
 }
 
+/// Whether it can be told at once that no change of one of these keys, which ascend, is noted.
+fn are_apart(recent: &Recent, keys: &[Key]) -> bool
+    requires { Ascend keys.now }
+    ensures { IsTrue result → All (λ key. finite.get recent.now.changes key ≡ None) keys.now }
+{
+    match (keys.first(), keys.last()) {
+        (Some(least), Some(greatest)) => recent.is_apart(*least, *greatest),
+        _ => true,
+    }
+}
+
 impl Directory {
     /// The obstacle of one key: the first that applies of 1222, 3960 and 2627.
     fn obstacle_at(&self, session: u32, snapshot: u64, present: &[Key], key: Key) -> Option<Refusal>
@@ -79,18 +90,19 @@ impl Directory {
         None
     }
 
-    /// Whether no key has an obstacle, as is seen without a look at one: no other session's transaction has own writes, no change is
-    /// noted, and no key would stand twice.
-    fn has_no_obstacles(&self, session: u32, present: &[Key]) -> bool
-        ensures { IsTrue result → (m : State) (s : ℕ) (key : Key) → Stands self.now m.changes → m.txns ≡ txns_of self.now.txns → self.now.pruned ≤ s → IsObstacle m session (Some s) (is_one_of present.now) key None }
+    /// Whether none of these keys has an obstacle, as is seen without a look at each: no other session's transaction has own writes,
+    /// what is noted lies apart from the keys, and no key would stand twice.
+    fn has_no_obstacles(&self, session: u32, keys: &[Key], present: &[Key]) -> bool
+        requires { Ascend keys.now }
+        ensures { IsTrue result → (m : State) (s : ℕ) → Stands self.now m.changes → m.txns ≡ txns_of self.now.txns → self.now.pruned ≤ s → All (λ key. IsObstacle m session (Some s) (is_one_of present.now) key None) keys.now }
     {
         if !present.is_empty() {
             return false;
         }
-        if 0 < self.recent.len() {
+        if self.txns.others_write(session) {
             return false;
         }
-        !self.txns.others_write(session)
+        are_apart(&self.recent, keys)
     }
 
     /// The obstacle of a write of these keys in a session's transaction, which has a snapshot: that of the least key that has one.
@@ -108,7 +120,7 @@ impl Directory {
         let Some(snapshot) = self.txns.snapshot(session) else {
             unreachable!();
         };
-        if self.has_no_obstacles(session, present) {
+        if self.has_no_obstacles(session, keys, present) {
             return None;
         }
         for key in keys {

@@ -1,1 +1,3 @@
-pub mod Maps
+pub mod Laid
+pub mod LoadLaws
+pub mod RunLaws

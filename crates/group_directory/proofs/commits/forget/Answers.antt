@@ -4,5 +4,5 @@ use Rattle.group_directory.proofs.commits.forget.Goals as goal
 
 pub returns-else-keys-gt-UNPRUNED : goal.returns-else-keys-gt-UNPRUNED
 returns-else-keys-gt-UNPRUNED c =
-    let none : finite.len c.args.recent.now.changes ≡ 0 = omega (arith, c.len.ensures, c.if-len-gt0.false) in
+    let none : finite.len c.args.recent.now.changes ≡ 0 = omega (arith, c.len.ensures.keys, c.if-len-gt0.false) in
     finite.empty_of_len c.args.recent.now.changes none

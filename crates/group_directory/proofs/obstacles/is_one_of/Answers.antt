@@ -1,5 +1,5 @@
 use Rattle.std.proofs.Common.{◌∙◌}
-use Rattle.group_directory.proofs.ObstacleLaws.{searched}
+use Rattle.version_store.proofs.RunLaws.{searched}
 use Rattle.group_directory.proofs.obstacles.is_one_of.Goals as goal
 
 pub returns : goal.returns

@@ -12,7 +12,7 @@ returns-clause-stands c =
       groups = none.groups;
       claims = none.claims;
       book = book_none c.no_groups.result none.groups none.buffer none.claims none.next;
-      recent = c.new-3.ensures;
+      recent = c.new-3.ensures.changes;
       pruned = refl;
       txns = c.new-2.ensures.none;
     })

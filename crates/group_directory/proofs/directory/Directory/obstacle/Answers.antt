@@ -1,4 +1,4 @@
-use Rattle.std.proofs.Common.{◌≡◌, ◌≤◌, ◌+◌, All, take, Some, None, true, false, sym, subst, ◌∙◌, get_or, arith, rules, is_some}
+use Rattle.std.proofs.Common.{◌≡◌, ◌≤◌, ◌+◌, All, take, Some, None, true, false, sym, subst, ◌∙◌, arith, rules, is_some}
 use Rattle.std.proofs.lemmas.List.{take_all}
 use Rattle.std.proofs.lemmas.Option.{same_Some}
 use Rattle.cs_model.specs.Obstacles.{IsObstacle, IsJudged}
@@ -10,7 +10,7 @@ use Rattle.group_directory.proofs.directory.Directory.obstacle.Goals as goal
 pub returns-then-has_no_obstacles : goal.returns-then-has_no_obstacles
 returns-then-has_no_obstacles c = λ m s j same at.
     let low : c.args.self.now.pruned ≤ s = let pruned = j.pruned in let le = j.is_floor.least c.args.session s at in omega (arith, pruned, le) in
-    λ k d l. c.has_no_obstacles.ensures c.if-has_no_obstacles.true m s (get_or c.args.keys.now k d) j same low
+    c.has_no_obstacles.ensures c.if-has_no_obstacles.true m s j same low
 
 pub returns-then-is_some : goal.returns-then-is_some
 returns-then-is_some c = λ m s j same at.

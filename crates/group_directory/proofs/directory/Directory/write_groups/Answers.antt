@@ -20,14 +20,14 @@ commit-requires-clause-live c =
     let given = c.requires.given in
     rest_live c.args.self.now given.0 given.3 given.1 c.args.keys.now c.args.ends.now c.args.parcel given.2 given.4
 
-pub returns-in_err-reserve-clause-refused : goal.returns-in_err-reserve-clause-refused
-returns-in_err-reserve-clause-refused c = λ changes j.
-    on_err _ c.from_residual.result (stands_kept c.args.self.now changes j c.args.self.now.list c.reserve.new.self j.held refl refl refl refl c.reserve.ensures.changes)
+pub returns-in_err-reserve_all-clause-refused : goal.returns-in_err-reserve_all-clause-refused
+returns-in_err-reserve_all-clause-refused c = λ changes j.
+    on_err _ c.from_residual.result (stands_kept c.args.self.now changes j c.args.self.now.list c.reserve_all.new.self j.held refl refl refl refl c.reserve_all.ensures.changes)
 
 pub returns-in_err-commit-clause-refused : goal.returns-in_err-commit-clause-refused
 returns-in_err-commit-clause-refused c = λ changes j.
     let kept = c.in_err-commit.ensures in
-    on_err _ c.from_residual-in_err-commit.result (stands_kept c.args.self.now changes j c.commit.new.list c.reserve.new.self kept.held kept.claims kept.same kept.listed kept.kept c.reserve.ensures.changes)
+    on_err _ c.from_residual-in_err-commit.result (stands_kept c.args.self.now changes j c.commit.new.list c.reserve_all.new.self kept.held kept.claims kept.same kept.listed kept.kept c.reserve_all.ensures.changes)
 
 pub returns-clause-stands : goal.returns-clause-stands
 returns-clause-stands c = λ changes session txn list txns recent j is gone noted.
