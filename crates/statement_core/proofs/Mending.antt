@@ -32,7 +32,7 @@ use Rattle.group_view.specs.declared.claim.Product.{Product}
 use Rattle.group_view.specs.declared.claim.Product.TheVariants as product
 use Rattle.group_view.specs.declared.parts.GroupPart.{GroupPart}
 use Rattle.group_view.specs.declared.parts.GroupPart.TheVariants.{Packed, Store}
-use Rattle.group_view.specs.Parts.{Rowed, padded, packed_parts, packed_versions, ArePacked, IsFitting}
+use Rattle.group_view.specs.Parts.{Rowed, padded, packed_parts, ArePacked, IsFitting}
 use Rattle.group_view.specs.Views.{endings_of, buffer_of, rowed_of}
 use Rattle.group_view.specs.Books.{versions_of, choice_of, claim_of, book_of}
 use Rattle.group_view.specs.Claims.{kept_rowed, lent_entries, padded_rowed, rowed_of_packed, HasWork, IsEndedOnce, IsLentRow, IsMadeOf, IsMarkedOf, IsMendable, IsPackedFor, IsPackedPart, IsProductOf, IsTablePart}
@@ -40,11 +40,10 @@ use Rattle.group_view.specs.Laws.{IsRowOf}
 use Rattle.group_reports.specs.Segments as report
 use Rattle.group_reports.proofs.Lines.{parts_packed}
 use Rattle.group_directory.specs.declared.directory.Directory.{Directory}
-use Rattle.group_directory.specs.Claiming.{PartValue, part_value, valued, IsShareOf}
-use Rattle.group_directory.specs.Claiming.PartValue.{PackedValue, StoreValue}
+use Rattle.group_directory.specs.Claiming.{IsShareOf}
 use Rattle.group_directory.specs.Stands.{IsLoanOf, Stands}
 use Rattle.group_directory.proofs.BookLaws.{each_claim, lent_versions}
-use Rattle.group_directory.proofs.ClaimLaws.{share_fits, share_packed, shared_parts}
+use Rattle.group_directory.proofs.ClaimLaws.{share_fits, share_packed}
 use Rattle.group_directory.proofs.GroupLaws.{same_lent}
 use Rattle.statement_core.specs.Fit.{AreFitting}
 use Rattle.statement_core.proofs.Reports.{cell_kept, changes_fit, made_row, row_held, row_under}
@@ -152,17 +151,11 @@ module _ (d : Directory) (changes : List Change) (held : Actor × Claim) (j : St
 
 -- ---- a share of a claim
 
-zip_mapped : {X Y Z : Type 0} (f : X → Y) (P : X → Z → Type 0) (Q : Y → Z → Type 0) → ((x : X) (z : Z) → P x z → Q (f x) z) → (xs : List X) (zs : List Z) → AllZip P xs zs → AllZip Q (map f xs) zs
-zip_mapped f P Q h [] [] all = tt
-zip_mapped f P Q h [] (z ∷ zs) all = all
-zip_mapped f P Q h (x ∷ xs) [] all = all
-zip_mapped f P Q h (x ∷ xs) (z ∷ zs) all = (h x z all.0, zip_mapped f P Q h xs zs all.1)
-
-zip_unmapped : {X Y Z : Type 0} (f : X → Y) (Q : Y → Z → Type 0) (P : X → Z → Type 0) → ((x : X) (z : Z) → Q (f x) z → P x z) → (xs : List X) (zs : List Z) → AllZip Q (map f xs) zs → AllZip P xs zs
-zip_unmapped f Q P h [] [] all = tt
-zip_unmapped f Q P h [] (z ∷ zs) all = all
-zip_unmapped f Q P h (x ∷ xs) [] all = all
-zip_unmapped f Q P h (x ∷ xs) (z ∷ zs) all = (h x z all.0, zip_unmapped f Q P h xs zs all.1)
+zip_weaker : {X Z : Type 0} (P Q : X → Z → Type 0) → ((x : X) (z : Z) → P x z → Q x z) → (xs : List X) (zs : List Z) → AllZip P xs zs → AllZip Q xs zs
+zip_weaker P Q h [] [] all = tt
+zip_weaker P Q h [] (z ∷ zs) all = all
+zip_weaker P Q h (x ∷ xs) [] all = all
+zip_weaker P Q h (x ∷ xs) (z ∷ zs) all = (h x z all.0, zip_weaker P Q h xs zs all.1)
 
 module _ (a b : Claim) (share : IsShareOf a b) where
   rows : rowed_of b.view ≡ rowed_of a.view
@@ -179,18 +172,6 @@ module _ (a b : Claim) (share : IsShareOf a b) where
 
   -- ---- its work
 
-  abbrev IsTableValue : Schema → PartValue → Type 0
-  IsTableValue schema (PackedValue group marks) = (group.width ≡ length schema.columns) × (group.key ≡ schema.key)
-  IsTableValue schema (StoreValue versions) = Unit {0}
-
-  to_table : (schema : Schema) (part : GroupPart) → IsTablePart schema part → IsTableValue schema (part_value part)
-  to_table schema (Packed group marks) is = is
-  to_table schema (Store store) is = tt
-
-  from_table : (schema : Schema) (part : GroupPart) → IsTableValue schema (part_value part) → IsTablePart schema part
-  from_table schema (Packed group marks) is = is
-  from_table schema (Store store) is = tt
-
   shared_work : (made : book.Choice) → HasWork a made → HasWork b made
   shared_work (Compress source) is = tt
   shared_work Flush is = (share_packed a b share is.0, ap endings_of share.entries ∙ is.1 ∙ sym entries)
@@ -206,7 +187,7 @@ module _ (a b : Claim) (share : IsShareOf a b) where
     work = subst (HasWork b) (sym kind) (shared_work (choice_of a.choice) is.work);
     fitting = share_fits a b share is.fitting;
     parts = subst (λ (s : Schema). All (λ (part : ℕ × GroupPart). IsTablePart s part.1) b.view.groups) (sym share.schema)
-        (shared_parts (IsTablePart a.schema.value) (IsTableValue a.schema.value) (to_table a.schema.value) (from_table a.schema.value) a b share is.parts);
+        (subst (All (λ (part : ℕ × GroupPart). IsTablePart a.schema.value part.1)) (sym share.groups) is.parts);
     rows = subst (λ (s : Schema). All (IsLentRow s) (rowed_of b.view)) (sym share.schema) (subst (All (IsLentRow a.schema.value)) (sym rows) is.rows);
     ends = subst (λ (l : List Rowed). All (IsEndedOnce b.floor (lent_entries b)) (versions_of l)) (sym rows)
         (subst (λ (es : List Ending). All (IsEndedOnce b.floor es) (versions_of (rowed_of a.view))) (sym entries) (subst (λ (f : ℕ). All (IsEndedOnce f (lent_entries a)) (versions_of (rowed_of a.view))) (sym share.floor) is.ends));
@@ -223,25 +204,14 @@ module _ (a b : Claim) (share : IsShareOf a b) where
       subst (λ (s : Schema). IsPermutation (map (padded_rowed (length s.columns)) (kept_rowed a)) (rowed_of_packed group.0.value group.1.value) × (0 < length (kept_rowed a)) × IsPackedFor s group.0.value group.1.value) share.schema
       (subst (λ (l : List Rowed). IsPermutation (map (padded_rowed (length b.schema.value.columns)) l) (rowed_of_packed group.0.value group.1.value) × (0 < length l) × IsPackedFor b.schema.value group.0.value group.1.value) kept is)
 
-  abbrev IsMarkedValue : ℕ × PartValue → ℕ × Arc Marks Global → Type 0
-  IsMarkedValue (id, PackedValue group marks) marked =
-      (marked.0 ≡ id)
-      × (length marked.1.value ≡ length marks)
-      × (versions_of (packed_versions group.key group.rows marked.1.value) ≡ map (flushed (buffer_of a.view) (lent_entries a)) (versions_of (packed_versions group.key group.rows marks)))
-  IsMarkedValue (id, StoreValue versions) marked = ⊥
-
-  to_marked : (part : ℕ × GroupPart) (marked : ℕ × Arc Marks Global) → IsMarkedOf b part marked → IsMarkedValue (valued part) marked
-  to_marked (id, Packed group marks) marked is = (is.0, is.1, is.2 ∙ (λ i. map (flushed (buffer i) (entries i)) (versions_of (rowed_of_packed group.value marks.value))))
-  to_marked (id, Store store) marked is = is
-
-  from_marked : (part : ℕ × GroupPart) (marked : ℕ × Arc Marks Global) → IsMarkedValue (valued part) marked → IsMarkedOf a part marked
-  from_marked (id, Packed group marks) marked is = is
-  from_marked (id, Store store) marked is = is
+  shared_marked : (part : ℕ × GroupPart) (marked : ℕ × Arc Marks Global) → IsMarkedOf b part marked → IsMarkedOf a part marked
+  shared_marked (id, Packed group marks) marked is = (is.0, is.1, is.2 ∙ (λ i. map (flushed (buffer i) (entries i)) (versions_of (rowed_of_packed group.value marks.value))))
+  shared_marked (id, Store store) marked is = is
 
   pub shared_product : (given : Product) → IsProductOf b given → IsProductOf a given
   shared_product (product.Group group spent) is =
       (ap makes_group (sym kind) ∙ is.0, shared_made group is.1, is.2 ∙ (λ i. filter (λ (entry : Ending). nat_le entry.end (share.floor i)) (entries i)))
   shared_product (product.Marked marks) is = (
     sym kind ∙ is.0,
-    zip_unmapped valued IsMarkedValue (IsMarkedOf a) from_marked a.view.groups marks (subst (λ (values : List (ℕ × PartValue)). AllZip IsMarkedValue values marks) share.groups (zip_mapped valued (IsMarkedOf b) IsMarkedValue to_marked b.view.groups marks is.1)),
+    zip_weaker (IsMarkedOf b) (IsMarkedOf a) shared_marked a.view.groups marks (subst (λ (parts : List (ℕ × GroupPart)). AllZip (IsMarkedOf b) parts marks) share.groups is.1),
   )

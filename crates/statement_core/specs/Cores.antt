@@ -1,9 +1,7 @@
 -- What the type of a core keeps, and what its calls ask for.
-use Rattle.std.specs.Prelude.{◌≡◌, ℕ, ◌+◌, ◌≤◌, ◌<◌, List, length, All, Bool}
+use Rattle.std.specs.Prelude.{◌≡◌, ℕ, ◌+◌, ◌≤◌, ◌<◌, List, length, All}
 use Rattle.cs_types.specs.Schemas.{IsSchema}
-use Rattle.cs_model.specs.declared.entry.Bound.{Bound}
 use Rattle.cs_model.specs.declared.entry.Entry.{Entry}
-use Rattle.cs_model.specs.declared.entry.Entry.TheVariants.{Start, Finish, End, Mover}
 use Rattle.cs_model.specs.Actors.{owed}
 use Rattle.cs_model.specs.Changes.{Change}
 use Rattle.cs_model.specs.State.{Begin}
