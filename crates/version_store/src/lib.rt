@@ -3,7 +3,8 @@
 //!
 //! Its one contract: a `Recent` is a finite map from keys to their newest changes, and each call changes exactly the keys
 //! that it names, but for a prune, which drops the changes that no open snapshot can precede. The keys of a large commit are
-//! kept as they come, in one ascending run, and not one by one. It stands on `cs_base` and `cs_types`. By the manual pages on SNAPSHOT isolation a write of a row that was changed after the snapshot is refused.
+//! kept as they come, in one ascending run, and not one by one. It stands on `cs_base` and `cs_types`. By the manual pages on
+//! SNAPSHOT isolation a write of a row that was changed after the snapshot is refused.
 #![tactic(auto)]
 
 mod run;
