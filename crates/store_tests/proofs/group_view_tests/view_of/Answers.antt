@@ -1,4 +1,4 @@
-use Rattle.std.proofs.Common.{ℕ, []}
+use Rattle.std.proofs.Common.{ℕ, [], ◌∙◌}
 use Rattle.std.specs.List.{All}
 use Rattle.std.proofs.lemmas.List.Elements.{All-nil, All-push, All-same}
 use Rattle.group_view.specs.declared.parts.GroupPart.{GroupPart}
@@ -15,4 +15,4 @@ returns g c =
     All-same IsFit c.push.new.self _ c.in_ok-push.ensures.ok (All-push IsFit c.new-groups.result (1, c.in_ok-stored.field-0) none c.in_ok-stored.ensures) in
     let both : All IsFit c.push-2.new.self =
     All-same IsFit c.push-2.new.self _ c.in_ok-push-2.ensures.ok (All-push IsFit c.push.new.self (4, c.in_ok-part.part) one c.in_ok-part.ensures) in
-    All-same IsFit c.groups-2.inside.items.items c.push-2.new.self c.groups-2.view_is both
+    All-same IsFit c.in_ok-from_vec.field-0 c.push-2.new.self (c.in_ok-from_vec.ensures ∙ c.into_vec.ensures) both
