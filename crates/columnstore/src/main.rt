@@ -6,7 +6,8 @@
 //! were asked for, or it is the script that was drawn; and every other status but want of memory, which is free, has its cause. Where
 //! a run on threads stopped for want of memory, the text is that of such a log with the first of each session's turns. It depends on
 //! `cs_outside`, `command_words`, `script_workload` with its law, `script_reader`, `script_runner`, `session_pool`, `statement_work`,
-//! `statement_core` and `log_summary`, for what its clauses say on `cs_model`, `group_book` and `group_log`, and on `cs_types` and `cs_base`.
+//! `statement_core` and `log_summary`, for what its clauses say on `cs_model`, `group_book` and `group_log`, and on `cs_types` and
+//! `cs_base`.
 #![tactic(auto)]
 
 mod answer;

@@ -1,5 +1,5 @@
 // The groups of a list, and what views share of them.
-ghost use Rattle.std.specs.Prelude.{◌≡◌, ◌+◌, ◌*◌, ◌<◌, ◌≤◌, ◌++◌, ◌∷◌, [], List, map, length, slice_index_or, take, drop, All, IfOk, OnOk, OnErr, vec_len, vec_capacity};
+ghost use Rattle.std.specs.Prelude.{◌≡◌, ◌↔◌, ◌+◌, ◌*◌, ◌<◌, ◌≤◌, ◌++◌, ◌∷◌, [], List, map, length, slice_index_or, take, drop, All, IsTrue, IfOk, OnOk, OnErr, vec_len, vec_capacity};
 ghost use Rattle.group_view.specs.Contents.{IsFittingContent};
 ghost use Rattle.group_view.specs.Seen.{seen, Seen};
 ghost use Rattle.group_view.specs.Shares.{chunk_in, parts_of, AreShared, HaveLower, HaveOthers, IsShareOf};
@@ -176,7 +176,9 @@ impl Groups {
     }
 
     /// Whether there is no group.
-    pub fn is_empty(&self) -> bool {
+    pub fn is_empty(&self) -> bool
+        ensures { IsTrue result ↔ (self.now.items ≡ []) }
+    {
         self.items.is_empty()
     }
 
@@ -209,8 +211,9 @@ impl Groups {
         self.items.push_reserved(group);
     }
 
-    /// What a view shows of the groups. Only what has changed since the last view is made anew, a chunk at a time, so that it takes time for
-    /// each chunk, and memory. After `Memory` the groups are the same, but that some stores may be ones that can be shared.
+    /// What a view shows of the groups. Only what has changed since the last view is made anew, a chunk at a time, so that it
+    /// takes time for each chunk, and memory. After `Memory` the groups are the same, but that some stores may be ones that can be
+    /// shared.
     pub fn share(&mut self, alloc: Global) -> Result<SharedList<(u64, GroupPart)>, Memory>
         requires { All (λ group. IsFittingContent group.content) self.old.items }
         ensures seen { map seen self.new.items ≡ map seen self.old.items }

@@ -82,8 +82,8 @@ fn run_script<R: Threads + Wait, D: Desk>(
 }
 
 /// Runs the steps of a script, and then ends its sessions in the order of their numbers. `Memory` comes where there is no room
-/// for a Start or a mover's claim; the log has the events of the lines before it then. Conditions: the runner is new, its core was made with the
-/// script's table and serves its sessions, and the script can be run, as one that `read_script` gives.
+/// for a Start or a mover's claim; the log has the events of the lines before it then. Conditions: the runner is new, its core was
+/// made with the script's table and serves its sessions, and the script can be run, as one that `read_script` gives.
 pub fn run_schedule<R: Threads + Wait, D: Desk>(
     rt: &R,
     runner: &mut Runner,
