@@ -15,7 +15,8 @@ use Rattle.row_group.specs.Fields.{begin_in, AreStamps}
 use Rattle.group_book.specs.Book.{Ending}
 use Rattle.group_book.proofs.Keys.{key_here, key_is}
 use Rattle.group_view.specs.Views.{endings_of}
-use Rattle.batch_scan.specs.Hidden.{is_begun_below, is_ended_by, is_of_key, is_one_of, is_written, key_at, Adds}
+use Rattle.group_view.specs.Spans.{key_at}
+use Rattle.batch_scan.specs.Hidden.{is_begun_below, is_ended_by, is_of_key, is_one_of, is_written, Adds}
 
 pub or_false : (b : Bool) → (b || false) ≡ b
 or_false true = refl

@@ -1,28 +1,20 @@
 -- Positions of a packed group whose versions a statement does not read.
-use Rattle.std.specs.Prelude.{◌≡◌, ◌<◌, ◌≤ℤ◌, ◌==◌, ◌&&◌, ◌||◌, ℕ, Bool, true, not, nat_le, nat_lt, List, length, All, Option, None, Some}
+use Rattle.std.specs.Prelude.{◌≡◌, ◌<◌, ◌==◌, ◌&&◌, ◌||◌, ℕ, Bool, true, not, nat_le, nat_lt, List, length, All, Option, None, Some}
 use Rattle.std.specs.List.{list_any}
 use Rattle.cs_types.specs.declared.Key.{Key}
 use Rattle.cs_types.specs.Keys.{same_key}
-use Rattle.cs_types.specs.Rows.{key_in}
 use Rattle.write_set.specs.declared.write.Write.{Write}
 use Rattle.edit_laws.specs.Edits.{writes_key}
 use Rattle.delete_buffer.specs.Entries.{Entry}
 use Rattle.row_group.specs.Groups.{Group, row_at}
 use Rattle.group_book.specs.Book.{is_buffered}
 use Rattle.group_view.specs.declared.view.Pinned.{Pinned}
+use Rattle.group_view.specs.Spans.{key_at}
 use Rattle.group_view.specs.Views.{endings_of}
 
 -- whether a position is one of these
 abbrev pub is_one_of : List ℕ → ℕ → Bool
 is_one_of positions position = list_any (λ other. other == position) positions
-
--- the key of the row at a position
-abbrev pub key_at : Group → ℕ → Key
-key_at group position = key_in group.key (row_at group position).cells
-
--- the keys of the rows of a group lie from the least to the greatest
-abbrev pub AreKeysBetween : Key → Key → Group → Type 0
-AreKeysBetween least greatest group = (position : ℕ) → position < length group.rows → (least.0 ≤ℤ (key_at group position).0) × ((key_at group position).0 ≤ℤ greatest.0)
 
 -- the row at a position begins above s
 abbrev pub begins_late : ℕ → Group → ℕ → Bool

@@ -1,14 +1,13 @@
 // The positions of a packed group whose versions a statement does not read, whatever the group's bitmap says.
-ghost use Rattle.std.specs.Prelude.{◌≡◌, ◌<◌, ◌≤◌, ◌<ℤ◌, ℕ, Option, length, slice_index_or, All, IfNone, IfOk, IfSome, OnOk, None, Some};
-ghost use Rattle.std.specs.Ordering.{is_lt};
-ghost use Rattle.cs_types.specs.Keys.{key_cmp};
+ghost use Rattle.std.specs.Prelude.{◌≡◌, ◌<◌, ◌≤◌, ◌<ℤ◌, ℕ, Option, length, slice_index_or, All, IfOk, OnOk, None, Some};
 ghost use Rattle.write_set.specs.declared.write.Write.{Write};
-ghost use Rattle.delete_buffer.specs.Entries.{Entry, AreInOrder};
-ghost use Rattle.batch_scan.specs.Hidden.{begins_late, is_begun_below, is_ended_by, is_hidden, is_of_key, is_one_of, is_written, Adds, AreKeysBetween};
+ghost use Rattle.delete_buffer.specs.Entries.{AreInOrder};
+ghost use Rattle.group_view.specs.Spans.{AreKeysBetween};
+ghost use Rattle.batch_scan.specs.Hidden.{begins_late, is_begun_below, is_ended_by, is_hidden, is_of_key, is_one_of, is_written, Adds};
 
 use cs_base::Memory;
 use cs_types::Key;
-use group_view::Pinned;
+use group_view::{Pinned, entries_within, key_bounds};
 use row_group::Packed;
 use std::alloc::Global;
 use write_set::Own;
@@ -51,20 +50,6 @@ fn add_late(hidden: &mut Vec<usize>, packed: &Packed, s: u64) -> Result<(), Memo
     }
 }
 
-/// The least and the greatest key of a group. None where it has no row.
-fn key_bounds(packed: &Packed) -> Option<(Key, Key)>
-    ensures some { IfSome result (λ bounds. AreKeysBetween bounds.0 bounds.1 packed.now) }
-    ensures none { IfNone result (length packed.now.rows ≡ 0) }
-{
-    let count = packed.places().len();
-    if count == 0 {
-        return None;
-    }
-    let least = packed.key_at(packed.place(0));
-    let greatest = packed.key_at(packed.place(count - 1));
-    Some((least, greatest))
-}
-
 /// Whether a begin is below an end. Where there is no end, each is.
 fn is_below(begin: u64, end: Option<u64>) -> bool
     ensures { result ≡ is_begun_below end begin }
@@ -96,39 +81,21 @@ fn add_key(
     Ok(places.from)
 }
 
-/// How many entries of a delete buffer have keys below this one.
-fn entries_below(entries: &[(Key, u64)], key: Key) -> usize
-    requires { AreInOrder entries.now }
-    ensures { (i : ℕ) (d : Entry) → i < result → i < length entries.now → (slice_index_or entries.now i d).0.0 <ℤ key.0 }
-{
-    entries.partition_point(
-        |entry: &(Key, u64)| -> bool
-            ensures { result ≡ is_lt (key_cmp entry.now.0 key) }
-        { entry.0 < key },
-    )
-}
-
 /// Adds the positions of the rows that entries of a delete buffer have ended for the snapshot `s`. Only entries of keys from the
 /// least to the greatest of the group are looked up.
 fn add_buffered(
     hidden: &mut Vec<usize>,
     packed: &Packed,
-    least: Key,
-    greatest: Key,
     entries: &[(Key, u64)],
     s: u64,
 ) -> Result<(), Memory>
-    requires keys { AreKeysBetween least greatest packed.now }
-    requires order { AreInOrder entries.now }
+    requires { AreInOrder entries.now }
     ensures { OnOk result (Adds packed.now (is_ended_by entries.now s packed.now) hidden.old.items hidden.new.items) }
 {
-    let from = entries_below(entries, least);
+    let span = entries_within(packed, entries);
     let mut near = 0;
-    for i in from..entries.len() {
+    for i in span.from..span.to {
         let (key, end) = entries[i];
-        if key > greatest {
-            return Ok(());
-        }
         if end <= s {
             near = add_key(hidden, packed, near, key, Some(end))?;
         }
@@ -194,7 +161,7 @@ pub fn hidden_positions(
     let s = pinned.snapshot;
     let entries = pinned.view.buffer().as_slice();
     add_late(&mut hidden, packed, s)?;
-    add_buffered(&mut hidden, packed, least, greatest, entries, s)?;
+    add_buffered(&mut hidden, packed, entries, s)?;
     add_own(&mut hidden, packed, least, greatest, &pinned.own)?;
     Ok(hidden)
 }

@@ -1,9 +1,11 @@
 -- The groups that a turn may take, by tests of one group at a time.
-use Rattle.std.proofs.Common.{◌≡◌, ℕ, ◌<◌, ◌≤◌, Bool, true, false, ◌&&◌, ◌||◌, leb, List, [], ◌∷◌, map, filter, length, get_or, take, not, cond, None, Some, refl, sym, ap, ◌∙◌}
+use Rattle.std.proofs.Common.{◌≡◌, ℕ, ◌+◌, ◌<◌, ◌≤◌, Bool, true, false, ◌&&◌, ◌||◌, leb, List, [], ◌∷◌, ◌++◌, map, filter, length, get_or, take, not, cond, None, Some, refl, sym, ap, ◌∙◌}
 use Rattle.std.specs.Prelude.{◌==◌}
 use Rattle.std.specs.List.{list_any}
 use Rattle.std.specs.Option.{option_map}
 use Rattle.std.proofs.lemmas.Bool.{and_from}
+use Rattle.std.proofs.lemmas.List.{map-append, take_all, take_more}
+use Rattle.std.proofs.lemmas.List.Elements.{filter-append}
 use Rattle.std.proofs.lemmas.List.Folds.{list_any-append, list_any_at}
 use Rattle.delete_buffer.specs.Entries.{Entry}
 use Rattle.cs_model.specs.declared.work.Actor.{Actor}
@@ -17,7 +19,8 @@ use Rattle.group_view.specs.declared.groups.GroupList.{GroupList}
 use Rattle.group_view.specs.Books.{book_of, claim_of, group_of}
 use Rattle.group_view.specs.Views.{endings_of}
 use Rattle.group_view.specs.Walks.{ends_in, is_free_packed}
-use Rattle.group_view.proofs.Walks.{and_turned, any-filter, any-map, any_alike, any_done, filter-filter, filter-map, filter_same, first_found, first_none, keeps_one}
+use Rattle.group_view.proofs.Noted.{any_more}
+use Rattle.group_view.proofs.Walks.{and_false, and_true, and_turned, or_false, map_same, any_both, any_turned, any-filter, any-map, any_alike, any_done, filter-filter, filter-map, filter_same, first_found, first_none, keeps_one}
 
 -- ---- claims
 
@@ -115,12 +118,22 @@ module _ (book : Book) (test : Group → Bool) (groups : List Kept) where
 abbrev pub is_flushed : GroupList → Entry → Bool
 is_flushed list entry = list_any (ends (book_of list).buffer (record { key = entry.0; end = entry.1 })) (frozen (free_packed (book_of list)))
 
--- whether a flush has an entry, and which, by the list's own entries
-pub flushed_one : (list : GroupList) → leb 1 (length (flushable (book_of list))) ≡ list_any (is_flushed list) list.buffer.entries
-flushed_one list =
-    keeps_one (λ entry. list_any (ends (book_of list).buffer entry) (frozen (free_packed (book_of list)))) (book_of list).buffer
-    ∙ any-map (λ (entry : Ending). list_any (ends (book_of list).buffer entry) (frozen (free_packed (book_of list)))) (λ (entry : Entry). record { key = entry.0; end = entry.1 }) list.buffer.entries
+-- one of some entries ends a version of the group, which is COMPRESSED and which no claim has
+any_within : (c n : Bool) (e : Ending → Bool) (xs : List Ending) → list_any (λ x. (c && e x) && n) xs ≡ ((c && list_any e xs) && n)
+any_within true true e xs = any_alike (λ x. e x && true) e xs (λ x. and_true (e x)) ∙ sym (and_true (list_any e xs))
+any_within true false e xs = any_alike (λ x. e x && false) (λ x. false) xs (λ x. and_false (e x)) ∙ any_both false e xs ∙ sym (and_false (list_any e xs))
+any_within false n e xs = any_both false e xs
 
+-- whether a flush has an entry, group by group
+pub flushed_one : (book : Book) → leb 1 (length (flushable book)) ≡ list_any (takes_packed book.claims (λ group. list_any (ends_in book.buffer group) book.buffer)) book.groups
+flushed_one book =
+    keeps_one (λ entry. list_any (ends book.buffer entry) (frozen (free_packed book))) book.buffer
+    ∙ any_alike (λ entry. list_any (ends book.buffer entry) (frozen (free_packed book))) (λ entry. list_any (takes_packed book.claims (λ group. ends_in book.buffer group entry)) book.groups) book.buffer (λ entry. any_packed book (ends book.buffer entry))
+    ∙ any_turned (λ entry. takes_packed book.claims (λ group. ends_in book.buffer group entry)) book.buffer book.groups
+    ∙ any_alike (λ group. list_any (λ entry. takes_packed book.claims (λ other. ends_in book.buffer other entry) group) book.buffer) (takes_packed book.claims (λ group. list_any (ends_in book.buffer group) book.buffer)) book.groups (λ group.
+    any_within (is_compressed group.content) (not (is_claimed book.claims group)) (ends_in book.buffer group) book.buffer)
+
+-- which entries it has, by the list's own
 pub flushed_all : (list : GroupList) → endings_of (filter (is_flushed list) list.buffer.entries) ≡ flushable (book_of list)
 flushed_all list = sym (filter-map (λ (entry : Ending). list_any (ends (book_of list).buffer entry) (frozen (free_packed (book_of list)))) (λ (entry : Entry). record { key = entry.0; end = entry.1 }) list.buffer.entries)
 
@@ -133,8 +146,59 @@ ids_kept q (group ∷ groups) = step (q (group_of group)) (ids_kept q groups)
     step true rest = ap (λ (ids : List ℕ). group.id ∷ ids) rest
     step false rest = rest
 
+-- one group more, which the test keeps or not
+pub ids_more : (q : Group → Bool) (groups : List Kept) (n : ℕ) (group : Kept) (t : Bool) → n < length groups → get_or groups n group ≡ group → q (group_of group) ≡ t
+    → map (λ (g : Kept). g.id) (filter (λ g. q (group_of g)) (take (n + 1) groups)) ≡ map (λ (g : Kept). g.id) (filter (λ g. q (group_of g)) (take n groups)) ++ cond t (group.id ∷ []) []
+ids_more q groups n group t there at is =
+    let kept = filter (λ (g : Kept). q (group_of g)) (take n groups) in
+    ap (λ (gs : List Kept). map (λ (g : Kept). g.id) (filter (λ g. q (group_of g)) gs)) (take_more groups n group there ∙ ap (λ (g : Kept). take n groups ++ g ∷ []) at)
+    ∙ ap (map (λ (g : Kept). g.id)) (filter-append (λ (g : Kept). q (group_of g)) (take n groups) (group ∷ []))
+    ∙ map-append (λ (g : Kept). g.id) kept (cond (q (group_of group)) (group ∷ []) [])
+    ∙ ap (λ (b : Bool). map (λ (g : Kept). g.id) kept ++ map (λ (g : Kept). g.id) (cond b (group ∷ []) [])) is
+    ∙ ap (λ (ids : List ℕ). map (λ (g : Kept). g.id) kept ++ ids) (step t)
+  where
+    step : (b : Bool) → map (λ (g : Kept). g.id) (cond b (group ∷ []) []) ≡ cond b (group.id ∷ []) []
+    step true = refl
+    step false = refl
+
 pub sources_kept : (list : GroupList) → flush_sources (book_of list) ≡ map (λ (group : Kept). group.id) (filter (λ group. takes_packed (book_of list).claims (λ other. list_any (ends_in (book_of list).buffer other) (book_of list).buffer) (group_of group)) list.groups.items)
 sources_kept list =
     let book = book_of list in
     ap (map (λ (group : Group). group.id)) (packed_kept book (λ group. list_any (ends_in book.buffer group) book.buffer))
     ∙ ids_kept (takes_packed book.claims (λ group. list_any (ends_in book.buffer group) book.buffer)) list.groups.items
+
+-- ---- what a walk over the groups notes of the entries
+
+module _ (claims : List Claim) (buffer : List Ending) (groups : List Kept) where
+  -- the entry ends a version of one of the first groups that is COMPRESSED and that no claim has
+  abbrev pub noted_by : ℕ → Ending → Bool
+  noted_by n entry = list_any (λ group. takes_packed claims (λ other. ends_in buffer other entry) (group_of group)) (take n groups)
+
+  noted_more : (n : ℕ) (group : Kept) → n < length groups → get_or groups n group ≡ group → (entry : Ending) → noted_by (n + 1) entry ≡ (noted_by n entry || takes_packed claims (λ other. ends_in buffer other entry) (group_of group))
+  noted_more n group there at entry =
+      any_more (λ other. takes_packed claims (λ g. ends_in buffer g entry) (group_of other)) groups n group there
+      ∙ ap (λ (g : Kept). noted_by n entry || takes_packed claims (λ other. ends_in buffer other entry) (group_of g)) at
+
+  -- one group more, which a claim has, or none
+  pub noted_claimed : (n : ℕ) (group : Kept) → n < length groups → get_or groups n group ≡ group → is_claimed claims (group_of group) ≡ true → map (noted_by n) buffer ≡ map (noted_by (n + 1)) buffer
+  noted_claimed n group there at claimed = map_same (noted_by n) (noted_by (n + 1)) buffer (λ entry.
+      sym (noted_more n group there at entry
+      ∙ ap (λ (t : Bool). noted_by n entry || ((is_compressed (group_of group).content && ends_in buffer (group_of group) entry) && not t)) claimed
+      ∙ ap (λ (t : Bool). noted_by n entry || t) (and_false (is_compressed (group_of group).content && ends_in buffer (group_of group) entry))
+      ∙ or_false (noted_by n entry)))
+
+  pub noted_free : (n : ℕ) (group : Kept) → n < length groups → get_or groups n group ≡ group → is_claimed claims (group_of group) ≡ false
+      → map (λ entry. noted_by n entry || (is_compressed (group_of group).content && ends_in buffer (group_of group) entry)) buffer ≡ map (noted_by (n + 1)) buffer
+  noted_free n group there at unclaimed = map_same (λ entry. noted_by n entry || (is_compressed (group_of group).content && ends_in buffer (group_of group) entry)) (noted_by (n + 1)) buffer (λ entry.
+      sym (noted_more n group there at entry
+      ∙ ap (λ (t : Bool). noted_by n entry || ((is_compressed (group_of group).content && ends_in buffer (group_of group) entry) && not t)) unclaimed
+      ∙ ap (λ (t : Bool). noted_by n entry || t) (and_true (is_compressed (group_of group).content && ends_in buffer (group_of group) entry))))
+
+-- once all groups are passed these are the entries of a flush
+pub noted_flushed : (list : GroupList) (n : ℕ) → length list.groups.items ≤ n
+    → map (noted_by (book_of list).claims (book_of list).buffer list.groups.items n) (book_of list).buffer ≡ map (λ entry. list_any (ends (book_of list).buffer entry) (frozen (free_packed (book_of list)))) (book_of list).buffer
+noted_flushed list n all =
+    let book = book_of list in
+    map_same (noted_by book.claims book.buffer list.groups.items n) (λ entry. list_any (ends book.buffer entry) (frozen (free_packed book))) book.buffer (λ entry.
+    ap (list_any (λ group. takes_packed book.claims (λ other. ends_in book.buffer other entry) (group_of group))) (take_all n list.groups.items all)
+    ∙ sym (any_packed book (ends book.buffer entry) ∙ any-map (takes_packed book.claims (λ other. ends_in book.buffer other entry)) group_of list.groups.items))

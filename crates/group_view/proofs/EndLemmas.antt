@@ -20,6 +20,7 @@ use Rattle.group_book.specs.Turns.{ends, is_number, least_entry, lesser, unless_
 use Rattle.group_book.proofs.Keys.{key_here, key_is}
 use Rattle.group_book.proofs.Lists.{weaker}
 use Rattle.group_view.specs.Parts.{Rowed, end_of_mark, packed_versions}
+use Rattle.group_view.specs.Spans.{HasNoRowOf}
 use Rattle.group_view.specs.Books.{versions_of}
 use Rattle.group_view.specs.Views.{endings_of}
 use Rattle.group_view.proofs.Versions.{packed_is, packed_within}
@@ -193,3 +194,12 @@ module _ (group : Group) (marks : List (Option MarkedEnd)) (entries : List Entry
         let same = and_parts (same_key key parts.0.key) _ parts.2 in
         let found = places.every position inside.0 (sym (own_key position parts.0 parts.1) ∙ key_is key parts.0.key same.0) in
         none found.0 found.1 found.2 (subst EndsAt (sym found.3) ended))
+
+  -- no row of the group has the key
+  pub no_row_ended : HasNoRowOf group key → list_any (ends (endings_of entries) (record { key = key; end = end })) (versions group marks) ≡ false
+  no_row_ended none = none_ended 0 0 (record {
+    ordered = omega arith;
+    within = omega arith;
+    of_key = λ i low high. absurd (omega (arith, high));
+    every = λ position inside same. absurd (none position inside same);
+  }) (λ i low high ended. absurd (omega (arith, high)))

@@ -6,8 +6,10 @@ pub mod Tables
 pub mod Listed
 pub mod Looked
 pub mod Walks
+pub mod Spans
 pub mod Chosen
 pub mod Counted
 pub mod EndLemmas
+pub mod Noted
 pub mod PairLemmas
 pub mod ShareLemmas

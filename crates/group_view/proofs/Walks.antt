@@ -34,6 +34,10 @@ pub filter_same : {X : Type 0} (p q : X → Bool) (xs : List X) → ((x : X) →
 filter_same p q [] same = refl
 filter_same p q (x ∷ xs) same = rw (same x, filter_same p q xs same) refl
 
+pub map_same : {X Y : Type 0} (f g : X → Y) (xs : List X) → ((x : X) → f x ≡ g x) → map f xs ≡ map g xs
+map_same f g [] same = refl
+map_same f g (x ∷ xs) same = rw (same x, map_same f g xs same) refl
+
 -- what one test keeps of what another keeps
 pub filter-filter : {X : Type 0} (p q : X → Bool) (xs : List X) → filter p (filter q xs) ≡ filter (λ x. p x && q x) xs
 filter-filter p q [] = refl
@@ -76,6 +80,27 @@ any_both {X} false p xs = none xs
     none : (ys : List X) → list_any (λ (y : X). false) ys ≡ false
     none [] = refl
     none (y ∷ ys) = none ys
+
+-- one of two tests passes
+any_or : {X : Type 0} (p q : X → Bool) (xs : List X) → list_any (λ x. p x || q x) xs ≡ (list_any p xs || list_any q xs)
+any_or p q [] = refl
+any_or p q (x ∷ xs) = ap (λ t. (p x || q x) || t) (any_or p q xs) ∙ four (p x) (q x) (list_any p xs) (list_any q xs)
+  where
+    four : (a b c d : Bool) → ((a || b) || (c || d)) ≡ ((a || c) || (b || d))
+    four true b c d = refl
+    four false true true d = refl
+    four false true false d = refl
+    four false false true d = refl
+    four false false false d = refl
+
+-- a walk over two lists may go over either one first
+pub any_turned : {X Y : Type 0} (f : X → Y → Bool) (xs : List X) (ys : List Y) → list_any (λ x. list_any (f x) ys) xs ≡ list_any (λ y. list_any (λ x. f x y) xs) ys
+any_turned {Y = Y} f [] ys = none ys
+  where
+    none : (zs : List Y) → false ≡ list_any (λ (z : Y). false) zs
+    none [] = refl
+    none (z ∷ zs) = none zs
+any_turned f (x ∷ xs) ys = ap (λ t. list_any (f x) ys || t) (any_turned f xs ys) ∙ sym (any_or (f x) (λ y. list_any (λ z. f z y) xs) ys)
 
 -- none up to the end passes
 pub any_done : {X : Type 0} (p : X → Bool) (xs : List X) (i : ℕ) → list_any p (take i xs) ≡ false → length xs ≤ i → list_any p xs ≡ false

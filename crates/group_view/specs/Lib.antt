@@ -11,3 +11,4 @@ pub mod Walks
 pub mod Seen
 pub mod Shares
 pub mod Lends
+pub mod Spans

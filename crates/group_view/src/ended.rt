@@ -1,8 +1,8 @@
 // Which entries of the delete buffer end versions of a group.
-ghost use Rattle.std.specs.Prelude.{◌≡◌, ◌<◌, ◌&&◌, length, slice_get, Some};
+ghost use Rattle.std.specs.Prelude.{◌≡◌, ◌<◌, ◌&&◌, ◌||◌, Bool, length, map, slice_get, Some};
 ghost use Rattle.std.specs.List.{list_any};
 ghost use Rattle.std.specs.Option.{option_map};
-ghost use Rattle.group_book.specs.Book.{Version, is_compressed};
+ghost use Rattle.group_book.specs.Book.{Ending, Version, is_compressed};
 ghost use Rattle.group_book.specs.Turns.{ends, is_number};
 ghost use Rattle.group_view.specs.Books.{group_of, versions_of};
 ghost use Rattle.group_view.specs.Lists.{IsFittingContent};
@@ -11,6 +11,7 @@ ghost use Rattle.group_view.specs.Views.{endings_of};
 ghost use Rattle.group_view.specs.Walks.{ends_in};
 
 use crate::groups::{Group, GroupContent};
+use crate::span::entries_within;
 use cs_types::Key;
 use delete_bitmap::Marks;
 use delete_buffer::Buffer;
@@ -69,22 +70,22 @@ fn ends_version(
     false
 }
 
-/// Whether the group is COMPRESSED, and the entry of this key and end ends a version of it. The versions of the key are looked
-/// for from the place `near` on among those by key, which is theirs afterwards: so entries in order are soon found one after
-/// the other.
-pub fn ends_one(group: &Group, buffer: &Buffer, near: &mut usize, key: Key, end: u64) -> bool
-    requires { IsFittingContent group.now.content }
-    ensures { result ≡ (is_compressed (group_of group.now).content && ends_in (endings_of buffer.now.entries) (group_of group.now) (record { key = key; end = end })) }
+/// Whether some entry of the buffer ends a version of a packed group. It stops at the first. Only entries of keys from the least to
+/// the greatest of the group are looked up.
+fn has_packed(packed: &Packed, marks: &Marks, buffer: &Buffer) -> bool
+    requires { length marks.now ≡ length packed.now.rows }
+    ensures { result ≡ list_any (λ entry. list_any (ends (endings_of buffer.now.entries) entry) (versions_of (packed_versions packed.now.key packed.now.rows marks.now))) (endings_of buffer.now.entries) }
 {
-    match &group.content {
-        GroupContent::Compressed(packed, marks) => {
-            ends_version(packed, marks, buffer, near, key, end)
+    let entries = buffer.as_slice();
+    let span = entries_within(packed, entries);
+    let mut near = 0;
+    for i in span.from..span.to {
+        let (key, end) = entries[i];
+        if ends_version(packed, marks, buffer, &mut near, key, end) {
+            return true;
         }
-        GroupContent::Opened(_)
-        | GroupContent::Closed(_)
-        | GroupContent::Invisible
-        | GroupContent::Tombstone { .. } => false,
     }
+    false
 }
 
 /// Whether the group is COMPRESSED, and some entry of the buffer ends a version of it.
@@ -92,11 +93,51 @@ pub fn has_entry(group: &Group, buffer: &Buffer) -> bool
     requires { IsFittingContent group.now.content }
     ensures { result ≡ (is_compressed (group_of group.now).content && list_any (ends_in (endings_of buffer.now.entries) (group_of group.now)) (endings_of buffer.now.entries)) }
 {
+    match &group.content {
+        GroupContent::Compressed(packed, marks) => has_packed(packed, marks, buffer),
+        GroupContent::Opened(_)
+        | GroupContent::Closed(_)
+        | GroupContent::Invisible
+        | GroupContent::Tombstone { .. } => false,
+    }
+}
+
+/// Notes the entries of the buffer that end versions of a packed group, and gives whether there is one. Only entries of keys from
+/// the least to the greatest of the group are looked up.
+fn note_packed(packed: &Packed, marks: &Marks, buffer: &Buffer, noted: &mut [bool]) -> bool
+    requires marks { length marks.now ≡ length packed.now.rows }
+    requires noted { length noted.old ≡ length buffer.now.entries }
+    ensures found { result ≡ list_any (λ entry. list_any (ends (endings_of buffer.now.entries) entry) (versions_of (packed_versions packed.now.key packed.now.rows marks.now))) (endings_of buffer.now.entries) }
+    ensures noted { (test : Ending → Bool) → noted.old ≡ map test (endings_of buffer.now.entries)
+        → noted.new ≡ map (λ entry. test entry || list_any (ends (endings_of buffer.now.entries) entry) (versions_of (packed_versions packed.now.key packed.now.rows marks.now))) (endings_of buffer.now.entries) }
+{
+    let entries = buffer.as_slice();
+    let span = entries_within(packed, entries);
     let mut near = 0;
-    for entry in buffer.as_slice() {
-        if ends_one(group, buffer, &mut near, entry.0, entry.1) {
-            return true;
+    let mut found = false;
+    for i in span.from..span.to {
+        let (key, end) = entries[i];
+        if ends_version(packed, marks, buffer, &mut near, key, end) {
+            noted[i] = true;
+            found = true;
         }
     }
-    false
+    found
+}
+
+/// Notes the entries of the buffer that end versions of the group, where it is COMPRESSED, and gives whether there is one.
+pub fn note_ends(group: &Group, buffer: &Buffer, noted: &mut [bool]) -> bool
+    requires fitting { IsFittingContent group.now.content }
+    requires noted { length noted.old ≡ length buffer.now.entries }
+    ensures found { result ≡ (is_compressed (group_of group.now).content && list_any (ends_in (endings_of buffer.now.entries) (group_of group.now)) (endings_of buffer.now.entries)) }
+    ensures noted { (test : Ending → Bool) → noted.old ≡ map test (endings_of buffer.now.entries)
+        → noted.new ≡ map (λ entry. test entry || (is_compressed (group_of group.now).content && ends_in (endings_of buffer.now.entries) (group_of group.now) entry)) (endings_of buffer.now.entries) }
+{
+    match &group.content {
+        GroupContent::Compressed(packed, marks) => note_packed(packed, marks, buffer, noted),
+        GroupContent::Opened(_)
+        | GroupContent::Closed(_)
+        | GroupContent::Invisible
+        | GroupContent::Tombstone { .. } => false,
+    }
 }

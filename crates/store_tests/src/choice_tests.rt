@@ -11,7 +11,7 @@ use delete_buffer::Buffer;
 use delta_store::Delta;
 use group_view::{
     Choice, Claim, ClosedStore, Group, GroupContent, GroupList, GroupPart, GroupView, Groups,
-    flush_entries, flush_sources, next_work,
+    flush_of, next_work,
 };
 use row_group::{Packed, pack_rows};
 use shared_list::SharedList;
@@ -279,9 +279,8 @@ const ENTRIES: [(i64, u64); 7] = [(8, 3), (2, 12), (2, 5), (3, 11), (5, 1), (7, 
 fn flushes_have_their_entries(rt: HostRuntime) -> Result<(), Fail> {
     let alloc = rt.alloc();
     let list = list_of(&rt, alloc, &LENT, &ENTRIES, &[3], 9)?;
-    let sources = flush_sources(alloc, &list)?;
-    assert!(rt; sources.as_slice() == [1].as_slice());
-    let flushed = flush_entries(alloc, &list)?;
-    assert!(rt; flushed.as_slice() == [(Key(2), 5), (Key(3), 11)].as_slice());
+    let flush = flush_of(alloc, &list)?;
+    assert!(rt; flush.sources.as_slice() == [1].as_slice());
+    assert!(rt; flush.entries.as_slice() == [(Key(2), 5), (Key(3), 11)].as_slice());
     Ok(())
 }

@@ -26,7 +26,8 @@ use Rattle.group_view.specs.Views.{endings_of}
 use Rattle.group_view.specs.Books.{versions_of}
 use Rattle.tuple_mover.specs.Flushed.{mark_in, next_mark, next_marks, IsEndedBy, HasMore}
 use Rattle.tuple_mover.proofs.PlaceLemmas.{Place}
-use Rattle.tuple_mover.proofs.SpentLemmas.{ending_of, least-is}
+use Rattle.group_view.proofs.Noted.{ending_of}
+use Rattle.tuple_mover.proofs.SpentLemmas.{least-is}
 
 -- ---- one version
 

@@ -22,6 +22,7 @@ use Rattle.group_view.specs.declared.parts.GroupPart.{GroupPart}
 use Rattle.group_view.specs.Parts.{Rowed, end_of_mark, rowed_in, versions_in}
 use Rattle.group_view.specs.Views.{endings_of}
 use Rattle.group_view.specs.Books.{versions_of}
+use Rattle.group_view.proofs.Noted.{ending_of}
 use Rattle.group_view.proofs.Versions.{version_in}
 use Rattle.tuple_mover.specs.Spent.{is_spent, spent_by}
 use Rattle.tuple_mover.specs.Kept.{rowed_at}
@@ -29,9 +30,6 @@ use Rattle.tuple_mover.proofs.EntryLemmas.{IsLeast, least-of}
 use Rattle.tuple_mover.proofs.KeptLemmas.{same-within, version-read}
 
 -- ---- the least entry, as the buffer finds it
-
-abbrev pub ending_of : Entry → Ending
-ending_of entry = record { key = entry.0; end = entry.1 }
 
 held-pass : (P : ℕ → Type 0) (key : Key) (e : ℕ) (xs : List Ending) → AllByRecursion (λ (x : Ending). same_key key x.key ≡ true → P x.end) xs → holds xs key e ≡ true → P e
 held-pass P key e [] all held = absurd (differ held)
@@ -235,26 +233,6 @@ spent-filter f all versions (x ∷ xs) = step (leb x.end f) (list_any (ends all 
     step true false is rest = rest
     step false true is rest = rest ∙ sym (ap (λ (t : Bool). cond t (x ∷ filter (λ (x : Ending). leb x.end f) (filter (λ (x : Ending). list_any (ends all x) versions) xs)) (filter (λ (x : Ending). leb x.end f) (filter (λ (x : Ending). list_any (ends all x) versions) xs))) is)
     step false false is rest = rest
-
-pub mark-at : (p : Ending → Bool) (entries : List Entry) (marks : List Bool) (i : ℕ) (d : Entry) → i < length entries → marks ≡ map p (endings_of entries) → get_or marks i false ≡ p (ending_of (get_or entries i d))
-mark-at p entries marks i d there are =
-    ap (λ (bits : List Bool). get_or bits i false) are
-    ∙ get_or-map p (endings_of entries) i (ending_of d) false (omega (arith, there, length-map entries ending_of))
-    ∙ ap p (get_or-map ending_of entries i d (ending_of d) there)
-
--- one entry more, where it is marked
-pub marked-more : (p : Ending → Bool) (entries : List Entry) (i : ℕ) (d : Entry) (some : List Entry) (mark : Bool) → i < length entries → endings_of some ≡ filter p (endings_of (take i entries)) → mark ≡ p (ending_of (get_or entries i d))
-    → endings_of (some ++ cond mark (get_or entries i d ∷ []) []) ≡ filter p (endings_of (take (i + 1) entries))
-marked-more p entries i d some mark there so_far is =
-    map-append ending_of some (cond mark (get_or entries i d ∷ []) [])
-    ∙ ap (λ (before : List Ending). before ++ endings_of (cond mark (get_or entries i d ∷ []) [])) so_far
-    ∙ ap (λ (more : List Ending). filter p (endings_of (take i entries)) ++ more) (ap (λ (t : Bool). endings_of (cond t (get_or entries i d ∷ []) [])) is ∙ step (p (ending_of (get_or entries i d))))
-    ∙ sym (filter-append p (endings_of (take i entries)) (ending_of (get_or entries i d) ∷ []))
-    ∙ ap (filter p) (sym (map-append ending_of (take i entries) (get_or entries i d ∷ [])) ∙ ap endings_of (sym (take_more entries i d there)))
-  where
-    step : (t : Bool) → endings_of (cond t (get_or entries i d ∷ []) []) ≡ cond t (ending_of (get_or entries i d) ∷ []) []
-    step true = refl
-    step false = refl
 
 -- the versions of a part, one more
 pub versions-more : (rowed : List Rowed) (i : ℕ) (version : Version) → i < length rowed → version_in rowed i ≡ Some version → take i (versions_of rowed) ++ version ∷ [] ≡ take (i + 1) (versions_of rowed)

@@ -1,5 +1,5 @@
 // The entries of the delete buffer that go with versions that are left out.
-ghost use Rattle.std.specs.Prelude.{◌≡◌, ◌++◌, ◌∷◌, [], ℕ, List, Bool, map, filter, nat_le, IfOk, OnOk, if◌then◌else◌};
+ghost use Rattle.std.specs.Prelude.{◌≡◌, ◌++◌, ◌∷◌, [], ℕ, List, filter, nat_le, IfOk};
 ghost use Rattle.group_book.specs.Book.{Version, Ending};
 ghost use Rattle.group_view.specs.Parts.{lived_version, versions_in, IsFitting};
 ghost use Rattle.group_view.specs.Views.{endings_of};
@@ -9,7 +9,7 @@ ghost use Rattle.tuple_mover.specs.Spent.{spent_by};
 use cs_base::Memory;
 use cs_types::Key;
 use delete_buffer::Ends;
-use group_view::{Claim, GroupPart, Lived};
+use group_view::{Claim, GroupPart, Lived, marked};
 use std::alloc::Global;
 
 /// Marks the entry that ends the version, where the version has no recorded end and the entry is at most the floor.
@@ -42,28 +42,6 @@ fn spend_part(spent: &mut Vec<bool>, part: &GroupPart, buffer: &Ends, floor: u64
         let lived = part.version(position);
         spend(spent, &lived, buffer, floor);
     }
-}
-
-/// Adds a marked entry.
-fn add_marked(some: &mut Vec<(Key, u64)>, entry: (Key, u64), mark: bool) -> Result<(), Memory>
-    ensures { OnOk result (some.new.items ≡ some.old.items ++ (if mark then entry ∷ [] else [])) }
-{
-    if mark {
-        some.push(entry)?;
-    }
-    Ok(())
-}
-
-/// The marked ones of the entries.
-fn marked(alloc: Global, entries: &[(Key, u64)], marks: &[bool]) -> Result<Vec<(Key, u64)>, Memory>
-    requires { (p : Ending → Bool) × (marks.now ≡ map p (endings_of entries.now)) }
-    ensures { (p : Ending → Bool) → marks.now ≡ map p (endings_of entries.now) → IfOk result (λ some. endings_of some.items ≡ filter p (endings_of entries.now)) }
-{
-    let mut some = Vec::new(alloc);
-    for (i, entry) in entries.iter().enumerate() {
-        add_marked(&mut some, *entry, marks[i])?;
-    }
-    Ok(some)
 }
 
 /// The entries of the buffer that end lent versions by the claim's floor, in the buffer's order.

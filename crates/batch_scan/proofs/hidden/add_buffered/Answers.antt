@@ -1,10 +1,9 @@
-use Rattle.std.proofs.Common.{◌+◌, ◌∙◌, ℕ, ◌<ℤ◌, pos, take, get_or, sym, subst}
+use Rattle.std.proofs.Common.{◌+◌, ◌<◌, ◌≤◌, ℕ, pos, take, length, get_or, arith}
 use Rattle.std.specs.Prelude.{Some}
-use Rattle.std.proofs.lemmas.List.{get_or_default, take_all}
 use Rattle.cs_types.specs.declared.Key.{Key}
-use Rattle.batch_scan.specs.Hidden.{is_ended_by, is_of_key, Adds}
+use Rattle.batch_scan.specs.Hidden.{is_ended_by, is_of_key}
 use Rattle.batch_scan.proofs.Added.{adds_more, adds_none, adds_same, ended_push, ended_skip}
-use Rattle.batch_scan.proofs.Cuts.{above_is, below_up_to, ended_above, ended_below, entries_rise}
+use Rattle.batch_scan.proofs.Cuts.{ended_after, ended_before}
 use Rattle.batch_scan.proofs.hidden.add_buffered.Goals as goal
 use Rattle.batch_scan.proofs.hidden.add_buffered.Goals.{then-end-s+in_ok-near, else-end-s}
 
@@ -16,22 +15,9 @@ pub loop-i-init : goal.loop-i-init
 loop-i-init c =
     let group = c.args.packed.now in
     let entries = c.args.entries.now in
-    let from = c.entries_below-from.result in
+    let from = c.entries_within-span.result.from in
     adds_none group (is_ended_by (take from entries) c.args.s group) c.args.hidden.now.items
-    (λ p there. ended_below group c.args.least c.args.greatest c.requires.keys p there c.args.s entries from c.entries_below-from.ensures)
-
-pub returns-then-gt : goal.returns-then-gt
-returns-then-gt c =
-    let group = c.args.packed.now in
-    let s = c.args.s in
-    let entries = c.args.entries.now in
-    let n = c.loop-i.i in
-    let above = above_is (get_or entries n d).0.0 c.args.greatest.0 (sym c.gt.ensures ∙ c.if-gt.true) in
-    adds_same group (is_ended_by (take n entries) s group) (is_ended_by entries s group) c.args.hidden.now.items c.loop-i.hidden.items
-    (λ p there. ended_above group c.args.least c.args.greatest c.requires.keys p there s entries n (λ i other from inside.
-    below_up_to c.args.greatest.0 (get_or entries n other).0.0 (get_or entries i other).0.0
-    (subst (λ (entry : Key × ℕ). c.args.greatest.0 <ℤ entry.0.0) (get_or_default entries n d other c.loop-i-test.true) above) (entries_rise entries c.requires.order n i other from inside)))
-    c.loop-i.invariant
+    (λ p there. ended_before group p there c.args.s entries from c.entries_within-span.ensures.before)
 
 pub loop-i-preserved : goal.loop-i-preserved
 loop-i-preserved c =
@@ -39,7 +25,7 @@ loop-i-preserved c =
     let s = c.args.s in
     let entries = c.args.entries.now in
     let n = c.loop-i.i in
-    let there = c.loop-i-test.true in
+    let there : n < length entries = omega (arith, c.loop-i-test.true, c.entries_within-span.ensures.within) in
     let entry = get_or entries n d in
     elim c.if-end-s.branch [
       | then-end-s+in_ok-near w ↦
@@ -54,4 +40,8 @@ returns c =
     let group = c.args.packed.now in
     let s = c.args.s in
     let entries = c.args.entries.now in
-    subst (λ list. Adds group (is_ended_by list s group) c.args.hidden.now.items c.loop-i.hidden.items) (take_all c.loop-i.i entries c.loop-i-test.false) c.loop-i.invariant
+    let n = c.loop-i.i in
+    let past : c.entries_within-span.result.to ≤ n = c.loop-i-test.false in
+    adds_same group (is_ended_by (take n entries) s group) (is_ended_by entries s group) c.args.hidden.now.items c.loop-i.hidden.items
+    (λ p there. ended_after group p there s entries n (λ i e inside from. c.entries_within-span.ensures.after i e inside (omega (arith, from, past))))
+    c.loop-i.invariant

@@ -5,7 +5,8 @@ use Rattle.std.proofs.lemmas.Option.{get_or_from_slice_get, slice_get_within}
 use Rattle.write_set.specs.declared.write.Write.{Write}
 use Rattle.batch_scan.specs.Hidden.{is_of_key, is_written, Adds}
 use Rattle.batch_scan.proofs.Added.{adds_more, adds_none, adds_same, written_push}
-use Rattle.batch_scan.proofs.Cuts.{above_is, below_up_to, writes_rise, written_above, written_below}
+use Rattle.group_view.proofs.Spans.{above_is, below_up_to}
+use Rattle.batch_scan.proofs.Cuts.{writes_rise, written_above, written_below}
 use Rattle.batch_scan.proofs.hidden.add_own.Goals as goal
 
 pub loop-i-init : goal.loop-i-init
@@ -13,7 +14,7 @@ loop-i-init c =
     let group = c.args.packed.now in
     let own = c.args.own.now in
     let from = c.writes_below-from.result in
-    adds_none group (is_written (take from own) group) c.args.hidden.now.items (λ p there. written_below group c.args.least c.args.greatest c.requires p there own from c.writes_below-from.ensures)
+    adds_none group (is_written (take from own) group) c.args.hidden.now.items (λ p there. written_below group p there c.args.least c.args.greatest c.requires own from c.writes_below-from.ensures)
 
 pub returns-then-gt : goal.returns-then-gt
 returns-then-gt c =
@@ -23,7 +24,7 @@ returns-then-gt c =
     let write = c.get.result.now in
     let above = above_is write.key.0 c.args.greatest.0 (sym c.gt.ensures ∙ c.if-gt.true) in
     adds_same group (is_written (take n own) group) (is_written own group) c.args.hidden.now.items c.loop-i.hidden.items
-    (λ p there. written_above group c.args.least c.args.greatest c.requires p there own n (λ i other from inside.
+    (λ p there. written_above group p there c.args.least c.args.greatest c.requires own n (λ i other from inside.
     below_up_to c.args.greatest.0 (get_or own n other).key.0 (get_or own i other).key.0
     (subst (λ (w : Write). c.args.greatest.0 <ℤ w.key.0) (sym (get_or_from_slice_get own n write other c.get.ensures)) above) (writes_rise own c.len-i-end.ensures.order n i other from inside)))
     c.loop-i.invariant

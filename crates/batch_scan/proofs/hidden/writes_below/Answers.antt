@@ -1,7 +1,8 @@
 use Rattle.std.proofs.Common.{◌∙◌, ◌+◌, ◌-◌, ◌/◌, ◌<◌, ◌<ℤ◌, length, get_or, sym, subst, arith}
 use Rattle.std.proofs.lemmas.Option.{get_or_from_slice_get}
 use Rattle.write_set.specs.declared.write.Write.{Write}
-use Rattle.batch_scan.proofs.Cuts.{below_is, up_to_below, writes_rise}
+use Rattle.group_view.proofs.Spans.{below_is, up_to_below}
+use Rattle.batch_scan.proofs.Cuts.{writes_rise}
 use Rattle.batch_scan.proofs.hidden.writes_below.Goals as goal
 
 pub loop-low-preserved-then-lt : goal.loop-low-preserved-then-lt

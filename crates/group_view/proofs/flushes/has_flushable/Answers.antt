@@ -1,18 +1,27 @@
-use Rattle.std.proofs.Common.{◌≤◌, ◌<◌, length, sym, ◌∙◌}
-use Rattle.std.proofs.lemmas.List.Folds.{list_any_at}
-use Rattle.group_view.proofs.Chosen.{flushed_one, is_flushed}
-use Rattle.group_view.proofs.Walks.{any_done}
+use Rattle.std.proofs.Common.{◌≡◌, ◌-◌, ◌<◌, false, length, map, get_or, refl, sym, ap, ◌∙◌, arith}
+use Rattle.std.specs.List.{list_any}
+use Rattle.group_view.specs.Walks.{ends_in}
+use Rattle.group_view.proofs.Chosen.{flushed_one, none_passes, one_found}
+use Rattle.group_book.specs.Turns.{is_claimed}
+use Rattle.group_view.specs.Books.{book_of, claim_of, group_of}
 use Rattle.group_view.proofs.flushes.has_flushable.Goals as goal
 
-pub returns-then-is_flushable : goal.returns-then-is_flushable
-returns-then-is_flushable c =
+pub returns-then-not-is_claimed : goal.returns-then-not-is_claimed
+returns-then-not-is_claimed c =
     let list = c.args.list.now in
-    let inside : c.loop-entry.entry-index < length list.buffer.entries = rw c.as_slice-entry-items.ensures.entries at c.loop-entry-test.true in
-    let found = rw c.as_slice-entry-items.ensures.entries at c.is_flushable.ensures in
-    sym (flushed_one list ∙ list_any_at (is_flushed list) list.buffer.entries c.loop-entry.entry-index _ inside (sym found ∙ c.if-is_flushable.true))
+    let book = book_of list in
+    let group = c.index-as_slice-place.result in
+    let some = c.loop-place-test.true in
+    let most = c.loop-place.invariant.0 in
+    let inside : c.loop-place.place - 1 < length list.groups.items = omega (arith, some, most) in
+    let at : get_or list.groups.items (c.loop-place.place - 1) group ≡ group = rw c.as_slice.ensures at (sym c.index-as_slice-place.is) in
+    let unclaimed : is_claimed (map claim_of list.claims.items) (group_of group) ≡ false = sym (c.is_claimed.ensures (group_of group) refl ∙ ap (λ claims. is_claimed (map claim_of claims) (group_of group)) c.deref.ensures.value) ∙ c.if-not-is_claimed.true in
+    sym (flushed_one book ∙ one_found book (λ other. list_any (ends_in book.buffer other) book.buffer) list.groups.items (c.loop-place.place - 1) group inside at (sym c.has_entry.ensures ∙ c.if-has_entry.true) unclaimed)
 
 pub returns : goal.returns
 returns c =
     let list = c.args.list.now in
-    let past : length list.buffer.entries ≤ c.loop-entry.entry-index = rw c.as_slice-entry-items.ensures.entries at c.loop-entry-test.false in
-    sym (flushed_one list ∙ any_done (is_flushed list) list.buffer.entries c.loop-entry.entry-index c.loop-entry.invariant past)
+    let book = book_of list in
+    let none = c.loop-place-test.false in
+    let first : c.loop-place.place ≡ 0 = omega (arith, none) in
+    sym (flushed_one book ∙ none_passes book (λ other. list_any (ends_in book.buffer other) book.buffer) list.groups.items (rw first at c.loop-place.invariant.1))

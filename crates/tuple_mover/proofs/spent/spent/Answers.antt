@@ -10,6 +10,8 @@ use Rattle.group_view.specs.Parts.{versions_in}
 use Rattle.group_view.specs.Views.{endings_of, buffer_of, rowed_of}
 use Rattle.group_view.specs.Books.{versions_of}
 use Rattle.group_view.specs.Claims.{lent_entries}
+use Rattle.group_view.proofs.Noted.{ending_of}
+use Rattle.group_view.proofs.Walks.{filter-map}
 use Rattle.tuple_mover.specs.Spent.{is_spent, spent_by}
 use Rattle.tuple_mover.proofs.SpentLemmas.{none-spent, spent-filter, versions-groups, versions-all}
 use Rattle.tuple_mover.proofs.spent.spent.Goals as goal
@@ -46,7 +48,11 @@ returns c =
     ∙ ap (λ (some : List (ℕ × GroupPart)). spent_by claim.floor buffer (flat_map (λ (group : ℕ × GroupPart). versions_in group.1) some)) (take_all c.loop-place.place groups all)
     ∙ ap (spent_by claim.floor buffer) (versions-all groups)
     ∙ ap (λ (some : List Entry). map (is_spent claim.floor buffer versions) (endings_of some)) (sym entries) in
-    IfOk-weaker c.marked.result (λ (some : Vec Entry Global). endings_of some.items ≡ filter (is_spent claim.floor buffer versions) (endings_of c.as_slice-entries.result.now))
+    IfOk-weaker c.marked.result (λ (some : Vec Entry Global). some.items ≡ filter (λ (entry : Entry). is_spent claim.floor buffer versions (ending_of entry)) c.as_slice-entries.result.now)
     (λ (some : Vec Entry Global). endings_of some.items ≡ filter (λ (entry : Ending). leb entry.end claim.floor) (lent_entries claim))
-    (λ some is. is ∙ ap (λ (some : List Entry). filter (is_spent claim.floor buffer versions) (endings_of some)) entries ∙ spent-filter claim.floor buffer versions buffer)
+    (λ some is.
+    ap endings_of is
+    ∙ sym (filter-map (is_spent claim.floor buffer versions) ending_of c.as_slice-entries.result.now)
+    ∙ ap (λ (some : List Entry). filter (is_spent claim.floor buffer versions) (endings_of some)) entries
+    ∙ spent-filter claim.floor buffer versions buffer)
     (c.marked.ensures (is_spent claim.floor buffer versions) marks)

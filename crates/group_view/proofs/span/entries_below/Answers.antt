@@ -3,8 +3,8 @@ use Rattle.std.specs.Ordering.{is_lt}
 use Rattle.std.proofs.lemmas.List.Sorted.{IsPartitionPoint-from_clause}
 use Rattle.cs_types.specs.declared.Key.{Key}
 use Rattle.cs_types.specs.Keys.{key_cmp}
-use Rattle.batch_scan.proofs.Cuts.{below_is, entries_rise, is_below, up_to_below}
-use Rattle.batch_scan.proofs.hidden.entries_below.Goals as goal
+use Rattle.group_view.proofs.Spans.{below_is, entries_rise, is_below, up_to_below}
+use Rattle.group_view.proofs.span.entries_below.Goals as goal
 
 pub returns : goal.returns
 returns c = λ i d before there.

@@ -2,9 +2,9 @@ use Rattle.std.proofs.Common.{◌∙◌, ◌-◌, ℕ, length, sym, ap, subst, a
 use Rattle.cs_types.specs.declared.Key.{Key}
 use Rattle.cs_types.specs.Rows.{key_in}
 use Rattle.row_group.specs.Groups.{key_at_place, row_at}
-use Rattle.batch_scan.specs.Hidden.{AreKeysBetween}
-use Rattle.batch_scan.proofs.Cuts.{keys_between}
-use Rattle.batch_scan.proofs.hidden.key_bounds.Goals as goal
+use Rattle.group_view.specs.Spans.{AreKeysBetween}
+use Rattle.group_view.proofs.Spans.{keys_between}
+use Rattle.group_view.proofs.span.key_bounds.Goals as goal
 
 pub returns-clause-some : goal.returns-clause-some
 returns-clause-some c =
