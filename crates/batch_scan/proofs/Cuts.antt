@@ -32,7 +32,7 @@ writes_rise own order i j d up there =
 
 module _ (group : Group) (p : ℕ) (there : p < length group.rows) where
   of_no_row : (key : Key) → HasNoRowOf group key → same_key (key_at group p) key ≡ false
-  of_no_row key none = apart (key_at group p) key (none p there)
+  of_no_row key none = apart (key_at group p) key (λ same. let is : key_at group p ≡ key = ap (λ (k : ℤ). record { 0 = k }) same in none p there is)
 
   module _ (s : ℕ) (entries : List Entry) (n : ℕ) where
     abbrev tested : Entry → Bool

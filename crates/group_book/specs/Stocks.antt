@@ -66,8 +66,8 @@ pub record AreVersions (stock : Stock) (changes : List Change) (floor : ℕ) : T
 
 -- ---- where its end stands
 
--- the end of a version outside the open store, whose key changes next at this number: beside it, as the number, or plain at
--- most at the floor; or as an entry of the buffer. It stands nowhere else, and without a next change there is none
+-- the end of a version outside the open store, whose key changes next at this number: beside it, as the number, or plain, where the
+-- number is at most the floor; or as an entry of the buffer. It stands nowhere else, and without a next change there is none
 abbrev pub EndFits : List Ending → ℕ → Version → Option ℕ → Type 0
 EndFits buffer floor version None = version.end ≡ None
 EndFits buffer floor version (Some e) =

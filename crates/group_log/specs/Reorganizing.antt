@@ -63,7 +63,15 @@ begins_turn (work.ClaimFlush entries) = true
 begins_turn (work.Settle ends) = true
 begins_turn (work.Clear groups) = true
 begins_turn work.Memory = true
-begins_turn _ = false
+begins_turn (work.InstallCompress source fresh rows) = false
+begins_turn (work.InstallRebuild source fresh rows) = false
+begins_turn (work.InstallMerge first second fresh rows) = false
+begins_turn (work.InstallFlush entries) = false
+begins_turn (work.ReleaseCompress source fresh) = false
+begins_turn (work.ReleaseRebuild source fresh) = false
+begins_turn (work.ReleaseMerge first second fresh) = false
+begins_turn (work.ReleaseFlush entries) = false
+begins_turn (work.Close group) = false
 
 -- the store that a work closes
 abbrev pub closed_by : Work → List ℕ
@@ -136,7 +144,14 @@ MayMake origin session all start from behind (work.Settle ends) = MayTurn origin
 MayMake origin session all start from behind (work.Clear groups) = MayTurn origin session all start from behind
 MayMake origin session all start from behind (work.Close group) = (all ≡ true) × (works_of session behind ≡ [])
 MayMake origin session all start from behind work.Memory = MayTurn origin session all start from behind
-MayMake origin session all start from behind _ = Unit {0}
+MayMake origin session all start from behind (work.InstallCompress source fresh rows) = Unit {0}
+MayMake origin session all start from behind (work.InstallRebuild source fresh rows) = Unit {0}
+MayMake origin session all start from behind (work.InstallMerge first second fresh rows) = Unit {0}
+MayMake origin session all start from behind (work.InstallFlush entries) = Unit {0}
+MayMake origin session all start from behind (work.ReleaseCompress source fresh) = Unit {0}
+MayMake origin session all start from behind (work.ReleaseRebuild source fresh) = Unit {0}
+MayMake origin session all start from behind (work.ReleaseMerge first second fresh) = Unit {0}
+MayMake origin session all start from behind (work.ReleaseFlush entries) = Unit {0}
 
 -- it leaves these groups: it has looked for the open store, and memory was not wanting; it has made all its turns, or after its last
 -- work there was a moment at which its choice was Idle; and at that moment or later, and after its last work, came its last look, at

@@ -12,7 +12,11 @@ use Rattle.group_view.specs.declared.groups.Group.{Group}
 use Rattle.group_view.specs.declared.parts.GroupPart.{GroupPart}
 use Rattle.group_view.specs.Parts.{packed_part, packed_parts, IsFitting}
 use Rattle.group_view.specs.Seen.{Seen, seen, shows, entry_of, packed_seen, part_entry}
-use Rattle.group_view.specs.Shares.{Share, chunk_in, parts_of, AreShared, HaveLower, HaveOthers, IsShareOf}
+use Rattle.group_view.specs.Shares.{Share, chunk_in, parts_of, AreShared, HaveOthers, IsShareOf}
+
+-- the lists have the same chunks below one
+abbrev pub HaveLower : ℕ → List Seen → List Seen → Type 0
+HaveLower chunk old new = (c : ℕ) → c < chunk → chunk_in c new ≡ chunk_in c old
 
 -- ---- an element read
 

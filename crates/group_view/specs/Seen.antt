@@ -31,11 +31,11 @@ is_shown Invisible = false
 is_shown (Tombstone versions ends) = false
 
 abbrev pub shows : Seen → Bool
-shows group = let content = group.group in is_shown content.content
+shows seen = let group = seen.group in is_shown group.content
 
 -- its id and its rows
 abbrev pub entry_of : Seen → ℕ × List Rowed
-entry_of group = let content = group.group in (content.id, group.rows)
+entry_of seen = let group = seen.group in (group.id, seen.rows)
 
 -- the packed groups among these
 abbrev pub packed_seen : List Seen → List (ℕ × Packed)

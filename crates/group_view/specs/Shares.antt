@@ -1,5 +1,5 @@
 -- What views share of the groups of a list.
-use Rattle.std.specs.Prelude.{◌≡◌, ◌≢◌, ℕ, ◌+◌, ◌*◌, ◌<◌, List, map, filter, take, drop, slice_get, All, Option, None, Some, true, false}
+use Rattle.std.specs.Prelude.{◌≡◌, ◌≢◌, ℕ, ◌+◌, ◌*◌, List, map, filter, take, drop, slice_get, All, Option, None, Some, true, false}
 use Rattle.std.specs.declared.alloc.Global.{Global}
 use Rattle.std.specs.declared.sync.Arc.{Arc}
 use Rattle.std.specs.declared.vec.Vec.{Vec}
@@ -42,9 +42,6 @@ chunk_in c list = drop (128 * c) (take (128 * c + 128) list)
 abbrev pub AreShared : List Seen → List (Option Share) → Type 0
 AreShared groups shares = (c : ℕ) (share : Share) → slice_get shares c ≡ Some (Some share) → IsShareOf (chunk_in c groups) (parts_of share)
 
--- the lists have the same chunks, but for one; and the same chunks below one
+-- the lists have the same chunks, but for one
 abbrev pub HaveOthers : ℕ → List Seen → List Seen → Type 0
 HaveOthers chunk old new = (c : ℕ) → c ≢ chunk → chunk_in c new ≡ chunk_in c old
-
-abbrev pub HaveLower : ℕ → List Seen → List Seen → Type 0
-HaveLower chunk old new = (c : ℕ) → c < chunk → chunk_in c new ≡ chunk_in c old

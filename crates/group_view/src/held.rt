@@ -2,7 +2,7 @@
 ghost use Rattle.std.specs.Prelude.{◌≡◌, ◌↔◌, ◌+◌, ◌*◌, ◌<◌, ◌≤◌, ◌++◌, ◌∷◌, [], List, map, length, slice_index_or, take, drop, All, IsTrue, IfOk, OnOk, OnErr, vec_len, vec_capacity};
 ghost use Rattle.group_view.specs.Contents.{IsFittingContent};
 ghost use Rattle.group_view.specs.Seen.{seen, Seen};
-ghost use Rattle.group_view.specs.Shares.{chunk_in, parts_of, AreShared, HaveLower, HaveOthers, IsShareOf};
+ghost use Rattle.group_view.specs.Shares.{chunk_in, parts_of, AreShared, HaveOthers, IsShareOf};
 
 use crate::groups::Group;
 use crate::parts::GroupPart;

@@ -39,7 +39,7 @@ abbrev pub AreInOrder : List Load → Type 0
 AreInOrder [] = Unit {0}
 AreInOrder (load ∷ loads) = IsOver (newest_first loads) (changes_of load) × AreInOrder loads
 
--- a run finds room only where no key has a change of its own, since that would lie under the run
+-- a run finds no room while a key has a change of its own: that would lie over the run, and hide its newer change
 abbrev pub room_under : List (Key × NewestChange) → ℕ → ℕ
 room_under [] room = room
 room_under (change ∷ changes) room = 0
