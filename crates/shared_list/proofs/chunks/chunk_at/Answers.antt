@@ -1,7 +1,7 @@
 use Rattle.std.proofs.Common.{rules}
 use Rattle.std.proofs.lemmas.List.Sorted.{answers_always}
 use Rattle.shared_list.proofs.Places.{froms_rise, place_between, place_found}
-use Rattle.shared_list.proofs.list.chunk_at.Goals as goal
+use Rattle.shared_list.proofs.chunks.chunk_at.Goals as goal
 
 pub overflow_sub-result : goal.overflow_sub-result
 overflow_sub-result g c =
