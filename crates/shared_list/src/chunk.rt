@@ -13,7 +13,7 @@ use std::sync::Arc;
 pub const CHUNK: usize = 128;
 
 /// Items that stand side by side in a list. Other lists may have them in common, and then they never change.
-#[derive(Drop)]
+#[derive(Debug, Drop)]
 pub struct Chunk<T> {
     /// How many items of the list stand before them.
     from: usize,

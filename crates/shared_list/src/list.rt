@@ -14,7 +14,7 @@ use std::marker::Model;
 use std::sync::Arc;
 
 /// A list in chunks, which other lists may have in common. Contracts see the list of its items.
-#[derive(Drop)]
+#[derive(Debug, Drop)]
 pub struct SharedList<T> {
     chunks: Vec<Chunk<T>>,
     len: usize,
