@@ -66,7 +66,8 @@ impl<T> SharedList<T> {
         ensures item { result.now ≡ slice_index_or self.now i result.now }
     {
         let chunk = &self.chunks[chunk_at(&self.chunks, i)];
-        &chunk.as_slice()[i - chunk.from()]
+        let place = i - chunk.from();
+        &chunk.as_slice()[place]
     }
 
     /// The item at a place, and None past the end.
