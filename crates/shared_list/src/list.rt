@@ -1,15 +1,20 @@
-ghost use Rattle.std.specs.Prelude.{◌^◌, ◌≡◌, ◌+◌, ◌<◌, ◌≤◌, ◌++◌, ◌↔◌, [], length, map, slice_get, slice_index_or, Some, IsTrue, IfOk, OnOk, OnErr, OnSome};
+ghost use Rattle.std.specs.Prelude.{◌^◌, ◌≡◌, ◌+◌, ◌<◌, ◌≤◌, ◌++◌, ◌↔◌, [], length, slice_get, slice_index_or, slice_set, Bool, true, false, Some, IsTrue, IfOk, OnOk, OnErr, OnSome};
+ghost use Rattle.std.specs.Fn.{ComputesKey};
+ghost use Rattle.std.specs.List.{insert};
+ghost use Rattle.std.specs.List.Sorted.{IsPartitionedBy, IsPartitionPoint};
 ghost use Rattle.std.specs.Option.{option_copied};
-ghost use Rattle.shared_list.specs.Chunks.{joined, placed, IsChunkAt, StandFrom};
+ghost use Rattle.shared_list.specs.Chunks.{passes_first};
 
 use crate::chunk::Chunk;
+use crate::chunks::{chunk_at, chunks_of, copies_of, insert_among, replace_among, share_each};
+use crate::copied::Copied;
 use cs_base::Memory;
 use std::alloc::Global;
 use std::marker::Model;
 use std::sync::Arc;
 
 /// A list in chunks, which other lists may have in common. Contracts see the list of its items.
-#[derive(Drop)]
+#[derive(Debug, Drop)]
 pub struct SharedList<T> {
     chunks: Vec<Chunk<T>>,
     len: usize,
@@ -27,29 +32,6 @@ impl<T> Model for SharedList<T> {
     ghost view = { λ list. joined list.chunks.items };
 
     ghost invariant = { λ list. AreChunks list.chunks.items list.len × (list.len < 2 ^ 64) };
-}
-
-/// The chunk of the item at a place of the list.
-fn chunk_at<T>(chunks: &[Chunk<T>], i: usize) -> usize
-    requires stand { StandFrom 0 chunks.now }
-    requires there { i < length (joined chunks.now) }
-    ensures { IsChunkAt chunks.now i result }
-{
-    match chunks.binary_search_by_key(&i, |chunk| chunk.from) {
-        Ok(at) => at,
-        Err(at) => at - 1,
-    }
-}
-
-/// The same chunks.
-fn share_each<T: Drop>(alloc: Global, chunks: &[Chunk<T>]) -> Result<Vec<Chunk<T>>, Memory>
-    ensures { IfOk result (λ shared. map placed shared.items ≡ map placed chunks.now) }
-{
-    let mut shared = Vec::with_capacity(alloc, chunks.len())?;
-    for chunk in chunks {
-        shared.push(chunk.share()?)?;
-    }
-    Ok(shared)
 }
 
 impl<T> SharedList<T> {
@@ -84,7 +66,8 @@ impl<T> SharedList<T> {
         ensures item { result.now ≡ slice_index_or self.now i result.now }
     {
         let chunk = &self.chunks[chunk_at(&self.chunks, i)];
-        &chunk.items[i - chunk.from]
+        let place = i - chunk.from();
+        &chunk.as_slice()[place]
     }
 
     /// The item at a place, and None past the end.
@@ -96,6 +79,31 @@ impl<T> SharedList<T> {
             return None;
         }
         Some(self.at(i))
+    }
+
+    /// The place of the first item that fails a test which the items before it pass, and those after it fail too. It takes time
+    /// O(log n).
+    pub fn partition_point<P: Fn(&T) -> bool>(&self, pred: P) -> usize
+        requires { P.IsAlwaysCallable pred }
+        ensures bound { result ≤ length self.now }
+        ensures partitioned { (p : T → Bool) → ComputesKey P.FnMut p pred → IsPartitionedBy p self.now → IsPartitionPoint (λ item. p item ≡ true) (λ item. p item ≡ false) self.now result }
+    {
+        let begun = self.chunks.partition_point(
+            |chunk: &Chunk<T>| -> bool
+                requires { P.IsAlwaysCallable pred }
+                ensures { (p : T → Bool) → ComputesKey P.FnMut p pred → result ≡ passes_first p chunk.now.items }
+            {
+                match chunk.as_slice().first() {
+                    Some(item) => pred(item),
+                    None => false,
+                }
+            },
+        );
+        if begun == 0 {
+            return 0;
+        }
+        let chunk = &self.chunks[begun - 1];
+        chunk.from() + chunk.as_slice().partition_point(pred)
     }
 }
 
@@ -109,6 +117,17 @@ impl<T: Drop> SharedList<T> {
         Ok(list)
     }
 
+    /// The list of a vector's items, in chunks of at most 128. They are moved.
+    pub fn in_chunks(alloc: Global, items: Vec<T>) -> Result<SharedList<T>, Memory>
+        ensures { IfOk result (λ list. list ≡ items.items) }
+    {
+        let len = items.len();
+        Ok(SharedList {
+            chunks: chunks_of(alloc, items)?,
+            len,
+        })
+    }
+
     /// Adds the items of a vector at the end, which both then have in common: none is copied. After `Memory` nothing has changed.
     pub fn append(&mut self, items: Arc<Vec<T>>) -> Result<(), Memory>
         ensures ok { OnOk result (self.new ≡ self.old ++ items.value.items) }
@@ -120,10 +139,7 @@ impl<T: Drop> SharedList<T> {
         let Some(len) = self.len.checked_add(items.len()) else {
             return Err(Memory);
         };
-        self.chunks.push(Chunk {
-            from: self.len,
-            items,
-        })?;
+        self.chunks.push(Chunk::new(self.len, items))?;
         self.len = len;
         Ok(())
     }
@@ -136,5 +152,38 @@ impl<T: Drop> SharedList<T> {
             chunks: share_each(*self.chunks.allocator(), &self.chunks)?,
             len: self.len,
         })
+    }
+}
+
+impl<T: Copied> SharedList<T> {
+    /// Copies of the items.
+    pub fn copies(&self, alloc: Global) -> Result<Vec<T>, Memory>
+        ensures { IfOk result (λ copied. copied.items ≡ self.now) }
+    {
+        copies_of(alloc, &self.chunks, self.len)
+    }
+
+    /// Puts an item before the one at place i, or at the end. Other lists keep what they have. A chunk that they have too is copied, and
+    /// a full one is split in two, but behind the last item a new one begins. After `Memory` nothing has changed.
+    pub fn insert(&mut self, i: usize, item: T) -> Result<(), Memory>
+        requires { i ≤ length self.old }
+        ensures ok { OnOk result (self.new ≡ insert self.old i item) }
+        ensures err { OnErr result (self.new ≡ self.old) }
+    {
+        let Some(len) = self.len.checked_add(1) else {
+            return Err(Memory);
+        };
+        insert_among(&mut self.chunks, i, item)?;
+        self.len = len;
+        Ok(())
+    }
+
+    /// Puts an item into the place of the one at place i. Other lists keep what they have. After `Memory` nothing has changed.
+    pub fn replace(&mut self, i: usize, item: T) -> Result<(), Memory>
+        requires { i < length self.old }
+        ensures ok { OnOk result (self.new ≡ slice_set self.old i item) }
+        ensures err { OnErr result (self.new ≡ self.old) }
+    {
+        replace_among(&mut self.chunks, i, item)
     }
 }

@@ -1,14 +1,13 @@
 -- The order of writes, what a search among them finds, and what a write more does to them.
-use Rattle.std.proofs.Common.{◌≡◌, ℕ, zero, suc, ◌+◌, List, [], ◌∷◌, length, get_or, set, refl, sym, ◌∙◌, ap, subst, arith, Result, Ok, Err, IfOk, IfErr, All, inl, inr}
+use Rattle.std.proofs.Common.{◌≡◌, ℕ, zero, suc, List, [], ◌∷◌, length, get_or, set, refl, sym, ◌∙◌, ap, subst, arith, true, false, true≢false, ◌<◌, ◌≤◌, All, inl, inr}
 use Rattle.std.specs.declared.cmp.Ordering.{Ordering}
 use Rattle.std.specs.declared.cmp.Ordering.TheVariants.{Less, Equal, Greater}
 use Rattle.std.specs.List.{insert}
-use Rattle.std.specs.List.Sorted.{IsNonDecreasingBy, IsSearchInRange, IsBinarySearchResult, IsSortedBy}
-use Rattle.std.specs.Ordering.{is_lt, match_ordering, ordering_index, ordering_reverse}
+use Rattle.std.specs.List.Sorted.{IsPartitionedBy, IsPartitionPoint}
+use Rattle.std.specs.Ordering.{is_lt, match_ordering, ordering_reverse}
 use Rattle.std.proofs.lemmas.Bool.{cases_lt}
 use Rattle.std.proofs.lemmas.Cmp.{tied_itself}
 use Rattle.std.proofs.lemmas.List.Kept.{AllPairs-cons}
-use Rattle.std.proofs.lemmas.List.Sorted.{searchable_from_sorted}
 use Rattle.cs_types.specs.declared.Key.{Key}
 use Rattle.write_set.specs.declared.write.Write.{Write}
 use Rattle.cs_types.specs.Keys.{key_cmp}
@@ -24,24 +23,41 @@ greater a b e = key_total.antisymm a b ∙ ap ordering_reverse e
 pub less : (a b : Key) → key_cmp b a ≡ Greater → key_cmp a b ≡ Less
 less a b e = key_total.antisymm a b ∙ ap ordering_reverse e
 
-sorted : (writes : List Write) → Ascend writes → IsSortedBy (λ (a b : Write). is_lt (key_cmp a.key b.key)) writes
-sorted writes up = λ k d _ l. ap is_lt (key_total.antisymm (get_or writes (k + 1) d).key (get_or writes k d).key ∙ ap ordering_reverse (up k (k + 1) d (omega arith) l))
+pub less_by : (o : Ordering) → true ≡ is_lt o → o ≡ Less
+less_by Less e = refl
+less_by Equal e = absurd (true≢false e)
+less_by Greater e = absurd (true≢false e)
 
-module _ (writes : List Write) (up : Ascend writes) (key : Key) where
-  -- a binary search by key ends at the key's write, or where it would go
-  pub searched : (r : Result ℕ ℕ) → IsSearchInRange r (length writes) → IsBinarySearchResult (λ (w : Write). key_cmp w.key key) writes r → record { found : IfOk r (IsFoundAt writes key); absent : IfErr r (IsGapFor writes key) }
-  searched (Ok at) bound equal = record { found = record { within = bound; is = λ d. exact_key _ _ (equal d) }; absent = tt }
-  searched (Err at) bound parted = record {
-    found = tt;
-    absent = record {
-      within = bound;
-      before = λ k d l. (parted rising).0 k d (omega arith) l;
-      after = λ k d from l. (parted rising).1 k d from l;
-    };
-  }
+-- the writes of smaller keys come first
+pub below_first : (writes : List Write) → Ascend writes → (key : Key) → IsPartitionedBy (λ (w : Write). is_lt (key_cmp w.key key)) writes
+below_first writes up key i j d before there passes = elim (cases_lt i j) [
+  | inl less ↦ ap is_lt (key_total.trans (get_or writes i d).key (get_or writes j d).key key (up i j d less there) (less_by (key_cmp (get_or writes j d).key key) (sym passes)))
+  | inr not ↦ let same : j ≡ i = omega (arith, before, not) in subst (λ (k : ℕ). is_lt (key_cmp (get_or writes k d).key key) ≡ true) same passes
+]
+
+-- where those of smaller keys end the key has its write, or would go
+module _ (writes : List Write) (up : Ascend writes) (key : Key) (i : ℕ) (within : i ≤ length writes) (point : IsPartitionPoint (λ (w : Write). is_lt (key_cmp w.key key) ≡ true) (λ (w : Write). is_lt (key_cmp w.key key) ≡ false) writes i) where
+  other_above : (w : Write) → (w.key ≡ key → ⊥) → is_lt (key_cmp w.key key) ≡ false → key_cmp w.key key ≡ Greater
+  other_above w other past = go (key_cmp w.key key) refl past
     where
-      rising : IsNonDecreasingBy (λ (w : Write). ordering_index (key_cmp w.key key)) writes
-      rising = searchable_from_sorted key_total (λ (w : Write). w.key) writes key (sorted writes up)
+      go : (o : Ordering) → key_cmp w.key key ≡ o → is_lt o ≡ false → key_cmp w.key key ≡ Greater
+      go Less e fails = absurd (cc)
+      go Equal e fails = absurd (other (exact_key w.key key e))
+      go Greater e fails = e
+
+  pub gap_at : ((d : Write) → i < length writes → (get_or writes i d).key ≡ key → ⊥) → IsGapFor writes key i
+  gap_at other = record {
+    within = within;
+    before = λ k d low. less_by (key_cmp (get_or writes k d).key key) (sym (point.0 k d (omega arith) low));
+    after = λ k d from there. elim (cases_lt i k) [
+      | inl more ↦
+          let here = less key (get_or writes i d).key (other_above (get_or writes i d) (other d (omega (arith, more, there))) (point.1 i d (omega arith) (omega (arith, more, there)))) in
+          greater (get_or writes k d).key key (key_total.trans key (get_or writes i d).key (get_or writes k d).key here (up i k d more there))
+      | inr none ↦
+          let same : i ≡ k = omega (arith, from, none) in
+          subst (λ (n : ℕ). key_cmp (get_or writes n d).key key ≡ Greater) same (other_above (get_or writes i d) (other d (omega (arith, from, none, there))) (point.1 i d (omega arith) (omega (arith, from, none, there))))
+    ];
+  }
 
 abbrev pub Rises : Write → Write → Type 0
 Rises a b = key_cmp a.key b.key ≡ Less

@@ -2,18 +2,15 @@
 //!
 //! Its one contract: an `Own` is its list of writes, one for each key, in the order of keys, and each call has exactly the
 //! stated effect on that list. The list can be shared, so that whoever reads it keeps it without a copy; where it is not, one
-//! write is staged in place. It stands in chunks, which lists share too, so that a write more moves or copies the writes of one
-//! chunk alone, however long the list is. The crate depends on `cs_base` and `cs_types`. Microsoft's pages on SNAPSHOT isolation
+//! write is staged in place. It is a list in chunks, which lists share too, so that a write more moves or copies the writes of one
+//! chunk alone, however long the list is. The crate depends on `cs_base`, `shared_list` and `cs_types`. Microsoft's pages on SNAPSHOT isolation
 //! say that a transaction sees its own writes.
 #![tactic(auto)]
 
-mod chunk;
 mod list;
 mod merge;
 mod order;
 mod own;
-mod part;
-mod parts;
 mod write;
 
 pub use own::Own;

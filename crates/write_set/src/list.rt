@@ -1,16 +1,15 @@
 // The list of writes that shares of it have in common.
-ghost use Rattle.std.specs.Prelude.{◌≡◌, ◌+◌, ◌<◌, ◌++◌, [], length, slice_get, Some, IfOk, OnOk, OnErr};
-ghost use Rattle.write_set.specs.Parts.{joined};
-ghost use Rattle.write_set.specs.Writes.{Ascend, IsPlaceOf, put, staged};
+ghost use Rattle.std.specs.Prelude.{◌≡◌, ◌+◌, ◌<◌, ◌++◌, [], length, slice_get, Some, IfOk, IfErr, OnOk, OnErr};
+ghost use Rattle.std.specs.Ordering.{is_lt};
+ghost use Rattle.cs_types.specs.Keys.{key_cmp};
+ghost use Rattle.write_set.specs.Writes.{Ascend, IsFoundAt, IsGapFor, IsPlaceOf, put, staged};
 
-use crate::chunk::search;
 use crate::merge::lay_all;
 use crate::order::{in_order, is_in_order};
-use crate::part::Part;
-use crate::parts::{copies_of, part_at, part_for, parts_of, put_among, share_each};
 use crate::write::Write;
 use cs_base::Memory;
 use cs_types::Key;
+use shared_list::SharedList;
 use std::alloc::Global;
 use std::marker::Model;
 
@@ -18,20 +17,36 @@ use std::marker::Model;
 /// writes, which lists may share, so that a write more touches one chunk.
 #[derive(Debug, Drop)]
 pub struct Writes {
-    parts: Vec<Part>,
-    len: usize,
+    list: SharedList<Write>,
 }
 
 impl Model for Writes {
-    ghost use Rattle.std.specs.Prelude.{◌^◌, ◌<◌, List};
+    ghost use Rattle.std.specs.Prelude.{List};
     ghost use Rattle.write_set.specs.declared.write.Write.{Write};
-    ghost use Rattle.write_set.specs.Parts.{joined, AreParts};
+    ghost use Rattle.write_set.specs.Writes.{Ascend};
 
     ghost Value = { List Write };
 
-    ghost view = { λ writes. joined writes.parts.items };
+    ghost view = { λ writes. writes.list };
 
-    ghost invariant = { λ writes. AreParts writes.parts.items writes.len × (writes.len < 2 ^ 64) };
+    ghost invariant = { λ writes. Ascend writes.list };
+}
+
+/// Where the write of a key is, or where it would go.
+fn search(list: &SharedList<Write>, key: Key) -> Result<usize, usize>
+    requires { Ascend list.now }
+    ensures found { IfOk result (IsFoundAt list.now key) }
+    ensures absent { IfErr result (IsGapFor list.now key) }
+{
+    let place = list.partition_point(
+        |write: &Write| -> bool
+            ensures { result ≡ is_lt (key_cmp write.now.key key) }
+        { write.key < key },
+    );
+    match list.get(place) {
+        Some(write) if write.key == key => Ok(place),
+        _ => Err(place),
+    }
 }
 
 impl Writes {
@@ -40,9 +55,10 @@ impl Writes {
         requires { Ascend writes.items }
         ensures { IfOk result (λ list. list ≡ writes.items) }
     {
-        let len = writes.len();
-        let parts = parts_of(writes)?;
-        Ok(Writes { parts, len })
+        let alloc = *writes.allocator();
+        Ok(Writes {
+            list: SharedList::in_chunks(alloc, writes)?,
+        })
     }
 
     /// The number of writes.
@@ -50,7 +66,7 @@ impl Writes {
         ensures value { result ≡ length self.now }
         ensures order { Ascend self.now }
     {
-        self.len
+        self.list.len()
     }
 
     /// The write at a place.
@@ -58,8 +74,7 @@ impl Writes {
         requires { i < length self.now }
         ensures { slice_get self.now i ≡ Some result.now }
     {
-        let part = &self.parts[part_at(&self.parts, i)];
-        &part.as_slice()[i - part.from()]
+        self.list.at(i)
     }
 
     /// The place of the key's write. None exactly where the key has none.
@@ -67,12 +82,8 @@ impl Writes {
         ensures place { IsPlaceOf self.now key result }
         ensures order { Ascend self.now }
     {
-        let Some(at) = part_for(&self.parts, key) else {
-            return None;
-        };
-        let part = &self.parts[at];
-        match search(part.as_slice(), key) {
-            Ok(place) => Some(part.from() + place),
+        match search(&self.list, key) {
+            Ok(place) => Some(place),
             Err(_) => None,
         }
     }
@@ -81,10 +92,8 @@ impl Writes {
     pub fn share(&self) -> Result<Writes, Memory>
         ensures { IfOk result (λ shared. shared ≡ self.now) }
     {
-        let parts = share_each(*self.parts.allocator(), &self.parts)?;
         Ok(Writes {
-            parts,
-            len: self.len,
+            list: self.list.share()?,
         })
     }
 
@@ -93,16 +102,18 @@ impl Writes {
         ensures value { IfOk result (λ copied. copied.items ≡ self.now) }
         ensures order { Ascend self.now }
     {
-        copies_of(alloc, &self.parts, self.len)
+        self.list.copies(alloc)
     }
 
     /// Puts a write in its place. After `Memory` nothing has changed.
-    pub fn put(&mut self, alloc: Global, write: Write) -> Result<(), Memory>
+    pub fn put(&mut self, write: Write) -> Result<(), Memory>
         ensures ok { OnOk result (self.new ≡ put self.old write) }
         ensures err { OnErr result (self.new ≡ self.old) }
     {
-        self.len = put_among(&mut self.parts, alloc, self.len, write)?;
-        Ok(())
+        match search(&self.list, write.key) {
+            Ok(place) => self.list.replace(place, write),
+            Err(place) => self.list.insert(place, write),
+        }
     }
 
     /// A list with writes laid over these, one for each key, the last one standing. Both lists share the chunks that these
@@ -120,11 +131,13 @@ impl Writes {
     /// Whether it is faster to put each write in its place than to go over all of the list: they are few beside it, or they
     /// follow it in the order of their keys.
     fn is_put_each(&self, writes: &[Write]) -> bool {
-        let follow = match (self.parts.last(), writes.first()) {
-            (Some(last), Some(first)) => last.is_below(first.key),
-            _ => true,
+        let follow = match writes.first() {
+            Some(first) => {
+                matches!(search(&self.list, first.key), Err(place) if place == self.list.len())
+            }
+            None => true,
         };
-        writes.len() <= self.len / FEW || (follow && is_in_order(writes))
+        writes.len() <= self.list.len() / FEW || (follow && is_in_order(writes))
     }
 
     /// A list with writes laid over these in one pass.
@@ -134,9 +147,7 @@ impl Writes {
         let alloc = *writes.allocator();
         let writes = in_order(writes)?;
         let own = self.copies(alloc)?;
-        let mut all = Vec::with_capacity(alloc, own.len() + writes.len())?;
-        lay_all(&mut all, own, writes);
-        Writes::from_ascending(all)
+        Writes::from_ascending(lay_all(alloc, own, writes)?)
     }
 }
 
@@ -147,10 +158,9 @@ const FEW: usize = 32;
 fn laid(list: Writes, writes: Vec<Write>) -> Result<Writes, Memory>
     ensures { IfOk result (λ laid. laid ≡ staged list writes.items) }
 {
-    let alloc = *writes.allocator();
     let mut list = list;
     for write in writes {
-        list.put(alloc, write)?;
+        list.put(write)?;
     }
     Ok(list)
 }

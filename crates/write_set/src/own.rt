@@ -175,7 +175,7 @@ fn put_in(shared: &mut Arc<Writes>, alloc: Global, write: Write) -> Result<(), M
     ensures err { OnErr result (shared.new.value ≡ shared.old.value) }
 {
     match Arc::get_mut(shared) {
-        Some(own) => own.put(alloc, write),
+        Some(own) => own.put(write),
         None => put_beside(shared, alloc, write),
     }
 }
@@ -185,7 +185,7 @@ fn put_beside(shared: &mut Arc<Writes>, alloc: Global, write: Write) -> Result<(
     ensures err { OnErr result (shared.new.value ≡ shared.old.value) }
 {
     let mut own = shared.share()?;
-    own.put(alloc, write)?;
+    own.put(write)?;
     *shared = Arc::new(alloc, own)?;
     Ok(())
 }

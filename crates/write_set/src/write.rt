@@ -2,6 +2,7 @@ ghost use Rattle.std.specs.Prelude.{◌≡◌, IfOk};
 
 use cs_base::Memory;
 use cs_types::{Key, Row};
+use shared_list::Copied;
 
 /// What a transaction has made of a key.
 #[derive(Debug, Drop)]
@@ -24,6 +25,12 @@ impl Write {
             row: copy_row(&self.row)?,
             replaces: self.replaces,
         })
+    }
+}
+
+impl Copied for Write {
+    fn copy(&self) -> Result<Write, Memory> {
+        Write::copy(self)
     }
 }
 

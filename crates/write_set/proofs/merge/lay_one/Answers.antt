@@ -1,20 +1,19 @@
-use Rattle.write_set.proofs.Laid.{put-parts, Ascend-prefix}
-use Rattle.write_set.proofs.Puts.{Ascend-put}
+use Rattle.std.proofs.Common.{◌++◌, ◌∙◌, List, [], ◌∷◌, ap}
+use Rattle.write_set.specs.declared.write.Write.{Write}
+use Rattle.write_set.specs.Writes.{put}
+use Rattle.write_set.proofs.Laid.{below_more, laid_one}
 use Rattle.write_set.proofs.merge.lay_one.Goals as goal
-
-pub put_one-requires-clause-order : goal.put_one-requires-clause-order
-put_one-requires-clause-order c =
-    let up = rw (← c.pass_smaller.ensures.items) at c.requires.order in
-    Ascend-prefix c.pass_smaller.new.done.items c.pass_smaller.new.rest.items up
 
 pub returns-clause-items : goal.returns-clause-items
 returns-clause-items c =
+    let done = c.pass_smaller.new.done.items in
+    let rest = c.pass_smaller.new.rest.items in
     let up = rw (← c.pass_smaller.ensures.items) at c.requires.order in
-    let parts = put-parts c.pass_smaller.new.done.items c.pass_smaller.new.rest.items c.args.write up c.pass_smaller.ensures.reached in
-    rw (c.put_one.ensures.items, c.drop_equal.ensures.items, ← c.pass_smaller.ensures.items) parts
+    ap (λ (l : List Write). l ++ c.drop_equal.new.rest.items) c.push_reserved.ensures.items
+    ∙ ap (λ (l : List Write). done ++ c.args.write ∷ [] ++ l) c.drop_equal.ensures.items
+    ∙ laid_one done rest c.args.write up c.pass_smaller.ensures.below c.pass_smaller.ensures.reached
+    ∙ ap (λ (l : List Write). put l c.args.write) c.pass_smaller.ensures.items
 
-pub returns-clause-order : goal.returns-clause-order
-returns-clause-order c =
-    let up = rw (← c.pass_smaller.ensures.items) at c.requires.order in
-    let parts = put-parts c.pass_smaller.new.done.items c.pass_smaller.new.rest.items c.args.write up c.pass_smaller.ensures.reached in
-    rw (c.put_one.ensures.items, c.drop_equal.ensures.items, parts) (Ascend-put _ c.args.write up)
+pub returns-clause-below : goal.returns-clause-below
+returns-clause-below c = λ key above.
+    rw c.push_reserved.ensures.items (below_more c.pass_smaller.new.done.items c.args.write key c.pass_smaller.ensures.below above)

@@ -1,4 +1,4 @@
-use Rattle.write_set.proofs.Moved.{result_rises}
+use Rattle.write_set.proofs.InOrder.{result_rises}
 use Rattle.write_set.proofs.Orders.{result_alike}
 use Rattle.write_set.proofs.order.in_order.Goals as goal
 

@@ -2,7 +2,7 @@ use Rattle.std.proofs.Common.{rules}
 use Rattle.std.specs.Ordering.{is_lt}
 use Rattle.std.proofs.lemmas.Fn.{always_returns_same}
 use Rattle.cs_types.specs.Keys.{key_cmp}
-use Rattle.write_set.proofs.Moved.{told_in_order}
+use Rattle.write_set.proofs.InOrder.{told_in_order}
 use Rattle.write_set.proofs.order.is_in_order.Goals as goal
 
 pub returns : goal.returns

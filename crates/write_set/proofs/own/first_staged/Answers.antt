@@ -1,5 +1,5 @@
 use Rattle.std.proofs.Common.{◌∙◌, [], sym}
-use Rattle.write_set.proofs.PartWrites.{staged_itself}
+use Rattle.write_set.proofs.Laid.{staged_itself}
 use Rattle.write_set.proofs.own.first_staged.Goals as goal
 
 pub returns : goal.returns

@@ -9,13 +9,13 @@ returns-clause-value g c =
     let chunks = c.self.inside.chunks.items in
     let place = rw c.deref.ensures.value at c.chunk_at.ensures in
     let within = rw (← c.self.view_is) at c.requires in
-    let read = rw c.deref-2.ensures at c.index.ensures in
+    let read = rw (c.as_slice.ensures, c.from.ensures) at c.index-as_slice-place.is in
     rw (← c.self.view_is)
-    (slice_get_read (joined chunks) (length (joined chunks)) c.args.i c.index.result.now refl within
-    (got_read chunks c.self.invariant.0.stand c.args.i c.chunk_at.result c.index-chunk.result.now c.index.result.now place c.index-chunk.ensures read))
+    (slice_get_read (joined chunks) (length (joined chunks)) c.args.i c.index-as_slice-place.result refl within
+    (got_read chunks c.self.invariant.0.stand c.args.i c.chunk_at.result c.index-chunk.result.now c.index-as_slice-place.result place c.index-chunk.ensures read))
 
 pub returns-clause-item : goal.returns-clause-item
 returns-clause-item g c =
     let place = rw c.deref.ensures.value at c.chunk_at.ensures in
-    let read = rw c.deref-2.ensures at c.index.ensures in
-    rw (← c.self.view_is) (got_read c.self.inside.chunks.items c.self.invariant.0.stand c.args.i c.chunk_at.result c.index-chunk.result.now c.index.result.now place c.index-chunk.ensures read)
+    let read = rw (c.as_slice.ensures, c.from.ensures) at c.index-as_slice-place.is in
+    rw (← c.self.view_is) (got_read c.self.inside.chunks.items c.self.invariant.0.stand c.args.i c.chunk_at.result c.index-chunk.result.now c.index-as_slice-place.result place c.index-chunk.ensures read)
