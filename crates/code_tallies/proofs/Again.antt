@@ -1,62 +1,68 @@
 -- A piece more: rows side by side that have one key number, and one code in a column.
-use Rattle.std.proofs.Common.{◌≡◌, ℕ, zero, suc, ◌+◌, ◌<◌, ℤ, pos, ◌+ℤ◌, ◌*ℤ◌, List, Bool, true, false, ◌&&◌, cond, length, filter, fold, min, max, refl, sym, ◌∙◌, ap, subst, arith, add-one, add-zero, FitsSigned, w64}
+use Rattle.std.proofs.Common.{◌≡◌, ℕ, zero, suc, ◌+◌, ◌<◌, ℤ, pos, ◌+ℤ◌, ◌*ℤ◌, List, [], ◌∷◌, Bool, true, false, ◌&&◌, cond, length, filter, fold, count_by, min, max, refl, sym, ◌∙◌, ap, subst, arith, add-zero, zero-add, FitsSigned, w64}
 use Rattle.std.specs.Prelude.{slice_index_or, slice_set, ◌==◌}
 use Rattle.std.specs.List.{range_with_len}
 use Rattle.std.proofs.lemmas.Bool.{eqb-true, eqb-false}
 use Rattle.std.proofs.lemmas.Grind.{get_or-set_at}
 use Rattle.std.proofs.lemmas.Int.{ints}
+use Rattle.std.proofs.lemmas.List.Sums.{length-filter}
+use Rattle.std.proofs.Math.Bool.{and-true, and-false}
 use Rattle.std.proofs.lemmas.List.{get_or-set_other}
 use Rattle.std.proofs.Math.IntN.{+ℤ_assoc, +ℤ_idl, +ℤ_idr, *ℤ-zero, *ℤ_comm, suc_ℤ-*ℤ}
 use Rattle.batch_kernels.specs.Places.{IsSumOf}
 use Rattle.batch_kernels.proofs.Batches.{fold-batch, count-batch}
-use Rattle.batch_kernels.proofs.OneMore.{fold-more, count-more, IsSumOf-same}
+use Rattle.batch_kernels.proofs.OneMore.{IsSumOf-same}
+use Rattle.delete_bitmap.proofs.Counts.{count-none, count-same}
 use Rattle.code_tallies.specs.Tables.{positions}
+use Rattle.code_tallies.proofs.Buckets.{same-below}
 
 -- a step so many times
 abbrev pub again : {A : Type 0} → (A → A) → A → ℕ → A
 again g a zero = a
 again g a (suc n) = g (again g a n)
 
-either : {A : Type 0} (b : Bool) (a : A) → a ≡ cond b a a
-either true a = refl
-either false a = refl
+again_first : {A : Type 0} (g : A → A) (a : A) (n : ℕ) → again g (g a) n ≡ g (again g a n)
+again_first g a zero = refl
+again_first g a (suc n) = ap g (again_first g a n)
 
-const_more : {A : Type 0} (g : A → A) (a : A) (n : ℕ) (b : Bool) → cond b (g (cond b (again g a n) a)) (cond b (again g a n) a) ≡ cond b (again g a (suc n)) a
-const_more g a n true = refl
-const_more g a n false = refl
+-- a fold by one step
+fold_again : {A : Type 0} (g : A → A) (a : A) (xs : List ℕ) → fold (λ x _. g x) a xs ≡ again g a (length xs)
+fold_again g a [] = refl
+fold_again g a (x ∷ xs) = fold_again g (g a) xs ∙ again_first g a (length xs)
 
-const_fold : {A : Type 0} (g : A → A) (a : A) (n : ℕ) (b : Bool) → fold (λ x _. g x) a (filter (λ _. b) (range_with_len 0 n)) ≡ cond b (again g a n) a
-const_fold g a zero b = either b a
-const_fold g a (suc n) b =
-    ap (λ m. fold (λ x _. g x) a (filter (λ _. b) (range_with_len 0 m))) (sym (add-one n))
-    ∙ fold-more (λ _. b) (λ x _. g x) a n
-    ∙ ap (λ x. cond b (g x) x) (const_fold g a n b)
-    ∙ const_more g a n b
+again_where : {A : Type 0} (g : A → A) (a : A) (b : Bool) (n : ℕ) → again g a (cond b n 0) ≡ cond b (again g a n) a
+again_where g a true n = refl
+again_where g a false n = refl
 
-const_count : (n : ℕ) (b : Bool) → length (filter (λ _. b) (range_with_len 0 n)) ≡ cond b n 0
-const_count zero b = either b 0
-const_count (suc n) b =
-    let before : length (filter (λ _. b) (range_with_len 0 n)) ≡ cond b n 0 = const_count n b in
-    ap (λ m. length (filter (λ _. b) (range_with_len 0 m))) (sym (add-one n)) ∙ count-more (λ _. b) n ∙ ap (λ x. x + cond b 1 0) before ∙ one_more b
-  where
-    one_more : (c : Bool) → cond c n 0 + cond c 1 0 ≡ cond c (suc n) 0
-    one_more true = add-one n
-    one_more false = refl
+kept_where : (p : ℕ → Bool) (b : Bool) (n : ℕ) → length (filter (λ i. p i && b) (range_with_len 0 n)) ≡ cond b (length (filter p (range_with_len 0 n))) 0
+kept_where p true n = ap length (same-below (λ i. p i && true) p n (λ i below. and-true (p i)))
+kept_where p false n = length-filter (λ i. p i && false) (range_with_len 0 n) ∙ count-none (λ i. p i && false) 0 n (λ i below. and-false (p (0 + i)))
 
-module _ (test : ℕ → Bool) (key : ℕ → ℕ) (from n j : ℕ) (there : Bool) (tested : (i : ℕ) → i < n → test (from + i) ≡ there) (keyed : (i : ℕ) → i < n → key (from + i) ≡ j) (k : ℕ) where
-  passes : (i : ℕ) → i < n → (there && j == k) ≡ (test (from + i) && key (from + i) == k)
-  passes i below = ap (λ b. b && j == k) (sym (tested i below)) ∙ ap (λ x. test (from + i) && x == k) (sym (keyed i below))
+-- n positions from one on that have one key number, of which so many pass a test
+module _ (test : ℕ → Bool) (key : ℕ → ℕ) (from n j rows : ℕ) (counted : rows ≡ count_by test (range_with_len from n)) (keyed : (i : ℕ) → i < n → key (from + i) ≡ j) (k : ℕ) where
+  passes : (i : ℕ) → i < n → (test (from + i) && j == k) ≡ (test (from + i) && key (from + i) == k)
+  passes i below = ap (λ x. test (from + i) && x == k) (sym (keyed i below))
+
+  here : length (filter (λ i. test (from + i) && j == k) (range_with_len 0 n)) ≡ cond (j == k) rows 0
+  here =
+      kept_where (λ i. test (from + i)) (j == k) n
+      ∙ ap (λ m. cond (j == k) m 0)
+      (length-filter (λ i. test (from + i)) (range_with_len 0 n)
+      ∙ count-same (λ i. test (from + i)) test 0 from n (λ i below. ap (λ m. test (from + m)) (zero-add i))
+      ∙ sym counted)
 
   pub piece-fold : {A : Type 0} (step : A → ℕ → A) (g : A → A) (a : A) → ((i : ℕ) (x : A) → i < n → g x ≡ step x (from + i)) →
-      fold step a (positions test key k (from + n)) ≡ cond (there && j == k) (again g (fold step a (positions test key k from)) n) (fold step a (positions test key k from))
+      fold step a (positions test key k (from + n)) ≡ cond (j == k) (again g (fold step a (positions test key k from)) rows) (fold step a (positions test key k from))
   piece-fold step g a steps =
-      fold-batch (λ i. test i && key i == k) (λ _. there && j == k) step (λ x _. g x) a from n passes steps
-      ∙ const_fold g (fold step a (positions test key k from)) n (there && j == k)
+      fold-batch (λ i. test i && key i == k) (λ i. test (from + i) && j == k) step (λ x _. g x) a from n passes steps
+      ∙ fold_again g (fold step a (positions test key k from)) (filter (λ i. test (from + i) && j == k) (range_with_len 0 n))
+      ∙ ap (again g (fold step a (positions test key k from))) here
+      ∙ again_where g (fold step a (positions test key k from)) (j == k) rows
 
-  pub piece-count : length (positions test key k (from + n)) ≡ length (positions test key k from) + cond (there && j == k) n 0
+  pub piece-count : length (positions test key k (from + n)) ≡ length (positions test key k from) + cond (j == k) rows 0
   piece-count =
-      count-batch (λ i. test i && key i == k) (λ _. there && j == k) from n passes
-      ∙ ap (λ m. length (positions test key k from) + m) (const_count n (there && j == k))
+      count-batch (λ i. test i && key i == k) (λ i. test (from + i) && j == k) from n passes
+      ∙ ap (λ m. length (positions test key k from) + m) here
 
 -- an entry written
 pub entry-written : {A : Type 0} (old : List A) (d v : A) (f : A → A) (j k : ℕ) → j < length old → v ≡ f (slice_index_or old j d) →

@@ -1,6 +1,7 @@
 -- What is kept of the chosen rows of a group, an entry for each key number.
-use Rattle.std.specs.Prelude.{◌≡◌, ◌<◌, ◌≤◌, ℕ, ◌+◌, ◌-◌, ◌*◌, ◌/◌, ◌%◌, ◌==◌, min, max, ℤ, pos, ◌+ℤ◌, Bool, true, false, ◌&&◌, nat_le, nat_lt, List, [], Option, None, Some, length, filter, fold, slice_index, slice_index_or, vec_len}
+use Rattle.std.specs.Prelude.{◌≡◌, ◌<◌, ◌≤◌, ℕ, ◌+◌, ◌-◌, ◌*◌, ◌/◌, ◌%◌, ◌==◌, min, max, ℤ, pos, ◌+ℤ◌, Bool, false, ◌&&◌, nat_le, nat_lt, List, [], Option, None, Some, length, filter, fold, slice_index, slice_index_or, vec_len}
 use Rattle.std.specs.List.{range_with_len, AllZip}
+use Rattle.std.specs.Option.{option_copied}
 use Rattle.std.specs.declared.vec.Vec.{Vec}
 use Rattle.std.specs.declared.alloc.Global.{Global}
 use Rattle.cs_types.specs.Rows.{number_in}
@@ -18,19 +19,23 @@ use Rattle.code_tallies.specs.declared.chosen.Batch.{Batch}
 use Rattle.batch_kernels.specs.Places.{key_in, IsSumOf}
 use Rattle.code_tallies.specs.Keys.{key_at}
 use Rattle.code_tallies.specs.Columns.{code_at, cell_there, shown_code}
-use Rattle.code_tallies.specs.Shown.{rows_at}
+use Rattle.code_tallies.specs.Shown.{is_shown, rows_at}
 
 -- whether masks, of 1,024 places each, choose a position
 abbrev pub chosen_in : List (List Bool) → ℕ → Bool
 chosen_in masks i = slice_index_or (slice_index_or masks (i / 1024) []) (i % 1024) false
 
--- whether a position is chosen: by masks, or there are none
-abbrev pub chosen_by : Option (Vec (List Bool) Global) → ℕ → Bool
-chosen_by None i = true
-chosen_by (Some masks) i = chosen_in masks.items i
+-- whether a position is chosen: by masks, or where there are none as it is shown
+abbrev pub chosen_by : Option (Vec (List Bool) Global) → Option (List Bool) → ℕ → Bool
+chosen_by None shown i = is_shown shown i
+chosen_by (Some masks) shown i = chosen_in masks.items i
 
 abbrev pub is_chosen : Chosen → ℕ → Bool
-is_chosen chosen i = chosen_by chosen.masks i
+is_chosen chosen i = chosen_by chosen.masks (option_copied chosen.shown) i
+
+-- each position that is shown is chosen, and no other
+abbrev pub IsEachShown : Chosen → Type 0
+IsEachShown chosen = (i : ℕ) → is_chosen chosen i ≡ is_shown (option_copied chosen.shown) i
 
 -- the positions below n that are chosen and have a key number
 abbrev pub positions : (ℕ → Bool) → (ℕ → ℕ) → ℕ → ℕ → List ℕ

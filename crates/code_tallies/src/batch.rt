@@ -11,12 +11,12 @@ use crate::column::Column;
 use crate::keys::read_keys;
 use crate::pieces::rows_by_pieces;
 use crate::verdicts::Verdicts;
-use batch_kernels::{Keys, choose_first, count_by_key, has_chosen, keep_from, keep_where};
+use batch_kernels::{Keys, count_by_key, has_chosen, keep_from, keep_where};
 use cs_base::Memory;
 use delete_bitmap::Positions;
 use std::alloc::Global;
 
-/// The masks of the rows that are shown and that the verdicts keep. None where these are all rows.
+/// The masks of the rows that are shown and that the verdicts keep. None where these are all that are shown.
 pub fn masks_of<V: Verdicts>(
     alloc: Global,
     length: usize,
@@ -25,9 +25,9 @@ pub fn masks_of<V: Verdicts>(
 ) -> Result<Option<Vec<[bool; 1024]>>, Memory>
     requires { length < 2 ^ 59 }
     ensures enough { IfOk result (λ found. IfSome found (λ masks. length ≤ 1024 * vec_len masks)) }
-    ensures chosen { IfOk result (λ found. (i : ℕ) → i < length → chosen_by found i ≡ (is_shown (option_copied shown.entry) i && V.kept verdicts.now i)) }
+    ensures chosen { IfOk result (λ found. (i : ℕ) → i < length → chosen_by found (option_copied shown.entry) i ≡ (is_shown (option_copied shown.entry) i && V.kept verdicts.now i)) }
 {
-    if shown.is_none() && verdicts.keeps_each(length) {
+    if verdicts.keeps_each(length) {
         return Ok(None);
     }
     Ok(Some(each_mask(alloc, length, shown, verdicts)?))
@@ -95,7 +95,7 @@ impl Chosen<'_> {
         ensures { OnFalse result ((i : ℕ) → i < min 1024 (self.now.length - 1024 * number) → is_chosen self.now (1024 * number + i) ≡ false) }
     {
         match &self.masks {
-            None => true,
+            None => self.shown_from(1024 * number, self.count(number)) > 0,
             Some(masks) => has_chosen(&masks[number]),
         }
     }
@@ -107,7 +107,7 @@ impl Chosen<'_> {
         ensures { (i : ℕ) → i < count → slice_index_or mask.new i false ≡ is_chosen self.now (1024 * number + i) }
     {
         match &self.masks {
-            None => choose_first(count, mask),
+            None => self.put_shown(1024 * number, count, mask),
             Some(masks) => *mask = masks[number],
         }
     }
@@ -131,7 +131,7 @@ impl Chosen<'_> {
         ensures each { OnTrue result ((i : ℕ) → is_chosen self.now i ≡ true) }
         ensures alone { OnTrue result (self.now.keys.items ≡ []) }
     {
-        self.masks.is_none() && self.keys.is_empty()
+        self.masks.is_none() && self.shown.is_none() && self.keys.is_empty()
     }
 
     /// How many rows are chosen, for each key number.

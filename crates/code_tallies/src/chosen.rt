@@ -4,13 +4,16 @@ ghost use Rattle.code_tallies.specs.Keys.{key_count};
 
 use crate::column::Column;
 use batch_kernels::Keys;
+use delete_bitmap::Positions;
 
 /// The rows of a group that are chosen, and their key numbers.
 #[derive(Drop)]
 pub struct Chosen<'a> {
     /// The number of rows of the group.
     pub length: usize,
-    /// Which rows are chosen: a mask for each 1,024 of them. None where each row is.
+    /// The rows that are shown. None where each row is.
+    pub shown: Option<&'a Positions>,
+    /// Which rows are chosen: a mask for each 1,024 of them. None where each row that is shown is.
     pub masks: Option<Vec<[bool; 1024]>>,
     /// The grouping columns.
     pub keys: Vec<Column<'a>>,

@@ -14,6 +14,7 @@ mod finish;
 mod keys;
 mod measure;
 mod pieces;
+mod shown;
 mod table;
 mod tabulate;
 mod tally;

@@ -1,10 +1,10 @@
-// What is kept of a column by pieces, where each row is chosen: rows side by side that have one key number, and one code in the
-// column. A piece is counted once, and none of its rows is read.
-ghost use Rattle.std.specs.Prelude.{◌≡◌, ℕ, ◌<◌, ◌≤◌, ◌^◌, pos, ◌*ℤ◌, IfOk, true};
-ghost use Rattle.std.specs.Bool.{OnTrue};
+// What is kept of a column by pieces, where each row that is shown is chosen: rows side by side that have one key number, and one
+// code in the column. Of a piece the rows that are shown are counted at once, and none of them is read.
+ghost use Rattle.std.specs.Prelude.{◌≡◌, ◌<◌, ◌≤◌, ◌^◌, ◌⊎◌, pos, ◌*ℤ◌, IfOk};
+ghost use Rattle.std.specs.Bool.{OnTrue, OnFalse};
 ghost use Rattle.code_tallies.specs.Keys.{HasKeys};
 ghost use Rattle.code_tallies.specs.Stretches.{AreKnown, IsStretch};
-ghost use Rattle.code_tallies.specs.Tables.{is_chosen, present_in, AreCounts, AreSums, AreLeast, AreGreatest};
+ghost use Rattle.code_tallies.specs.Tables.{is_chosen, present_in, AreCounts, AreSums, AreLeast, AreGreatest, IsEachShown};
 
 use crate::chosen::Chosen;
 use crate::column::Column;
@@ -22,12 +22,24 @@ pub struct Piece {
     pub code: u64,
     /// The position past the last of them.
     pub end: usize,
+    /// How many of them are shown.
+    pub rows: usize,
+}
+
+impl Piece {
+    /// Whether none of its cells counts in a column: no row is shown, or all are NULL.
+    fn is_without(&self, column: &Column<'_>) -> bool
+        ensures none { OnTrue result ((self.now.rows ≡ 0) ⊎ (self.now.code < column.now.first)) }
+        ensures some { OnFalse result ((0 < self.now.rows) × (column.now.first ≤ self.now.code)) }
+    {
+        self.rows == 0 || self.code < column.first
+    }
 }
 
 impl Chosen<'_> {
-    /// Whether each row is chosen, and the grouping columns stand in long runs.
+    /// Whether each row that is shown is chosen, and the grouping columns stand in long runs.
     pub fn has_pieces(&self) -> bool
-        ensures { OnTrue result ((i : ℕ) → is_chosen self.now i ≡ true) }
+        ensures { OnTrue result (IsEachShown self.now) }
     {
         self.masks.is_none() && are_in_runs(&self.keys)
     }
@@ -41,10 +53,12 @@ impl Chosen<'_> {
     {
         let (key, end) = key_stretch(&self.keys, from, self.length);
         let (code, stop) = column.segment.stretch(from);
+        let end = end.min(stop);
         Piece {
             key,
             code,
-            end: end.min(stop),
+            end,
+            rows: self.shown_from(from, end - from),
         }
     }
 }
@@ -59,7 +73,7 @@ fn times(number: i64, many: usize) -> i128
 
 /// How many rows have each key number.
 pub fn rows_by_pieces(alloc: Global, chosen: &Chosen<'_>) -> Result<Vec<u64>, Memory>
-    requires each { (i : ℕ) → is_chosen chosen.now i ≡ true }
+    requires each { IsEachShown chosen.now }
     requires keyed { HasKeys chosen.now.length chosen.now.keys.items }
     ensures { IfOk result (λ counts. AreCounts chosen.now (is_chosen chosen.now) chosen.now.length counts.items) }
 {
@@ -73,7 +87,7 @@ pub fn rows_by_pieces(alloc: Global, chosen: &Chosen<'_>) -> Result<Vec<u64>, Me
 
 /// Adds the rows from a position on that have its key number to the counts. Gives the position past the last of them.
 fn add_rows(chosen: &Chosen<'_>, from: usize, counts: &mut [u64]) -> usize
-    requires each { (i : ℕ) → is_chosen chosen.now i ≡ true }
+    requires each { IsEachShown chosen.now }
     requires keyed { HasKeys chosen.now.length chosen.now.keys.items }
     requires from { from < chosen.now.length }
     requires before { AreCounts chosen.now (is_chosen chosen.now) from counts.old }
@@ -81,7 +95,7 @@ fn add_rows(chosen: &Chosen<'_>, from: usize, counts: &mut [u64]) -> usize
     ensures counts { AreCounts chosen.now (is_chosen chosen.now) result counts.new }
 {
     let (key, end) = key_stretch(&chosen.keys, from, chosen.length);
-    counts[key as usize] += (end - from) as u64;
+    counts[key as usize] += chosen.shown_from(from, end - from) as u64;
     end
 }
 
@@ -91,7 +105,7 @@ pub fn counts_by_pieces(
     column: &Column<'_>,
     chosen: &Chosen<'_>,
 ) -> Result<Vec<u64>, Memory>
-    requires each { (i : ℕ) → is_chosen chosen.now i ≡ true }
+    requires each { IsEachShown chosen.now }
     requires length { chosen.now.length ≤ column.now.segment.now.length }
     requires keyed { HasKeys chosen.now.length chosen.now.keys.items }
     ensures { IfOk result (λ counts. AreCounts chosen.now (present_in column.now (is_chosen chosen.now)) chosen.now.length counts.items) }
@@ -106,7 +120,7 @@ pub fn counts_by_pieces(
 
 /// Adds the piece from a position on to the counts. Gives its end.
 fn add_count(column: &Column<'_>, chosen: &Chosen<'_>, from: usize, counts: &mut [u64]) -> usize
-    requires each { (i : ℕ) → is_chosen chosen.now i ≡ true }
+    requires each { IsEachShown chosen.now }
     requires length { chosen.now.length ≤ column.now.segment.now.length }
     requires keyed { HasKeys chosen.now.length chosen.now.keys.items }
     requires from { from < chosen.now.length }
@@ -115,10 +129,10 @@ fn add_count(column: &Column<'_>, chosen: &Chosen<'_>, from: usize, counts: &mut
     ensures counts { AreCounts chosen.now (present_in column.now (is_chosen chosen.now)) result counts.new }
 {
     let piece = chosen.piece(column, from);
-    if piece.code < column.first {
+    if piece.is_without(column) {
         return piece.end;
     }
-    counts[piece.key as usize] += (piece.end - from) as u64;
+    counts[piece.key as usize] += piece.rows as u64;
     piece.end
 }
 
@@ -128,7 +142,7 @@ pub fn sums_by_pieces(
     column: &Column<'_>,
     chosen: &Chosen<'_>,
 ) -> Result<SumTable, Memory>
-    requires each { (i : ℕ) → is_chosen chosen.now i ≡ true }
+    requires each { IsEachShown chosen.now }
     requires length { chosen.now.length ≤ column.now.segment.now.length }
     requires keyed { HasKeys chosen.now.length chosen.now.keys.items }
     requires known { AreKnown column.now }
@@ -158,7 +172,7 @@ fn add_sum(
     counts: &mut [u64],
     sums: &mut [i128],
 ) -> usize
-    requires each { (i : ℕ) → is_chosen chosen.now i ≡ true }
+    requires each { IsEachShown chosen.now }
     requires length { chosen.now.length ≤ column.now.segment.now.length }
     requires keyed { HasKeys chosen.now.length chosen.now.keys.items }
     requires known { AreKnown column.now }
@@ -170,12 +184,11 @@ fn add_sum(
     ensures sums { AreSums chosen.now column.now result sums.new }
 {
     let piece = chosen.piece(column, from);
-    if piece.code < column.first {
+    if piece.is_without(column) {
         return piece.end;
     }
-    let many = piece.end - from;
-    counts[piece.key as usize] += many as u64;
-    sums[piece.key as usize] += times(column.number(piece.code), many);
+    counts[piece.key as usize] += piece.rows as u64;
+    sums[piece.key as usize] += times(column.number(piece.code), piece.rows);
     piece.end
 }
 
@@ -185,7 +198,7 @@ pub fn least_by_pieces(
     column: &Column<'_>,
     chosen: &Chosen<'_>,
 ) -> Result<(Vec<u64>, Vec<u64>), Memory>
-    requires each { (i : ℕ) → is_chosen chosen.now i ≡ true }
+    requires each { IsEachShown chosen.now }
     requires length { chosen.now.length ≤ column.now.segment.now.length }
     requires keyed { HasKeys chosen.now.length chosen.now.keys.items }
     ensures counts { IfOk result (λ tables. AreCounts chosen.now (present_in column.now (is_chosen chosen.now)) chosen.now.length tables.0.items) }
@@ -214,7 +227,7 @@ fn add_least(
     counts: &mut [u64],
     least: &mut [u64],
 ) -> usize
-    requires each { (i : ℕ) → is_chosen chosen.now i ≡ true }
+    requires each { IsEachShown chosen.now }
     requires length { chosen.now.length ≤ column.now.segment.now.length }
     requires keyed { HasKeys chosen.now.length chosen.now.keys.items }
     requires from { from < chosen.now.length }
@@ -225,11 +238,11 @@ fn add_least(
     ensures least { AreLeast chosen.now column.now result least.new }
 {
     let piece = chosen.piece(column, from);
-    if piece.code < column.first {
+    if piece.is_without(column) {
         return piece.end;
     }
     let key = piece.key as usize;
-    counts[key] += (piece.end - from) as u64;
+    counts[key] += piece.rows as u64;
     least[key] = least[key].min(piece.code);
     piece.end
 }
@@ -240,7 +253,7 @@ pub fn greatest_by_pieces(
     column: &Column<'_>,
     chosen: &Chosen<'_>,
 ) -> Result<(Vec<u64>, Vec<u64>), Memory>
-    requires each { (i : ℕ) → is_chosen chosen.now i ≡ true }
+    requires each { IsEachShown chosen.now }
     requires length { chosen.now.length ≤ column.now.segment.now.length }
     requires keyed { HasKeys chosen.now.length chosen.now.keys.items }
     ensures counts { IfOk result (λ tables. AreCounts chosen.now (present_in column.now (is_chosen chosen.now)) chosen.now.length tables.0.items) }
@@ -269,7 +282,7 @@ fn add_greatest(
     counts: &mut [u64],
     greatest: &mut [u64],
 ) -> usize
-    requires each { (i : ℕ) → is_chosen chosen.now i ≡ true }
+    requires each { IsEachShown chosen.now }
     requires length { chosen.now.length ≤ column.now.segment.now.length }
     requires keyed { HasKeys chosen.now.length chosen.now.keys.items }
     requires from { from < chosen.now.length }
@@ -280,11 +293,11 @@ fn add_greatest(
     ensures greatest { AreGreatest chosen.now column.now result greatest.new }
 {
     let piece = chosen.piece(column, from);
-    if piece.code < column.first {
+    if piece.is_without(column) {
         return piece.end;
     }
     let key = piece.key as usize;
-    counts[key] += (piece.end - from) as u64;
+    counts[key] += piece.rows as u64;
     greatest[key] = greatest[key].max(piece.code);
     piece.end
 }

@@ -78,7 +78,7 @@ fn choose<'a, V: Verdicts>(
     alloc: Global,
     packed: &'a Packed,
     places: &[usize],
-    shown: Option<&Positions>,
+    shown: Option<&'a Positions>,
     verdicts: &V,
 ) -> Result<Option<Chosen<'a>>, Memory>
     ensures { IfOk result (λ found. IfSome found (λ chosen. IsChoice packed.now places.now (λ i. is_shown (option_copied shown.entry) i && V.kept verdicts.now i) chosen)) }
@@ -96,6 +96,7 @@ fn choose<'a, V: Verdicts>(
     let masks = masks_of(alloc, length, shown, verdicts)?;
     Ok(Some(Chosen {
         length,
+        shown,
         masks,
         keys,
         size: size as usize,

@@ -1,6 +1,7 @@
 // A set of positions, kept as bits in words.
-ghost use Rattle.std.specs.Prelude.{◌≡◌, ℕ, ◌+◌, ◌-◌, ◌<◌, ◌≤◌, ◌*◌, ◌/◌, ◌^◌, ◌⊎◌, ◌==◌, ◌&&◌, ◌||◌, length, map, nat_lt, not, replicate, slice_index, slice_index_or, slice_set, All, IfOk, OnOk, OnErr, true, false};
+ghost use Rattle.std.specs.Prelude.{◌≡◌, ℕ, ◌+◌, ◌-◌, ◌<◌, ◌≤◌, ◌*◌, ◌/◌, ◌^◌, ◌⊎◌, ◌==◌, ◌&&◌, ◌||◌, length, map, nat_lt, not, replicate, slice_index, slice_index_or, slice_set, count_by, All, IfOk, OnOk, OnErr, true, false};
 ghost use Rattle.std.specs.Int.{bit_at};
+ghost use Rattle.std.specs.List.{range_with_len};
 ghost use Rattle.delete_bitmap.specs.Bits.{bit_in, bits_in, with_all, IsCovered};
 
 use cs_base::Memory;
@@ -69,6 +70,14 @@ impl Positions {
         let end = count.min(self.length.saturating_sub(from));
         put_bits(&self.words, from, end, out);
         put_all(false, end, 1024, out);
+    }
+
+    /// How many of the `count` positions from one on are in the set. It goes word by word.
+    pub fn count_in(&self, from: usize, count: usize) -> usize
+        ensures { result ≡ count_by (λ p. slice_index_or self.now p false) (range_with_len from count) }
+    {
+        let there = count.min(self.length.saturating_sub(from));
+        count_bits(&self.words, from, there)
     }
 
     /// Puts a position in. After `Memory` nothing has changed.
@@ -148,6 +157,32 @@ fn is_set(words: &[u64], position: usize) -> bool
         Some(word) => (*word >> (position % 64)) & 1 == 1,
         None => false,
     }
+}
+
+/// How many of the `count` bits from `from` on are set, word by word.
+fn count_bits(words: &[u64], from: usize, count: usize) -> usize
+    requires { from + count < 2 ^ 64 }
+    ensures { result ≡ count_by (bit_in words.now) (range_with_len from count) }
+{
+    let mut done = 0;
+    let mut counted = 0;
+    while done < count {
+        let place = from + done;
+        let many = (64 - place % 64).min(count - done);
+        counted += count_word(word_at(words, place / 64), place % 64, many);
+        done += many;
+    }
+    counted
+}
+
+/// How many of the `count` bits of a word from `bit` on are set.
+fn count_word(word: u64, bit: usize, count: usize) -> usize
+    requires some { 0 < count }
+    requires bits { bit + count ≤ 64 }
+    ensures { result ≡ count_by (λ i. bit_at word i == 1) (range_with_len bit count) }
+{
+    let low = u64::MAX >> (64 - count);
+    (word >> bit & low).count_ones() as usize
 }
 
 /// Makes words for `bits` bits, none of them set, where there is no word yet. After `Memory` nothing has changed.

@@ -1,4 +1,4 @@
-use Rattle.std.proofs.Common.{◌/◌, ◌≤◌, length, sym, arith}
+use Rattle.std.proofs.Common.{◌/◌, arith}
 use Rattle.delete_bitmap.proofs.BitLemmas.{bit_in-turned}
 use Rattle.delete_bitmap.proofs.positions.invert_each.Goals as goal
 

@@ -1,6 +1,6 @@
-use Rattle.std.proofs.Common.{◌≡◌, ◌<◌, ℕ, not, map, sym, ap, ◌∙◌, arith}
-use Rattle.delete_bitmap.specs.Bits.{bit_in, bits_in}
-use Rattle.delete_bitmap.proofs.BitLemmas.{length-bits_in, bits_in-alike, bits_in-turned}
+use Rattle.std.proofs.Common.{◌≡◌, ◌<◌, ℕ, not, map, ap, ◌∙◌, arith}
+use Rattle.delete_bitmap.specs.Bits.{bit_in}
+use Rattle.delete_bitmap.proofs.BitLemmas.{bits_in-alike, bits_in-turned}
 use Rattle.delete_bitmap.proofs.positions.Positions.complement.Goals as goal
 
 pub returns-clause-ok : goal.returns-clause-ok
