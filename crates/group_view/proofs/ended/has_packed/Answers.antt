@@ -5,7 +5,6 @@ use Rattle.group_view.proofs.Noted.{ended_here, ended_one, ending_of, first_any,
 use Rattle.group_view.proofs.Walks.{any-map}
 use Rattle.group_view.proofs.ended.has_packed.Goals as goal
 
-
 pub loop-i-init : goal.loop-i-init
 loop-i-init c =
     let group = c.args.packed.now in

@@ -20,8 +20,7 @@ loop-i-init c =
     let marks = c.args.marks.now in
     let entries = c.args.buffer.now.entries in
     let span = c.entries_within-span.result in
-    let is : IsSpanOf group entries span = subst (λ list. IsSpanOf group list span) c.as_slice-entries.ensures.entries c.entries_within-span.ensures in
-    (
+    let is : IsSpanOf group entries span = subst (λ list. IsSpanOf group list span) c.as_slice-entries.ensures.entries c.entries_within-span.ensures in (
       c.requires.noted,
       sym (first_any group marks entries span is),
       λ test are. noted_first entries test (ended_here group marks entries span is) span.from c.args.noted.now are (none_first group marks entries span is),

@@ -34,11 +34,10 @@ note_all-requires-clause-none c =
 
 pub marked-requires : goal.marked-requires
 marked-requires c =
-    let list = c.args.list.now in
-    (
+    let list = c.args.list.now in (
       flushes list,
       marks_of (flushes list) list.buffer.entries c.as_slice-entries.result.now c.deref_mut.result.now c.note_all.new.noted c.in_ok-noted.noted.items c.deref.result.now c.in_ok-noted.noted.len
-      c.as_slice-entries.ensures.entries (c.in_ok-noted.ensures.items_if_clones_equal (λ y same. same)) c.deref_mut.ensures.value c.deref_mut.ensures.len c.in_ok-sources.ensures.noted c.deref.ensures.value,
+          c.as_slice-entries.ensures.entries (c.in_ok-noted.ensures.items_if_clones_equal (λ y same. same)) c.deref_mut.ensures.value c.deref_mut.ensures.len c.in_ok-sources.ensures.noted c.deref.ensures.value,
     )
 
 pub returns-clause-entries : goal.returns-clause-entries
