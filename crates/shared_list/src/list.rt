@@ -108,7 +108,7 @@ impl<T> SharedList<T> {
 }
 
 impl<T: Drop> SharedList<T> {
-    /// The list of a vector's items, in one chunk. They are moved.
+    /// The list of a vector's items, in one chunk, or in none where there is no item. They are moved.
     pub fn from_vec(alloc: Global, items: Vec<T>) -> Result<SharedList<T>, Memory>
         ensures { IfOk result (λ list. list ≡ items.items) }
     {
