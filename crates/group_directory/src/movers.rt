@@ -22,7 +22,7 @@ use crate::lists::claim_place;
 use crate::settles::settle;
 use cs_base::Memory;
 use cs_model::Actor;
-use group_view::{Choice, Claim, Flush, flush_of, next_work};
+use group_view::{Choice, Claim, flush_of, next_work};
 
 /// What the turn of an actor does first.
 #[derive(Drop)]
@@ -67,7 +67,7 @@ impl Directory {
         ensures claims { OnErr result (self.new.list.claims.items ≡ self.old.list.claims.items) }
         ensures stands { (changes : List Change) → Stands self.old changes → Stands self.new changes }
     {
-        let Flush { sources, entries } = flush_of(self.alloc, &self.list)?;
+        let group_view::Flush { sources, entries } = flush_of(self.alloc, &self.list)?;
         let claim = claim_flush(
             self.alloc,
             &mut self.list,
