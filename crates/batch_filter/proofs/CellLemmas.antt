@@ -1,5 +1,5 @@
 -- Cells of lists.
-use Rattle.std.proofs.Common.{◌≡◌, ◌≢◌, ℕ, suc, ◌<◌, List, length, refl, ap, sym, ◌∙◌, arith, false, true, Bool, true≢false, get_or, ◌+◌, ◌≤◌, take, drop}
+use Rattle.std.proofs.Common.{◌≡◌, ◌≢◌, ℕ, zero, suc, ◌<◌, List, length, refl, ap, sym, ◌∙◌, arith, false, true, Bool, true≢false, get_or, ◌+◌, ◌≤◌, take, drop}
 use Rattle.std.specs.List.{list_any}
 use Rattle.std.proofs.lemmas.List.Folds.{list_any_at}
 use Rattle.std.proofs.lemmas.List.{get_or-drop, get_or-take, length-drop, length-take-le}
@@ -10,14 +10,14 @@ use Rattle.batch_filter.specs.Named.{lone_row}
 
 -- the cell of a row with no other one
 pub lone_cell : (column : ℕ) (cell : Value) → cell_at (lone_row column cell) column ≡ cell
-lone_cell 0 cell = refl
+lone_cell zero cell = refl
 lone_cell (suc column) cell = lone_cell column cell
 
 -- its other cells
 pub lone_null : (column other : ℕ) (cell : Value) → other ≢ column → cell_at (lone_row column cell) other ≡ Null
-lone_null 0 0 cell apart = absurd (apart refl)
-lone_null 0 (suc other) cell apart = refl
-lone_null (suc column) 0 cell apart = refl
+lone_null zero zero cell apart = absurd (apart refl)
+lone_null zero (suc other) cell apart = refl
+lone_null (suc column) zero cell apart = refl
 lone_null (suc column) (suc other) cell apart = lone_null column other cell (λ same. apart (ap suc same))
 
 -- none is chosen where a search finds none

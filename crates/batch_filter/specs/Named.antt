@@ -1,5 +1,5 @@
 -- The columns that a predicate names.
-use Rattle.std.specs.Prelude.{ℕ, suc, List, [], ◌∷◌, ◌++◌}
+use Rattle.std.specs.Prelude.{ℕ, zero, suc, List, [], ◌∷◌, ◌++◌}
 use Rattle.std.specs.List.{flat_map}
 use Rattle.cs_types.specs.declared.Value.{Value}
 use Rattle.cs_types.specs.declared.Value.TheVariants.{Null}
@@ -29,5 +29,5 @@ named pred = fold-Pred (List ℕ) named_step pred
 
 -- a row with a cell in this column, and NULL in each before it
 abbrev pub lone_row : ℕ → Value → List Value
-lone_row 0 cell = cell ∷ []
+lone_row zero cell = cell ∷ []
 lone_row (suc column) cell = Null ∷ lone_row column cell

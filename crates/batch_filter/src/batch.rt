@@ -13,6 +13,7 @@ use cs_predicate::{Cells, Side, truth_of};
 use cs_types::{ColumnType, Schema};
 
 /// The cells at one place of some batches.
+#[derive(Drop)]
 struct BatchRow<'a> {
     columns: &'a [Batch],
     place: usize,

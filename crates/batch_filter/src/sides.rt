@@ -1,6 +1,6 @@
 //! The truth of a predicate over cells where they stand in a group. No row is made.
 
-ghost use Rattle.std.specs.Prelude.{◌≡◌, ◌<◌, ℕ, List, length};
+ghost use Rattle.std.specs.Prelude.{◌≡◌, ◌==◌, ◌<◌, List, true, length};
 ghost use Rattle.std.specs.List.{list_all};
 ghost use Rattle.cs_types.specs.declared.Value.{Value};
 ghost use Rattle.cs_types.specs.Rows.{cell_at};
@@ -17,6 +17,7 @@ use cs_types::{ColumnType, Schema};
 use row_group::Packed;
 
 /// The row at a position of a group.
+#[derive(Drop)]
 struct GroupRow<'a> {
     packed: &'a Packed,
     position: usize,
@@ -44,6 +45,7 @@ pub fn truth_at(pred: &Pred, packed: &Packed, schema: &Schema, position: usize) 
 }
 
 /// A row with a cell in one column, whose other cells are NULL.
+#[derive(Drop)]
 struct LoneCell<'a> {
     column: usize,
     cell: CellRef<'a>,
