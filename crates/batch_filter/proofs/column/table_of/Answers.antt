@@ -20,7 +20,7 @@ loop-code-preserved c =
           let here : k ≡ code = omega arith in
           ap (λ t. get_or t k false) ok ∙ ap (λ j. get_or (table ++ b ∷ []) j false) (here ∙ sym before.counted) ∙ get_or-append_seam table b [] false
           ∙ c.is_asked.ensures
-          ∙ ap (is_asked c.args.holds) (c.truth_of_cell.ensures row (same ∙ ap (cell_of_code c.args.segment.now.body) here ∙ sym c.cell_of.ensures)))
+          ∙ ap (is_asked c.args.holds) (c.truth_of_cell-found.ensures row (same ∙ ap (cell_of_code c.args.segment.now.body) here ∙ sym c.cell_of.ensures)))
           (cases_lt k code);
     }
 
