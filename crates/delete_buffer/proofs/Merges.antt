@@ -1,7 +1,7 @@
 -- Entries that are merged into a buffer, and entries that are taken out of it.
 use Rattle.std.specs.Bool.{◌==◌}
 use Rattle.std.proofs.lemmas.Bool.Decides.{nat_tests}
-use Rattle.std.proofs.Common.{◌≡◌, ◌≢◌, ℕ, ◌+◌, ◌-◌, ◌<◌, ◌≤◌, inl, inr, pos, Bool, true, false, not, cond, List, [], ◌∷◌, ◌++◌, length, get_or, take, drop, set, refl, sym, ap, subst, ◌∙◌, arith, Contains}
+use Rattle.std.proofs.Common.{◌≡◌, ◌≢◌, ℕ, suc, ◌+◌, ◌-◌, ◌<◌, ◌≤◌, inl, inr, pos, Bool, true, false, not, cond, List, [], ◌∷◌, ◌++◌, length, filter, get_or, take, drop, set, refl, sym, ap, subst, ◌∙◌, arith, Contains}
 use Rattle.std.specs.declared.cmp.Ordering.{Ordering}
 use Rattle.std.specs.declared.cmp.Ordering.TheVariants.{Less, Equal, Greater}
 use Rattle.std.specs.List.{slice_get}
@@ -13,80 +13,59 @@ use Rattle.std.proofs.lemmas.List.Folds.{list_any_at, list_any_none}
 use Rattle.std.proofs.lemmas.List.Kept.{AllPairs-filter}
 use Rattle.std.proofs.lemmas.Option.{slice_get_past, slice_get-get_or}
 use Rattle.cs_types.specs.declared.Key.{Key}
-use Rattle.delete_buffer.specs.Entries.{Entry, entry_cmp, AreInOrder, Ascend, ended, is_among, without, order_of}
+use Rattle.delete_buffer.specs.Entries.{Entry, entry_cmp, AreInOrder, AreParts, Ascend, ended, is_among, without, order_of}
 use Rattle.delete_buffer.proofs.Order.{entry_total, same_entry}
+use Rattle.delete_buffer.proofs.TwoParts.{IsLess, less_trans, less_from_greater}
 use Rattle.merge_laws.proofs.Merging.{IsMerging, IsMerging-start, IsMerging-old, IsMerging-new, All-below_last, AllPairs-front}
 
--- an entry comes before another
-abbrev pub IsLess : Entry → Entry → Type 0
-IsLess x y = entry_cmp x y ≡ Less
-
-less_trans : (x y z : Entry) → IsLess x y → IsLess y z → IsLess x z
-less_trans x y z = entry_total.trans x y z
-
-less_from_greater : (x y : Entry) → entry_cmp x y ≡ Greater → IsLess y x
-less_from_greater x y greater = entry_total.antisymm y x ∙ ap ordering_reverse greater
-
-get_or-ended : (keys : List Key) (end k : ℕ) (key : Key) (d : Entry) → k < length keys → get_or (ended keys end) k d ≡ (get_or keys k key, end)
-get_or-ended keys end k key d there = get_or-map (λ (key : Key). (key, end)) keys k key d there
-
-pub length-ended : (keys : List Key) (end : ℕ) → length (ended keys end) ≡ length keys
-length-ended keys end = length-map keys (λ (key : Key). (key, end))
-
 -- entries of ascending keys are in order
-in_order-ended : (keys : List Key) (end : ℕ) → Ascend keys → AreInOrder (ended keys end)
+pub in_order-ended : (keys : List Key) (end : ℕ) → Ascend keys → AreInOrder (ended keys end)
 in_order-ended keys end up i j d less there =
-    let short : j < length keys = omega (arith, length-ended keys end) in
-    let x = get_or-ended keys end i d.0 d (omega arith) in
-    let y = get_or-ended keys end j d.0 d short in
+    let short : j < length keys = omega (arith, length-map {B = Entry} keys (λ (key : Key). (key, end))) in
+    let x = get_or-map (λ (key : Key). (key, end)) keys i d.0 d (omega arith) in
+    let y = get_or-map (λ (key : Key). (key, end)) keys j d.0 d short in
     ap (λ a. entry_cmp a (get_or (ended keys end) j d)) x ∙ ap (λ b. entry_cmp (get_or keys i d.0, end) b) y
     ∙ ap (λ o. ordering_then o (nat_cmp end end)) (up i j d.0 less short)
 
-pub merges_start : (entries : List Entry) (keys : List Key) (end count : ℕ) → length entries ≡ count + length keys → AreInOrder (take count entries) → Ascend keys
-    → IsMerging IsLess (ended keys end ++ take count entries) (take count entries) (ended keys end) entries count (length keys)
-merges_start entries keys end count sized order up =
-    IsMerging-start IsLess (take count entries) (ended keys end) entries count (length keys)
-    (sym (length-take-le count entries (omega arith))) (sym (length-ended keys end)) sized refl order (in_order-ended keys end up)
+pub merges_start : (entries added : List Entry) (count : ℕ) → length entries ≡ count + length added → AreParts (take count entries) added
+    → IsMerging IsLess (added ++ take count entries) (take count entries) added entries count (length added)
+merges_start entries added count sized parts =
+    IsMerging-start IsLess (take count entries) added entries count (length added)
+    (sym (length-take-le count entries (omega arith))) refl sized refl parts.settled_in_order parts.recent_in_order
 
-module _ (all before : List Entry) (keys : List Key) (end : ℕ) (cells : List Entry) (i j : ℕ) (merging : IsMerging IsLess all before (ended keys end) cells i j) where
+module _ (all before added cells : List Entry) (i j : ℕ) (merging : IsMerging IsLess all before added cells i j) (new : Entry) (is_new : get_or added (j - 1) new ≡ new) (news : 0 < j) where
   -- what stands at a place before it was there before
   at_front : (k : ℕ) (d : Entry) → k < i → get_or cells k d ≡ get_or before k d
   at_front k d less =
       sym (get_or-take i cells k d less) ∙ ap (λ xs. get_or xs k d) merging.front ∙ get_or-take i before k d less
 
-  pub merges_old : (d : Entry) (key : Key) → 0 < i → 0 < j → entry_cmp (get_or cells (i - 1) (get_or keys (j - 1) key, end)) (get_or keys (j - 1) key, end) ≡ Greater
-      → IsMerging IsLess all before (ended keys end) (set cells (i - 1 + j) (get_or cells (i - 1) d)) (i - 1) j
-  merges_old d key olds news greater =
+  pub merges_old : (d : Entry) → 0 < i → entry_cmp (get_or cells (i - 1) new) new ≡ Greater
+      → IsMerging IsLess all before added (set cells (i - 1 + j) (get_or cells (i - 1) d)) (i - 1) j
+  merges_old d olds greater =
       let x : Entry = get_or cells (i - 1) d in
-      let new : Entry = (get_or keys (j - 1) key, end) in
-      let short : j - 1 < length keys = omega (arith, merging.news_left, length-ended keys end) in
+      let short : j - 1 < length added = omega (arith, merging.news_left) in
       let there : i - 1 < length before = omega (arith, merging.olds_left) in
       let last : i ≡ i - 1 + 1 = omega arith in
       let is : x ≡ get_or before (i - 1) x = at_front (i - 1) d (omega arith) ∙ get_or_default before (i - 1) d x there in
       let same : get_or cells (i - 1) new ≡ x = get_or_default cells (i - 1) new d (omega (arith, merging.gap)) in
       let above : IsLess new x = less_from_greater x new (ap (λ y. entry_cmp y new) (sym same) ∙ greater) in
-      IsMerging-old IsLess all before (ended keys end) cells (i - 1) j x (subst (λ n. IsMerging IsLess all before (ended keys end) cells n j) last merging) is
-      (All-below_last IsLess less_trans (ended keys end) j x (AllPairs-front IsLess (take j (ended keys end)) (drop (i + j) cells) merging.news_below) merging.news_left
-      (λ _. ap (λ y. entry_cmp y x) (get_or-ended keys end (j - 1) key x short) ∙ above))
+      IsMerging-old IsLess all before added cells (i - 1) j x (subst (λ n. IsMerging IsLess all before added cells n j) last merging) is
+      (All-below_last IsLess less_trans added j x (AllPairs-front IsLess (take j added) (drop (i + j) cells) merging.news_below) merging.news_left
+      (λ _. ap (λ y. entry_cmp y x) (get_or_default added (j - 1) x new short ∙ is_new) ∙ above))
 
-  pub merges_new : (key : Key) → 0 < j → (Contains before (get_or keys (j - 1) key, end) → ⊥)
-      → (0 < i → entry_cmp (get_or cells (i - 1) (get_or keys (j - 1) key, end)) (get_or keys (j - 1) key, end) ≢ Greater)
-      → IsMerging IsLess all before (ended keys end) (set cells (i + (j - 1)) (get_or keys (j - 1) key, end)) i (j - 1)
-  merges_new key news absent other =
-      let x : Entry = (get_or keys (j - 1) key, end) in
-      let short : j - 1 < length keys = omega (arith, merging.news_left, length-ended keys end) in
+  pub merges_new : (Contains before new → ⊥) → (0 < i → entry_cmp (get_or cells (i - 1) new) new ≢ Greater)
+      → IsMerging IsLess all before added (set cells (i + (j - 1)) new) i (j - 1)
+  merges_new absent other =
       let last : j ≡ j - 1 + 1 = omega arith in
-      IsMerging-new IsLess all before (ended keys end) cells i (j - 1) x (subst (λ n. IsMerging IsLess all before (ended keys end) cells i n) last merging)
-      (sym (get_or-ended keys end (j - 1) key x short))
-      (All-below_last IsLess less_trans before i x (AllPairs-front IsLess (take i before) (drop (i + j) cells) merging.olds_below) merging.olds_left
-      (λ olds. less (entry_cmp (get_or before (i - 1) x) x) olds refl))
+      IsMerging-new IsLess all before added cells i (j - 1) new (subst (λ n. IsMerging IsLess all before added cells i n) last merging)
+      (sym is_new)
+      (All-below_last IsLess less_trans before i new (AllPairs-front IsLess (take i before) (drop (i + j) cells) merging.olds_below) merging.olds_left
+      (λ olds. less (entry_cmp (get_or before (i - 1) new) new) olds refl))
     where
-      less : (o : Ordering) → 0 < i → entry_cmp (get_or before (i - 1) (get_or keys (j - 1) key, end)) (get_or keys (j - 1) key, end) ≡ o
-          → IsLess (get_or before (i - 1) (get_or keys (j - 1) key, end)) (get_or keys (j - 1) key, end)
+      less : (o : Ordering) → 0 < i → entry_cmp (get_or before (i - 1) new) new ≡ o → IsLess (get_or before (i - 1) new) new
       less Less olds e = e
-      less Equal olds e = absurd (absent (i - 1, omega (arith, merging.olds_left), same_entry (get_or before (i - 1) (get_or keys (j - 1) key, end)) (get_or keys (j - 1) key, end) e))
-      less Greater olds e =
-          absurd (other olds (ap (λ y. entry_cmp y (get_or keys (j - 1) key, end)) (at_front (i - 1) (get_or keys (j - 1) key, end) (omega arith)) ∙ e))
+      less Equal olds e = absurd (absent (i - 1, omega (arith, merging.olds_left), same_entry (get_or before (i - 1) new) new e))
+      less Greater olds e = absurd (other olds (ap (λ y. entry_cmp y new) (at_front (i - 1) new (omega arith)) ∙ e))
 
 -- what a read past the end would give
 abbrev pub no_entry : Entry
@@ -185,3 +164,20 @@ without_none (x ∷ entries) = ap (λ (rest : List Entry). x ∷ rest) (without_
 pub none_taken : (taken entries : List Entry) → true ≡ (length taken == 0) → entries ≡ without taken entries
 none_taken [] entries is = without_none entries
 none_taken (x ∷ taken) entries is = absurd (let some : 0 < length (x ∷ taken) = omega arith in grind (arith, nat_tests, is, some))
+
+-- where as many entries stay as there were, none is taken
+filter_short : {X : Type 0} (p : X → Bool) (xs : List X) → length (filter p xs) ≤ length xs
+filter_short p [] = omega arith
+filter_short p (x ∷ xs) = go (p x) (filter_short p xs)
+  where
+    go : (b : Bool) → length (filter p xs) ≤ length xs → length (cond b (x ∷ filter p xs) (filter p xs)) ≤ suc (length xs)
+    go true short = omega (arith, short)
+    go false short = omega (arith, short)
+
+pub all_kept : {X : Type 0} (p : X → Bool) (xs : List X) → length xs ≤ length (filter p xs) → filter p xs ≡ xs
+all_kept p [] long = refl
+all_kept p (x ∷ xs) long = go (p x) (λ more. all_kept p xs more) long
+  where
+    go : (b : Bool) → (length xs ≤ length (filter p xs) → filter p xs ≡ xs) → suc (length xs) ≤ length (cond b (x ∷ filter p xs) (filter p xs)) → cond b (x ∷ filter p xs) (filter p xs) ≡ x ∷ xs
+    go true rest long = ap (λ ys. x ∷ ys) (rest (omega (arith, long)))
+    go false rest long = absurd (omega (arith, long, filter_short p xs))

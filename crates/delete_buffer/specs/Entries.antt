@@ -1,9 +1,9 @@
 -- The entries of a delete buffer: keys with the commit numbers at which a version of theirs ends.
-use Rattle.std.specs.Prelude.{◌≡◌, ◌≢◌, ◌<◌, ◌≤◌, ℕ, Bool, not, List, length, map, filter, slice_get, slice_index_or, if◌then◌else◌, All, AllPairs, Contains, Option, None, Some}
+use Rattle.std.specs.Prelude.{◌≡◌, ◌≢◌, ◌<◌, ◌≤◌, ℕ, Bool, not, min, List, [], ◌∷◌, length, map, filter, slice_get, slice_index_or, if◌then◌else◌, All, AllPairs, Contains, Option, None, Some}
 use Rattle.std.specs.declared.cmp.Ordering.{Ordering}
 use Rattle.std.specs.declared.cmp.Ordering.TheVariants.{Less, Greater}
 use Rattle.std.specs.List.{list_any}
-use Rattle.std.specs.Ordering.{is_eq, nat_cmp, ordering_then}
+use Rattle.std.specs.Ordering.{is_eq, is_lt, nat_cmp, ordering_then}
 use Rattle.cs_types.specs.declared.Key.{Key}
 use Rattle.cs_types.specs.Keys.{key_cmp, same_key}
 
@@ -40,6 +40,22 @@ is_among taken x = list_any (λ y. is_eq (entry_cmp x y)) taken
 abbrev pub without : List Entry → List Entry → List Entry
 without taken entries = filter (λ x. not (is_among taken x)) entries
 
+-- the entries with one more, put before the first that comes after it
+abbrev pub placed : Entry → List Entry → List Entry
+placed x [] = x ∷ []
+placed x (y ∷ entries) = if is_lt (entry_cmp x y) then x ∷ (y ∷ entries) else y ∷ placed x entries
+
+-- the entries of two lists in order, in one order
+abbrev pub merged : List Entry → List Entry → List Entry
+merged settled [] = settled
+merged settled (x ∷ recent) = placed x (merged settled recent)
+
+-- two lists that are merged: each is in order, and they share no entry
+pub record AreParts (settled recent : List Entry) : Type 0 where
+  pub settled_in_order : AreInOrder settled
+  pub recent_in_order : AreInOrder recent
+  pub apart : All (λ x. ¬ (Contains settled x)) recent
+
 -- how an entry stands to this one; where there is none, it is greater
 abbrev pub order_of : Entry → Option Entry → Ordering
 order_of entry None = Greater
@@ -49,6 +65,12 @@ order_of entry (Some x) = entry_cmp x entry
 abbrev pub IsLeastEnd : List Entry → Key → ℕ → Option ℕ → Type 0
 IsLeastEnd entries key begin None = All (λ x. x.0 ≡ key → x.1 ≤ begin) entries
 IsLeastEnd entries key begin (Some end) = Contains entries (key, end) × (begin < end) × All (λ x. x.0 ≡ key → begin < x.1 → end ≤ x.1) entries
+
+-- the lesser of two ends, where both are there
+abbrev pub lesser : Option ℕ → Option ℕ → Option ℕ
+lesser None other = other
+lesser (Some end) None = Some end
+lesser (Some end) (Some other) = Some (min end other)
 
 -- the place of the first entry after this one: those before it are not greater, and those from it on are
 pub record IsFirstPast (entries : List Entry) (entry : Entry) (place : ℕ) : Type 0 where

@@ -2,17 +2,21 @@
 //! flush records the end in a delete bitmap or an install leaves the version out.
 //!
 //! Its one contract: a buffer is a list of pairs of key and end, strictly in order, and each call changes exactly the entries
-//! that it names. It can be shared as it stands, until the next change without a copy. It stands on `cs_base`, `cs_types`
-//! and the laws of `merge_laws`. Larson et al., PVLDB 2015, describe the delete buffer.
+//! that it names. It can be shared as it stands, until the next change without a copy, and after one by a copy of the few
+//! entries that came lately. It stands on `cs_base`, `cs_types` and the laws of `merge_laws`. Larson et al., PVLDB 2015,
+//! describe the delete buffer.
 #![tactic(auto)]
 
 mod batches;
 mod ends;
+mod parts;
 
+use batches::Added;
 use cs_base::Memory;
 use cs_types::Key;
 pub use ends::Ends;
-use ends::least_end;
+use ends::least_of;
+pub use parts::{Parts, merged};
 use std::alloc::Global;
 use std::marker::Model;
 use std::sync::Arc;
@@ -21,36 +25,42 @@ use std::sync::Arc;
 /// memory. It keeps its allocator.
 #[derive(Debug, Drop)]
 pub struct Buffer {
-    /// In the order of keys and ends.
-    entries: Vec<(Key, u64)>,
-    /// The same entries, where they were shared since the last change.
-    shared: Option<Arc<Ends>>,
+    /// Most entries, in the order of keys and ends.
+    settled: Vec<(Key, u64)>,
+    /// Those that came since, in the same order. They are few, so that a commit moves few, and a share copies few.
+    recent: Vec<(Key, u64)>,
+    /// A copy of the settled entries, where they were shared since they last changed.
+    shared: Option<Arc<Vec<(Key, u64)>>>,
+    /// All entries, where they were shared since the last change.
+    shown: Option<Arc<Ends>>,
 }
 
 impl Model for Buffer {
     ghost use Rattle.std.specs.Prelude.{◌-◌, vec_capacity, vec_len};
-    ghost use Rattle.delete_buffer.specs.Entries.{Room};
+    ghost use Rattle.delete_buffer.specs.Entries.{Room, merged};
     ghost use Rattle.delete_buffer.specs.Shared.{AreKept};
 
     ghost Value = { Room };
 
-    ghost view = { λ b. record { entries = b.entries.items; spare = vec_capacity b.entries - vec_len b.entries } };
+    ghost view = { λ b. record { entries = merged b.settled.items b.recent.items; spare = vec_capacity b.recent - vec_len b.recent } };
 
-    ghost invariant = { λ b. AreKept b.entries.items b.shared };
+    ghost invariant = { λ b. AreKept b.settled.items b.recent.items b.shared b.shown };
 }
 
 impl Buffer {
     ghost use Rattle.std.specs.Prelude.{◌≡◌, ◌+◌, ◌<◌, ◌≤◌, ◌↔◌, [], ◌∷◌, ◌++◌, length, IsTrue, IfOk, OnOk, All, Contains, IsPermutation};
     ghost use Rattle.std.specs.Bool.{OnTrue, OnFalse};
-    ghost use Rattle.delete_buffer.specs.Entries.{AreInOrder, Ascend, IsLeastEnd, ended, without};
+    ghost use Rattle.delete_buffer.specs.Entries.{AreInOrder, AreParts, Ascend, IsLeastEnd, ended, merged, without};
 
     /// The empty buffer. It takes no memory.
     pub fn new(alloc: Global) -> Buffer
         ensures { result.entries ≡ [] }
     {
         Buffer {
-            entries: Vec::new(alloc),
+            settled: Vec::new(alloc),
+            recent: Vec::new(alloc),
             shared: None,
+            shown: None,
         }
     }
 
@@ -59,7 +69,20 @@ impl Buffer {
         ensures room { OnOk result (n ≤ self.new.spare) }
         ensures entries { self.new.entries ≡ self.old.entries }
     {
-        self.entries.reserve(n)?;
+        self.settle()?;
+        self.recent.reserve(n)?;
+        Ok(())
+    }
+
+    /// Moves the recent entries among the settled ones, where they are many. All entries are the same, so what was shared of
+    /// them stays shared. After `Memory` nothing has changed.
+    fn settle(&mut self) -> Result<(), Memory>
+        ensures { self.new.entries ≡ self.old.entries }
+    {
+        if are_many(self.recent.len(), self.settled.len()) {
+            batches::settle(&mut self.settled, &mut self.recent)?;
+            forget(&mut self.shared);
+        }
         Ok(())
     }
 
@@ -71,18 +94,10 @@ impl Buffer {
         ensures order { AreInOrder self.new.entries }
         ensures room { self.old.spare ≤ self.new.spare + 1 }
     {
-        let place = match self.entries.binary_search(&(key, end)) {
-            Ok(_) => unreachable!(),
-            Err(place) => place,
-        };
-        forget(&mut self.shared);
-        match self.entries.insert(place, (key, end)) {
-            Ok(()) => {}
-            Err(_) => unreachable!(),
-        }
+        self.add_all(&[key], end);
     }
 
-    /// Adds an entry of each key with one end, none of which is there, in one pass over the buffer. Without a key
+    /// Adds an entry of each key with one end, none of which is there, in one pass over the recent ones. Without a key
     /// it does nothing, so that what was shared stays shared. It takes no memory.
     pub fn add_all(&mut self, keys: &[Key], end: u64)
         requires room { length keys.now ≤ self.old.spare }
@@ -93,27 +108,31 @@ impl Buffer {
         ensures room { self.old.spare ≤ self.new.spare + length keys.now }
     {
         // Its contract says that the entries are in order.
-        let _entries = self.as_slice();
+        let _parts = self.parts();
         if keys.is_empty() {
             return;
         }
-        forget(&mut self.shared);
-        batches::add_all(&mut self.entries, keys, end);
+        forget(&mut self.shown);
+        batches::merge_in(&mut self.recent, Added::Ended(keys, end));
     }
 
-    /// The entries as a slice, in the order of keys and then of ends, each once.
-    pub fn as_slice(&self) -> &[(Key, u64)]
-        ensures entries { result.now ≡ self.now.entries }
+    /// The entries, in their two parts.
+    pub fn parts(&self) -> Parts<'_>
+        ensures entries { self.now.entries ≡ merged result.settled.now result.recent.now }
+        ensures parts { AreParts result.settled.now result.recent.now }
         ensures order { AreInOrder self.now.entries }
     {
-        self.entries.as_slice()
+        Parts {
+            settled: &self.settled,
+            recent: &self.recent,
+        }
     }
 
     /// The least end of the key above `begin`. None where there is no such end.
     pub fn ends(&self, key: Key, begin: u64) -> Option<u64>
         ensures { IsLeastEnd self.now.entries key begin result }
     {
-        least_end(&self.entries, key, begin)
+        least_of(&self.settled, &self.recent, key, begin)
     }
 
     /// Takes an entry away. False, with nothing changed, exactly where it is not there. It takes no memory.
@@ -124,14 +143,16 @@ impl Buffer {
         ensures order { AreInOrder self.new.entries }
         ensures room { self.old.spare ≤ self.new.spare }
     {
-        match self.entries.binary_search(&(key, end)) {
-            Ok(place) => {
-                forget(&mut self.shared);
-                self.entries.remove(place);
-                true
-            }
-            Err(_) => false,
+        if batches::remove(&mut self.recent, key, end) {
+            forget(&mut self.shown);
+            return true;
         }
+        if batches::remove(&mut self.settled, key, end) {
+            forget(&mut self.shared);
+            forget(&mut self.shown);
+            return true;
+        }
+        false
     }
 
     /// Takes away the entries that are among these, which are in order, in one pass over the buffer. Without one it does
@@ -143,51 +164,81 @@ impl Buffer {
         ensures room { self.old.spare ≤ self.new.spare }
     {
         // Its contract says that the entries are in order.
-        let _entries = self.as_slice();
+        let _parts = self.parts();
         if taken.is_empty() {
             return;
         }
-        forget(&mut self.shared);
-        batches::remove_all(&mut self.entries, taken);
+        forget(&mut self.shown);
+        batches::remove_all(&mut self.recent, taken);
+        if batches::remove_all(&mut self.settled, taken) {
+            forget(&mut self.shared);
+        }
     }
 
     /// The number of entries.
     pub fn len(&self) -> usize
         ensures { result ≡ length self.now.entries }
     {
-        self.entries.len()
+        self.settled.len() + self.recent.len()
     }
 
     /// Whether there is no entry.
     pub fn is_empty(&self) -> bool
         ensures { IsTrue result ↔ (self.now.entries ≡ []) }
     {
-        self.entries.is_empty()
+        self.len() == 0
     }
 
-    /// The entries as they are now, whatever becomes of the buffer. The first copy after a change copies the entries, and
-    /// each further one shares them. After `Memory` nothing has changed.
+    /// The entries as they are now, whatever becomes of the buffer. The first copy after a change copies the recent entries,
+    /// and the settled ones only where these have changed; each further one shares them. After `Memory` nothing has changed.
     pub fn copy(&mut self) -> Result<Arc<Ends>, Memory>
         ensures copied { IfOk result (λ copied. copied.value ≡ self.old.entries) }
         ensures entries { self.new.entries ≡ self.old.entries }
         ensures room { self.new.spare ≡ self.old.spare }
     {
-        if let Some(shared) = &self.shared {
-            return Ok(Arc::try_clone(shared)?);
+        if let Some(shown) = &self.shown {
+            return Ok(Arc::try_clone(shown)?);
         }
-        let alloc = *self.entries.allocator();
-        let entries = Vec::from_slice(alloc, &self.entries)?;
-        let shared = Arc::new(alloc, Ends::from_vec(entries))?;
-        let copied = Arc::try_clone(&shared)?;
-        self.shared = Some(shared);
+        let alloc = *self.recent.allocator();
+        let settled = shared_copy(&self.settled, &mut self.shared)?;
+        let recent = Vec::from_slice(alloc, &self.recent)?;
+        let shown = Arc::new(alloc, Ends::of_parts(settled, recent))?;
+        let copied = Arc::try_clone(&shown)?;
+        self.shown = Some(shown);
         Ok(copied)
     }
 }
 
-ghost use Rattle.std.specs.Prelude.{◌≡◌};
+ghost use Rattle.std.specs.Prelude.{◌≡◌, IfOk};
+ghost use Rattle.delete_buffer.specs.Shared.{IsCopyOf};
+
+/// Whether so many recent entries are to be moved among so many settled ones: where they are as many as the root of their
+/// number, which shares out the cost of the move over the commits before it.
+fn are_many(recent: usize, settled: usize) -> bool {
+    recent >= 64 && settled / recent <= recent
+}
+
+/// The settled entries, shared as they were before or copied.
+fn shared_copy(
+    settled: &Vec<(Key, u64)>,
+    shared: &mut Option<Arc<Vec<(Key, u64)>>>,
+) -> Result<Arc<Vec<(Key, u64)>>, Memory>
+    requires { IsCopyOf settled.now.items shared.old }
+    ensures copied { IfOk result (λ copied. copied.value.items ≡ settled.now.items) }
+    ensures kept { IsCopyOf settled.now.items shared.new }
+{
+    if let Some(shared) = shared {
+        return Ok(Arc::try_clone(shared)?);
+    }
+    let alloc = *settled.allocator();
+    let made = Arc::new(alloc, Vec::from_slice(alloc, settled)?)?;
+    let copied = Arc::try_clone(&made)?;
+    *shared = Some(made);
+    Ok(copied)
+}
 
 /// Lets go what was shared.
-fn forget(shared: &mut Option<Arc<Ends>>)
+fn forget<T: Drop>(shared: &mut Option<Arc<T>>)
     ensures { shared.new ≡ None }
 {
     *shared = None;

@@ -1,13 +1,14 @@
 -- Entries that are noted group by group.
-use Rattle.std.proofs.Common.{◌≡◌, ◌≢◌, ℕ, zero, suc, ◌+◌, ◌<◌, ◌≤◌, inl, inr, Bool, true, false, ◌&&◌, cond, ltb, List, [], ◌∷◌, ◌++◌, map, filter, take, get_or, set, replicate, length, Option, refl, sym, ap, ◌∙◌, subst, arith}
+use Rattle.std.proofs.Common.{◌≡◌, ◌≢◌, ℕ, zero, suc, ◌+◌, ◌<◌, ◌≤◌, inl, inr, Bool, true, false, ◌&&◌, cond, ltb, List, [], ◌∷◌, ◌++◌, map, filter, take, get_or, set, replicate, length, Option, refl, sym, ap, ◌∙◌, arith}
 use Rattle.std.specs.Prelude.{◌||◌, pos}
 use Rattle.std.specs.List.{list_any}
 use Rattle.std.proofs.lemmas.Bool.{cases_lt, cases_eq, lt-ltb, le-ltb}
-use Rattle.std.proofs.lemmas.List.{take_more, take_all, length-map, length-set, get_or-map, get_or_default, get_or-set_same, get_or-set_other, same_lists}
+use Rattle.std.proofs.lemmas.List.{take_more, length-map, length-set, get_or-map, get_or_default, get_or-set_same, get_or-set_other, same_lists}
 use Rattle.std.proofs.lemmas.List.Elements.{filter-append}
 use Rattle.std.proofs.lemmas.List.Folds.{list_any-append, list_any_none}
 use Rattle.delete_bitmap.specs.declared.MarkedEnd.{MarkedEnd}
-use Rattle.delete_buffer.specs.Entries.{Entry}
+use Rattle.delete_buffer.specs.Entries.{Entry, merged}
+use Rattle.delete_buffer.proofs.TwoParts.{any-merged}
 use Rattle.row_group.specs.Groups.{Group}
 use Rattle.group_book.specs.Book.{Ending}
 use Rattle.group_book.specs.Turns.{ends}
@@ -67,6 +68,16 @@ module _ {X : Type 0} (test : X → Bool) where
       ap (list_any test) (take_more xs n d there)
       ∙ list_any-append test (take n xs) (get_or xs n d ∷ [])
       ∙ ap (λ (b : Bool). list_any test (take n xs) || b) (or_false (test (get_or xs n d)))
+
+-- one of two parts' entries passes where one of either part does
+pub any_of_parts : (test : Ending → Bool) (entries settled recent : List Entry) → entries ≡ merged settled recent
+    → list_any test (endings_of entries) ≡ (list_any test (endings_of settled) || list_any test (endings_of recent))
+any_of_parts test entries settled recent is =
+    ap (λ (all : List Entry). list_any test (endings_of all)) is
+    ∙ any-map test ending_of (merged settled recent)
+    ∙ any-merged (λ entry. test (ending_of entry)) settled recent
+    ∙ ap (λ (b : Bool). b || list_any (λ entry. test (ending_of entry)) recent) (sym (any-map test ending_of settled))
+    ∙ ap (λ (b : Bool). list_any test (endings_of settled) || b) (sym (any-map test ending_of recent))
 
 -- ---- notes
 
@@ -169,22 +180,21 @@ module _ (entries : List Entry) (test ended : Ending → Bool) where
         | inr up ↦ not_below i n _ up ∙ sym (none i d there up)
       ]
 
--- ---- the entries of a group's keys
-
-module _ (group : Group) (marks : List (Option MarkedEnd)) (entries : List Entry) (span : Span) (is : IsSpanOf group entries span) where
+-- ---- the entries of a group's keys, among all that are held
+module _ (group : Group) (marks : List (Option MarkedEnd)) (held entries : List Entry) (span : Span) (is : IsSpanOf group entries span) where
   -- the entry ends a version of the group
   abbrev pub ended_here : Ending → Bool
-  ended_here entry = list_any (ends (endings_of entries) entry) (versions group marks)
+  ended_here entry = list_any (ends (endings_of held) entry) (versions group marks)
 
   abbrev pub ended_one : Entry → Bool
   ended_one entry = ended_here (ending_of entry)
 
   -- those before the span end none, nor do those after it
   pub none_first : (i : ℕ) (d : Entry) → i < length entries → i < span.from → ended_one (get_or entries i d) ≡ false
-  none_first i d there low = no_row_ended group marks entries (get_or entries i d).0 (get_or entries i d).1 (is.before i d there low)
+  none_first i d there low = no_row_ended group marks held (get_or entries i d).0 (get_or entries i d).1 (is.before i d there low)
 
   pub none_last : (i : ℕ) (d : Entry) → i < length entries → span.to ≤ i → ended_one (get_or entries i d) ≡ false
-  none_last i d there up = no_row_ended group marks entries (get_or entries i d).0 (get_or entries i d).1 (is.after i d there up)
+  none_last i d there up = no_row_ended group marks held (get_or entries i d).0 (get_or entries i d).1 (is.after i d there up)
 
   pub first_any : list_any ended_one (take span.from entries) ≡ false
   first_any = none_before ended_one entries span.from (λ i d low there. none_first i d there low)

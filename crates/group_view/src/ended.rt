@@ -2,6 +2,7 @@
 ghost use Rattle.std.specs.Prelude.{◌≡◌, ◌<◌, ◌&&◌, ◌||◌, Bool, length, map, slice_get, Some};
 ghost use Rattle.std.specs.List.{list_any};
 ghost use Rattle.std.specs.Option.{option_map};
+ghost use Rattle.delete_buffer.specs.Entries.{AreInOrder};
 ghost use Rattle.group_book.specs.Book.{Ending, Version, is_compressed};
 ghost use Rattle.group_book.specs.Turns.{ends, is_number};
 ghost use Rattle.group_view.specs.Books.{group_of, versions_of};
@@ -70,13 +71,13 @@ fn ends_version(
     false
 }
 
-/// Whether some entry of the buffer ends a version of a packed group. It stops at the first. Only entries of keys from the least to
-/// the greatest of the group are looked up.
-fn has_packed(packed: &Packed, marks: &Marks, buffer: &Buffer) -> bool
-    requires { length marks.now ≡ length packed.now.rows }
-    ensures { result ≡ list_any (λ entry. list_any (ends (endings_of buffer.now.entries) entry) (versions_of (packed_versions packed.now.key packed.now.rows marks.now))) (endings_of buffer.now.entries) }
+/// Whether one of these entries of the buffer ends a version of a packed group. It stops at the first. Only entries of keys from
+/// the least to the greatest of the group are looked up.
+fn has_among(packed: &Packed, marks: &Marks, buffer: &Buffer, entries: &[(Key, u64)]) -> bool
+    requires marks { length marks.now ≡ length packed.now.rows }
+    requires order { AreInOrder entries.now }
+    ensures { result ≡ list_any (λ entry. list_any (ends (endings_of buffer.now.entries) entry) (versions_of (packed_versions packed.now.key packed.now.rows marks.now))) (endings_of entries.now) }
 {
-    let entries = buffer.as_slice();
     let span = entries_within(packed, entries);
     let mut near = 0;
     for i in span.from..span.to {
@@ -86,6 +87,16 @@ fn has_packed(packed: &Packed, marks: &Marks, buffer: &Buffer) -> bool
         }
     }
     false
+}
+
+/// Whether some entry of the buffer ends a version of a packed group.
+fn has_packed(packed: &Packed, marks: &Marks, buffer: &Buffer) -> bool
+    requires { length marks.now ≡ length packed.now.rows }
+    ensures { result ≡ list_any (λ entry. list_any (ends (endings_of buffer.now.entries) entry) (versions_of (packed_versions packed.now.key packed.now.rows marks.now))) (endings_of buffer.now.entries) }
+{
+    let parts = buffer.parts();
+    has_among(packed, marks, buffer, parts.settled)
+        || has_among(packed, marks, buffer, parts.recent)
 }
 
 /// Whether the group is COMPRESSED, and some entry of the buffer ends a version of it.
@@ -102,16 +113,22 @@ pub fn has_entry(group: &Group, buffer: &Buffer) -> bool
     }
 }
 
-/// Notes the entries of the buffer that end versions of a packed group, and gives whether there is one. Only entries of keys from
-/// the least to the greatest of the group are looked up.
-fn note_packed(packed: &Packed, marks: &Marks, buffer: &Buffer, noted: &mut [bool]) -> bool
+/// Notes which of these entries of the buffer end versions of a packed group, and gives whether there is one. Only entries of keys
+/// from the least to the greatest of the group are looked up.
+fn note_packed(
+    packed: &Packed,
+    marks: &Marks,
+    buffer: &Buffer,
+    entries: &[(Key, u64)],
+    noted: &mut [bool],
+) -> bool
     requires marks { length marks.now ≡ length packed.now.rows }
-    requires noted { length noted.old ≡ length buffer.now.entries }
-    ensures found { result ≡ list_any (λ entry. list_any (ends (endings_of buffer.now.entries) entry) (versions_of (packed_versions packed.now.key packed.now.rows marks.now))) (endings_of buffer.now.entries) }
-    ensures noted { (test : Ending → Bool) → noted.old ≡ map test (endings_of buffer.now.entries)
-        → noted.new ≡ map (λ entry. test entry || list_any (ends (endings_of buffer.now.entries) entry) (versions_of (packed_versions packed.now.key packed.now.rows marks.now))) (endings_of buffer.now.entries) }
+    requires order { AreInOrder entries.now }
+    requires noted { length noted.old ≡ length entries.now }
+    ensures found { result ≡ list_any (λ entry. list_any (ends (endings_of buffer.now.entries) entry) (versions_of (packed_versions packed.now.key packed.now.rows marks.now))) (endings_of entries.now) }
+    ensures noted { (test : Ending → Bool) → noted.old ≡ map test (endings_of entries.now)
+        → noted.new ≡ map (λ entry. test entry || list_any (ends (endings_of buffer.now.entries) entry) (versions_of (packed_versions packed.now.key packed.now.rows marks.now))) (endings_of entries.now) }
 {
-    let entries = buffer.as_slice();
     let span = entries_within(packed, entries);
     let mut near = 0;
     let mut found = false;
@@ -125,16 +142,19 @@ fn note_packed(packed: &Packed, marks: &Marks, buffer: &Buffer, noted: &mut [boo
     found
 }
 
-/// Notes the entries of the buffer that end versions of the group, where it is COMPRESSED, and gives whether there is one.
-pub fn note_ends(group: &Group, buffer: &Buffer, noted: &mut [bool]) -> bool
+/// Notes which of these entries of the buffer end versions of the group, where it is COMPRESSED, and gives whether there is one.
+pub fn note_ends(group: &Group, buffer: &Buffer, entries: &[(Key, u64)], noted: &mut [bool]) -> bool
     requires fitting { IsFittingContent group.now.content }
-    requires noted { length noted.old ≡ length buffer.now.entries }
-    ensures found { result ≡ (is_compressed (group_of group.now).content && list_any (ends_in (endings_of buffer.now.entries) (group_of group.now)) (endings_of buffer.now.entries)) }
-    ensures noted { (test : Ending → Bool) → noted.old ≡ map test (endings_of buffer.now.entries)
-        → noted.new ≡ map (λ entry. test entry || (is_compressed (group_of group.now).content && ends_in (endings_of buffer.now.entries) (group_of group.now) entry)) (endings_of buffer.now.entries) }
+    requires order { AreInOrder entries.now }
+    requires noted { length noted.old ≡ length entries.now }
+    ensures found { result ≡ (is_compressed (group_of group.now).content && list_any (ends_in (endings_of buffer.now.entries) (group_of group.now)) (endings_of entries.now)) }
+    ensures noted { (test : Ending → Bool) → noted.old ≡ map test (endings_of entries.now)
+        → noted.new ≡ map (λ entry. test entry || (is_compressed (group_of group.now).content && ends_in (endings_of buffer.now.entries) (group_of group.now) entry)) (endings_of entries.now) }
 {
     match &group.content {
-        GroupContent::Compressed(packed, marks) => note_packed(packed, marks, buffer, noted),
+        GroupContent::Compressed(packed, marks) => {
+            note_packed(packed, marks, buffer, entries, noted)
+        }
         GroupContent::Opened(_)
         | GroupContent::Closed(_)
         | GroupContent::Invisible

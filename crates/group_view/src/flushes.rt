@@ -14,6 +14,7 @@ use crate::ended::{has_entry, note_ends};
 use crate::groups::GroupList;
 use cs_base::{Items, Memory};
 use cs_types::Key;
+use delete_buffer::merged;
 use std::alloc::Global;
 
 /// Whether a flush has an entry to write: whether one ends a version of a COMPRESSED group that no claim has. Claims are asked only
@@ -43,16 +44,24 @@ pub struct Flush {
     pub entries: Items<(Key, u64)>,
 }
 
-/// Notes the entries whose versions lie in COMPRESSED groups that no claim has, and gives the ids of these groups, in order.
-fn note_all(alloc: Global, list: &GroupList, noted: &mut [bool]) -> Result<Items<u64>, Memory>
+/// Notes the buffer's entries whose versions lie in COMPRESSED groups that no claim has, and gives the ids of these groups, in
+/// order.
+fn note_all(
+    alloc: Global,
+    list: &GroupList,
+    entries: &[(Key, u64)],
+    noted: &mut [bool],
+) -> Result<Items<u64>, Memory>
     requires held { IsHeld list.now }
+    requires entries { entries.now ≡ list.now.buffer.entries }
+    requires order { AreInOrder entries.now }
     requires none { noted.old ≡ map (λ (entry : Ending). false) (book_of list.now).buffer }
     ensures sources { IfOk result (λ ids. ids ≡ flush_sources (book_of list.now)) }
     ensures noted { OnOk result (noted.new ≡ map (λ (entry : Ending). list_any (ends (book_of list.now).buffer entry) (frozen (free_packed (book_of list.now)))) (book_of list.now).buffer) }
 {
     let mut sources = Items::new(alloc);
     for group in list.groups.as_slice() {
-        if !is_claimed(&list.claims, group.id) && note_ends(group, &list.buffer, noted) {
+        if !is_claimed(&list.claims, group.id) && note_ends(group, &list.buffer, entries, noted) {
             sources.push(group.id)?;
         }
     }
@@ -94,11 +103,11 @@ pub fn flush_of(alloc: Global, list: &GroupList) -> Result<Flush, Memory>
     ensures entries { IfOk result (λ flush. endings_of flush.entries ≡ flushable (book_of list.now)) }
     ensures order { IfOk result (λ flush. AreInOrder flush.entries) }
 {
-    let entries = list.buffer.as_slice();
+    let entries = merged(alloc, list.buffer.parts())?;
     let mut noted = vec![in alloc; false; entries.len()]?;
-    let sources = note_all(alloc, list, &mut noted)?;
+    let sources = note_all(alloc, list, &entries, &mut noted)?;
     Ok(Flush {
         sources,
-        entries: Items::from_vec(marked(alloc, entries, &noted)?),
+        entries: Items::from_vec(marked(alloc, &entries, &noted)?),
     })
 }

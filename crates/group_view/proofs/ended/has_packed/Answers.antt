@@ -1,35 +1,27 @@
-use Rattle.std.proofs.Common.{◌≡◌, ◌<◌, ◌∙◌, true, length, get_or, sym, subst, arith}
-use Rattle.std.proofs.lemmas.List.Folds.{list_any_at}
-use Rattle.group_view.specs.Spans.{IsSpanOf}
-use Rattle.group_view.proofs.Noted.{ended_here, ended_one, ending_of, first_any, last_any}
-use Rattle.group_view.proofs.Walks.{any-map}
+use Rattle.std.proofs.Common.{Bool, ap, sym, ◌∙◌}
+use Rattle.std.specs.Prelude.{◌||◌}
+use Rattle.std.specs.List.{list_any}
+use Rattle.group_book.specs.Book.{Ending}
+use Rattle.group_book.specs.Turns.{ends}
+use Rattle.group_view.specs.Views.{endings_of}
+use Rattle.group_view.proofs.EndLemmas.{versions}
+use Rattle.group_view.proofs.Noted.{any_of_parts}
 use Rattle.group_view.proofs.ended.has_packed.Goals as goal
 
-pub loop-i-init : goal.loop-i-init
-loop-i-init c =
-    let group = c.args.packed.now in
-    let entries = c.args.buffer.now.entries in
-    let span = c.entries_within-span.result in
-    first_any group c.args.marks.now entries span (subst (λ list. IsSpanOf group list span) c.as_slice-entries.ensures.entries c.entries_within-span.ensures)
+pub returns-then-has_among : goal.returns-then-has_among
+returns-then-has_among c =
+    let held = c.args.buffer.now.entries in
+    let test : Ending → Bool = λ entry. list_any (ends (endings_of held) entry) (versions c.args.packed.now c.args.marks.now) in
+    let parts = c.parts-parts.result in
+    c.if-has_among.true
+    ∙ sym (any_of_parts test held parts.settled.now parts.recent.now c.parts-parts.ensures.entries
+    ∙ ap (λ (b : Bool). b || list_any test (endings_of parts.recent.now)) (sym c.has_among.ensures ∙ c.if-has_among.true))
 
-pub returns-then-ends_version : goal.returns-then-ends_version
-returns-then-ends_version c =
-    let group = c.args.packed.now in
-    let marks = c.args.marks.now in
-    let entries = c.args.buffer.now.entries in
-    let span = c.entries_within-span.result in
-    let is : IsSpanOf group entries span = subst (λ list. IsSpanOf group list span) c.as_slice-entries.ensures.entries c.entries_within-span.ensures in
-    let n = c.loop-i.i in
-    let there : n < length entries = omega (arith, c.loop-i-test.true, is.within) in
-    let told = rw c.as_slice-entries.ensures.entries at c.ends_version.ensures in
-    let passes : ended_one group marks entries span is (get_or entries n _) ≡ true = sym told ∙ c.if-ends_version.true in
-    sym (any-map (ended_here group marks entries span is) ending_of entries ∙ list_any_at (ended_one group marks entries span is) entries n _ there passes)
-
-pub returns : goal.returns
-returns c =
-    let group = c.args.packed.now in
-    let marks = c.args.marks.now in
-    let entries = c.args.buffer.now.entries in
-    let span = c.entries_within-span.result in
-    let is : IsSpanOf group entries span = subst (λ list. IsSpanOf group list span) c.as_slice-entries.ensures.entries c.entries_within-span.ensures in
-    sym (sym (last_any group marks entries span is c.loop-i.i c.loop-i-test.false) ∙ c.loop-i.invariant)
+pub returns-else-has_among : goal.returns-else-has_among
+returns-else-has_among c =
+    let held = c.args.buffer.now.entries in
+    let test : Ending → Bool = λ entry. list_any (ends (endings_of held) entry) (versions c.args.packed.now c.args.marks.now) in
+    let parts = c.parts-parts.result in
+    c.has_among-else-has_among.ensures
+    ∙ sym (any_of_parts test held parts.settled.now parts.recent.now c.parts-parts.ensures.entries
+    ∙ ap (λ (b : Bool). b || list_any test (endings_of parts.recent.now)) (sym c.has_among.ensures ∙ c.if-has_among.false))

@@ -10,6 +10,6 @@ use Rattle.group_view.proofs.ended.note_packed.Given as goal
 
 abbrev pub invariant-loop-i : goal.invariant-loop-i
 invariant-loop-i l =
-    (length l.noted ≡ length l.buffer.entries)
-    × (l.found ≡ list_any (λ (entry : Entry). list_any (ends (endings_of l.buffer.entries) (ending_of entry)) (versions l.packed l.marks)) (take l.i l.buffer.entries))
-    × ((test : Ending → Bool) → l.initial.noted ≡ map test (endings_of l.buffer.entries) → Noted l.buffer.entries test (λ entry. list_any (ends (endings_of l.buffer.entries) entry) (versions l.packed l.marks)) l.i l.noted)
+    (length l.noted ≡ length l.entries)
+    × (l.found ≡ list_any (λ (entry : Entry). list_any (ends (endings_of l.buffer.entries) (ending_of entry)) (versions l.packed l.marks)) (take l.i l.entries))
+    × ((test : Ending → Bool) → l.initial.noted ≡ map test (endings_of l.entries) → Noted l.entries test (λ entry. list_any (ends (endings_of l.buffer.entries) entry) (versions l.packed l.marks)) l.i l.noted)

@@ -1,4 +1,4 @@
-use Rattle.std.proofs.Common.{◌≡◌, ◌<◌, ◌≤◌, ◌∙◌, ◌&&◌, Bool, true, false, not, ℕ, [], ◌∷◌, ◌++◌, List, filter, length, map, get_or, take, refl, sym, ap, arith}
+use Rattle.std.proofs.Common.{◌≡◌, ◌<◌, ◌≤◌, ◌∙◌, ◌&&◌, Bool, true, false, not, ℕ, [], ◌∷◌, ◌++◌, List, filter, length, map, get_or, refl, sym, ap}
 use Rattle.std.specs.List.{list_any}
 use Rattle.std.proofs.lemmas.Bool.{and_from}
 use Rattle.std.proofs.lemmas.List.{append-nil, take_all}
@@ -27,19 +27,19 @@ loop-group-preserved c =
     elim c.if-not-is_claimed.branch [
       | then-not-is_claimed+then-note_ends+in_ok-push w ↦
           let free : is_claimed book.claims (group_of group) ≡ false = sym claimed ∙ w.if-not-is_claimed.true in
-          let found : (is_compressed (group_of group).content && test (group_of group)) ≡ true = sym w.note_ends.ensures.found ∙ w.if-note_ends.true in
+          let found : (is_compressed (group_of group).content && test (group_of group)) ≡ true = sym (rw c.requires.entries at w.note_ends.ensures.found) ∙ w.if-note_ends.true in
           rw (w.noted-is, w.sources-is) (
             w.in_ok-push.ensures.ok ∙ ap (λ (ids : List ℕ). ids ++ group.id ∷ []) c.loop-group.invariant.0 ∙ sym (more true there at (and_from _ _ found (ap not free))),
-            w.note_ends.ensures.noted (noted_by book.claims book.buffer list.groups.items n) c.loop-group.invariant.1 ∙ noted_free book.claims book.buffer list.groups.items n group there at free,
+            (rw c.requires.entries at w.note_ends.ensures.noted) (noted_by book.claims book.buffer list.groups.items n) c.loop-group.invariant.1 ∙ noted_free book.claims book.buffer list.groups.items n group there at free,
           )
       | else-not-is_claimed w ↦
           elim w.else-not-is_claimed.branch [
             | else-not-is_claimed-via-then-not-is_claimed+else-note_ends v ↦
                 let free : is_claimed book.claims (group_of group) ≡ false = sym claimed ∙ v.if-not-is_claimed.true in
-                let found : (is_compressed (group_of group).content && test (group_of group)) ≡ false = sym v.note_ends.ensures.found ∙ v.if-note_ends.false in
+                let found : (is_compressed (group_of group).content && test (group_of group)) ≡ false = sym (rw c.requires.entries at v.note_ends.ensures.found) ∙ v.if-note_ends.false in
                 rw (w.noted-is, w.sources-is, v.noted-is) (
                   c.loop-group.invariant.0 ∙ sym (more false there at (ap (λ (t : Bool). t && not (is_claimed book.claims (group_of group))) found) ∙ append-nil _),
-                  v.note_ends.ensures.noted (noted_by book.claims book.buffer list.groups.items n) c.loop-group.invariant.1 ∙ noted_free book.claims book.buffer list.groups.items n group there at free,
+                  (rw c.requires.entries at v.note_ends.ensures.noted) (noted_by book.claims book.buffer list.groups.items n) c.loop-group.invariant.1 ∙ noted_free book.claims book.buffer list.groups.items n group there at free,
                 )
             | else-not-is_claimed-via-else-not-is_claimed v ↦
                 let taken : is_claimed book.claims (group_of group) ≡ true = sym claimed ∙ v.if-not-is_claimed.false in
