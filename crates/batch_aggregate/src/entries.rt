@@ -157,12 +157,10 @@ pub fn add_tallies(entries: &mut Entries, cells: Row, tallies: Tallies) -> Resul
     ensures by { OnOk result ((columns : List ℕ) → IsBy columns entries.old → IsBy columns entries.new) }
     ensures added { OnOk result ((columns : List ℕ) → IsBy columns entries.old → length cells ≡ length columns → entries_in entries.new ≡ with_tallies cells tallies (entries_in entries.old)) }
 {
+    let mut cells = cells;
     match entries {
         Entries::Alone(known) => known.join(&tallies),
-        Entries::ByCell { column: _, groups } => {
-            let cell = cells.cell(0).copy()?;
-            join_by_cell(groups, cell, tallies)
-        }
+        Entries::ByCell { column: _, groups } => join_by_cell(groups, cells.take(0), tallies),
         Entries::ByCells(groups) => join_by_cells(groups, cells, tallies),
     }
 }

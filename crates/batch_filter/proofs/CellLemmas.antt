@@ -1,5 +1,5 @@
 -- Cells of lists.
-use Rattle.std.proofs.Common.{◌≡◌, ℕ, ◌<◌, List, [], ◌∷◌, ◌++◌, length, slice_get, Some, unwrap_or, refl, ap, sym, ◌∙◌, arith, false, true, Bool, true≢false, ◌||◌, get_or, ◌+◌, ◌≤◌, take, drop}
+use Rattle.std.proofs.Common.{◌≡◌, ◌≢◌, ℕ, zero, suc, ◌<◌, List, [], ◌∷◌, length, refl, ap, sym, ◌∙◌, arith, false, true, Bool, true≢false, ◌||◌, get_or, ◌+◌, ◌≤◌, take, drop}
 use Rattle.std.specs.List.{list_any}
 use Rattle.std.proofs.lemmas.Bool.{false_from_ne_true}
 use Rattle.std.proofs.lemmas.List.Folds.{list_any_at}
@@ -8,14 +8,19 @@ use Rattle.cs_types.specs.declared.Value.{Value}
 use Rattle.cs_types.specs.declared.Value.TheVariants.{Null}
 use Rattle.cs_types.specs.Rows.{cell_at}
 use Rattle.batch_kernels.specs.Masks.{same_as}
+use Rattle.batch_filter.specs.Named.{lone_row}
 
-get-last : (cells : List Value) (cell : Value) → slice_get (cells ++ cell ∷ []) (length cells) ≡ Some cell
-get-last [] cell = refl
-get-last (x ∷ xs) cell = get-last xs cell
+-- the cell of a row with no other one
+pub lone_cell : (column : ℕ) (cell : Value) → cell_at (lone_row column cell) column ≡ cell
+lone_cell zero cell = refl
+lone_cell (suc column) cell = lone_cell column cell
 
--- the cell past some others
-pub cell_at-last : (cells : List Value) (cell : Value) (n : ℕ) → length cells ≡ n → cell_at (cells ++ cell ∷ []) n ≡ cell
-cell_at-last cells cell n same = ap (λ k. cell_at (cells ++ cell ∷ []) k) (sym same) ∙ ap (λ o. unwrap_or o Null) (get-last cells cell)
+-- its other cells
+pub lone_null : (column other : ℕ) (cell : Value) → other ≢ column → cell_at (lone_row column cell) other ≡ Null
+lone_null zero zero cell apart = absurd (apart refl)
+lone_null zero (suc other) cell apart = refl
+lone_null (suc column) zero cell apart = refl
+lone_null (suc column) (suc other) cell apart = lone_null column other cell (λ same. apart (ap suc same))
 
 -- no place is as wanted where a search finds none
 pub none_wanted : (wanted : Bool) (mask : List Bool) → list_any (same_as wanted) mask ≡ false → (i : ℕ) → i < length mask → same_as wanted (get_or mask i false) ≡ false

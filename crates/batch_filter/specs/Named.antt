@@ -1,6 +1,8 @@
 -- The columns that a predicate names.
-use Rattle.std.specs.Prelude.{ℕ, List, [], ◌∷◌, ◌++◌}
+use Rattle.std.specs.Prelude.{ℕ, zero, suc, List, [], ◌∷◌, ◌++◌}
 use Rattle.std.specs.List.{flat_map}
+use Rattle.cs_types.specs.declared.Value.{Value}
+use Rattle.cs_types.specs.declared.Value.TheVariants.{Null}
 use Rattle.cs_model.specs.declared.pred.Operand.{Operand}
 use Rattle.cs_model.specs.declared.pred.Operand.TheVariants.{Column, Constant}
 use Rattle.cs_model.specs.declared.pred.Pred.{Pred}
@@ -24,3 +26,8 @@ named_step (Pred-F.IsNull i negated) = i ∷ []
 -- the numbers of the columns that a predicate names
 abbrev pub named : Pred → List ℕ
 named pred = fold-Pred (List ℕ) named_step pred
+
+-- a row with a cell in this column, and NULL in each before it
+abbrev pub lone_row : ℕ → Value → List Value
+lone_row zero cell = cell ∷ []
+lone_row (suc column) cell = Null ∷ lone_row column cell

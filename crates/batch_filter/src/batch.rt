@@ -2,7 +2,6 @@
 
 ghost use Rattle.std.specs.Prelude.{◌≡◌, ◌<◌, ◌∷◌, ◌++◌, ◌&&◌, ℕ, [], false, Some, length, map, nat_lt, slice_index_or};
 ghost use Rattle.std.specs.List.{flat_map};
-ghost use Rattle.cs_types.specs.declared.Value.TheVariants as cell;
 ghost use Rattle.cs_model.specs.Queries.{keeps};
 ghost use Rattle.batch_filter.specs.Named.{named, column_of_operand};
 ghost use Rattle.batch_filter.specs.Batches as spec;
@@ -10,28 +9,26 @@ ghost use Rattle.batch_filter.specs.Batches.{batches_of, first_count, batch_row}
 
 use column_segment::Batch;
 use cs_model::{Operand, Pred, Truth};
-use cs_predicate::{Cells, truth_of};
-use cs_types::{Schema, Value};
+use cs_predicate::{Cells, Side, truth_of};
+use cs_types::{ColumnType, Schema};
 
 /// The cells at one place of some batches.
 #[derive(Drop)]
 struct BatchRow<'a> {
     columns: &'a [Batch],
     place: usize,
-    null: Value,
-    ghost nothing: { null ≡ cell.Null },
 }
 
 impl Cells for BatchRow<'_> {
     ghost row_of = { λ row. batch_row row.columns.now row.place };
 
-    fn cell(&self, column: usize) -> &Value {
+    fn side(&self, kind: ColumnType, column: usize) -> Side<'_> {
         let Some(batch) = self.columns.get(column) else {
-            return &self.null;
+            return Side::Null;
         };
         match batch.get(self.place) {
-            Some(value) => value,
-            None => &self.null,
+            Some(value) => Side::of_value(kind, value),
+            None => Side::Null,
         }
     }
 }
@@ -40,11 +37,7 @@ impl Cells for BatchRow<'_> {
 fn is_true_at(pred: &Pred, schema: &Schema, columns: &[Batch], place: usize) -> bool
     ensures { result ≡ keeps schema.now (Some pred.now) (batch_row columns.now place) }
 {
-    let row = BatchRow {
-        columns,
-        place,
-        null: Value::Null,
-    };
+    let row = BatchRow { columns, place };
     truth_of(pred, &row, schema) == Truth::True
 }
 

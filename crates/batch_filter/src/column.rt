@@ -3,7 +3,6 @@
 ghost use Rattle.std.specs.Prelude.{◌≡◌, ◌+◌, ◌≤◌, ◌<◌, ◌==◌, ℕ, length, slice_get, slice_index_or, true, false, IfOk, IfSome, OnOk, ◌^◌, List};
 ghost use Rattle.std.specs.List.{list_all};
 ghost use Rattle.cs_types.specs.declared.Value.{Value as Cell};
-ghost use Rattle.cs_types.specs.Rows.{cell_at};
 ghost use Rattle.cs_types.specs.Text.{loose_of};
 ghost use Rattle.cs_model.specs.Cells.{loose_in};
 ghost use Rattle.column_segment.specs.Bodies.{code_in, IsKnown};
@@ -11,7 +10,6 @@ ghost use Rattle.batch_kernels.specs.Masks.{in_span, IsNarrowed};
 ghost use Rattle.batch_filter.specs.Codes.{AreCodes, Answers, Judges, takes};
 ghost use Rattle.batch_filter.specs.Named.{named};
 ghost use Rattle.batch_filter.specs.Sieves as spec;
-ghost use Rattle.cs_model.specs.Truths as model;
 ghost use Rattle.std.specs.Bool.{OnTrue, OnFalse};
 ghost use Rattle.batch_filter.specs.Sieves.{asks};
 
@@ -19,12 +17,12 @@ use crate::among::listed;
 use crate::choice::Choice;
 use crate::cut::Codes;
 use crate::named::lone_column;
+use crate::sides::truth_of_cell;
 use batch_kernels::{Span, chosen};
 use column_segment::Segment;
 use cs_base::{Items, Memory};
 use cs_model::{Operand, Pred, Truth};
-use cs_predicate::truth;
-use cs_types::{Row, Schema, Value};
+use cs_types::Schema;
 use row_group::Packed;
 use std::alloc::Global;
 
@@ -37,18 +35,6 @@ pub fn is_asked(holds: bool, found: Truth) -> bool
     } else {
         found == Truth::False
     }
-}
-
-/// A row whose cell in a column is this one, and whose other cells are NULL.
-fn row_with(alloc: Global, column: usize, cell: Value) -> Result<Row, Memory>
-    ensures { IfOk result (λ row. cell_at row column ≡ cell) }
-{
-    let mut row = Row::new(alloc);
-    for _before in 0..column {
-        row.push(Value::Null)?;
-    }
-    row.push(cell)?;
-    Ok(row)
 }
 
 /// The codes that a comparison, BETWEEN or IS NULL takes as a range. None for the other forms.
@@ -86,22 +72,6 @@ fn span_of(
     }
 }
 
-/// Whether the predicate has the truth that is asked for where the cell in its column is this one.
-fn judged(
-    alloc: Global,
-    pred: &Pred,
-    column: usize,
-    holds: bool,
-    cell: Value,
-    schema: &Schema,
-) -> Result<bool, Memory>
-    requires { list_all (λ i. i == column) (named pred.now) ≡ true }
-    ensures { IfOk result (λ judged. (row : List Cell) → cell_at row column ≡ cell → judged ≡ spec.is_asked holds (model.truth pred.now row schema.now)) }
-{
-    let row = row_with(alloc, column, cell)?;
-    Ok(is_asked(holds, truth(pred, &row, schema)))
-}
-
 /// A bool for each code: whether the predicate has the truth that is asked for where the column's cell is the code's.
 fn table_of(
     alloc: Global,
@@ -120,8 +90,8 @@ fn table_of(
 {
     let mut table = Items::new(alloc);
     for code in 0..last + 1 {
-        let cell = segment.cell_of(code).to_value(alloc)?;
-        table.push(judged(alloc, pred, column, holds, cell, schema)?)?;
+        let found = truth_of_cell(pred, schema, column, segment.cell_of(code));
+        table.push(is_asked(holds, found))?;
     }
     Ok(table)
 }

@@ -1,6 +1,6 @@
 //! Predicates over a whole group, part by part.
 
-ghost use Rattle.std.specs.Prelude.{◌≡◌, ◌<◌, ◌&&◌, ℕ, length, slice_index_or, false, IfOk, OnOk};
+ghost use Rattle.std.specs.Prelude.{◌≡◌, ◌<◌, ◌&&◌, ℕ, length, slice_index_or, false, OnOk};
 ghost use Rattle.std.specs.List.{list_all, list_any};
 ghost use Rattle.batch_kernels.specs.Masks.{IsNarrowed};
 ghost use Rattle.batch_filter.specs.Sieves.{asks};
@@ -23,32 +23,21 @@ fn still_asked(
     packed: &Packed,
     schema: &Schema,
     position: usize,
-) -> Result<bool, Memory>
+) -> bool
     requires { position < length packed.now.rows }
-    ensures { IfOk result (λ still. still ≡ (wanted && asks schema.now packed.now holds pred.now position)) }
+    ensures { result ≡ (wanted && asks schema.now packed.now holds pred.now position) }
 {
-    if !wanted {
-        return Ok(false);
-    }
-    let found = truth_at(pred, packed, schema, position)?;
-    Ok(is_asked(holds, found))
+    wanted && is_asked(holds, truth_at(pred, packed, schema, position))
 }
 
 /// Keeps of the mask's places those where the row makes the predicate the truth that is asked for.
-fn narrow_rows(
-    pred: &Pred,
-    holds: bool,
-    packed: &Packed,
-    schema: &Schema,
-    mask: &mut [bool],
-) -> Result<(), Memory>
+fn narrow_rows(pred: &Pred, holds: bool, packed: &Packed, schema: &Schema, mask: &mut [bool])
     requires { length mask.old ≡ length packed.now.rows }
-    ensures { OnOk result (IsNarrowed (asks schema.now packed.now holds pred.now) mask.old mask.new) }
+    ensures { IsNarrowed (asks schema.now packed.now holds pred.now) mask.old mask.new }
 {
     for position in 0..mask.len() {
-        mask[position] = still_asked(mask[position], pred, holds, packed, schema, position)?;
+        mask[position] = still_asked(mask[position], pred, holds, packed, schema, position);
     }
-    Ok(())
 }
 
 /// Keeps of the mask's places those where each part of a chain has the truth that is asked for.
@@ -152,6 +141,9 @@ pub fn narrow(
             }
         }
         Pred::Not(part) => narrow(alloc, part.get(), !holds, packed, schema, mask),
-        _ => narrow_rows(pred, holds, packed, schema, mask),
+        _ => {
+            narrow_rows(pred, holds, packed, schema, mask);
+            Ok(())
+        }
     }
 }

@@ -1,67 +1,73 @@
-//! What the cells of a row of a group lend to a comparison. No row is made.
+//! The truth of a predicate over cells where they stand in a group. No row is made.
 
-ghost use Rattle.std.specs.Prelude.{◌≡◌, ◌<◌, length, IfOk};
-ghost use Rattle.cs_model.specs.Cells.{loose_at};
+ghost use Rattle.std.specs.Prelude.{◌≡◌, ◌==◌, ◌<◌, List, true, length};
+ghost use Rattle.std.specs.List.{list_all};
+ghost use Rattle.cs_types.specs.declared.Value.{Value};
+ghost use Rattle.cs_types.specs.Rows.{cell_at};
 ghost use Rattle.cs_model.specs.Truths as model;
-ghost use Rattle.cs_predicate.specs.Sides.{lent};
+ghost use Rattle.column_segment.specs.Cells.{seen};
 ghost use Rattle.row_group.specs.Groups.{row_at};
+ghost use Rattle.batch_filter.specs.Named.{lone_row, named};
 
 use crate::bounds::side_of;
-use cs_base::Memory;
-use cs_model::{Operand, Pred, Truth};
-use cs_predicate::{Side, compare, truth};
-use cs_types::Schema;
+use column_segment::CellRef;
+use cs_model::{Pred, Truth};
+use cs_predicate::{Cells, Side, truth_of};
+use cs_types::{ColumnType, Schema};
 use row_group::Packed;
 
-/// What the cell of a column at a position lends, NULL where there is no such column.
-fn side_at<'a>(packed: &'a Packed, schema: &Schema, column: usize, position: usize) -> Side<'a>
-    requires { position < length packed.now.rows }
-    ensures { lent result ≡ loose_at schema.now (row_at packed.now position).cells column }
-{
-    let Some(found) = schema.columns.get(column) else {
-        return Side::Null;
-    };
-    if column >= packed.width() {
-        return Side::Null;
-    }
-    side_of(found.kind, packed.segment(column).cell(position))
-}
-
-/// What an operand lends at a position.
-fn operand_at<'a>(
+/// The row at a position of a group.
+#[derive(Drop)]
+struct GroupRow<'a> {
     packed: &'a Packed,
-    schema: &Schema,
-    operand: &'a Operand,
     position: usize,
-) -> Side<'a>
-    requires { position < length packed.now.rows }
-    ensures { lent result ≡ model.operand_of schema.now (row_at packed.now position).cells operand.now }
-{
-    match operand {
-        Operand::Column(column) => side_at(packed, schema, *column, position),
-        Operand::Constant(constant) => Side::of_constant(constant),
+    ghost there: { position < length packed.now.rows },
+}
+
+impl Cells for GroupRow<'_> {
+    ghost row_of = { λ row. (row_at row.packed.now row.position).cells };
+
+    fn side(&self, kind: ColumnType, column: usize) -> Side<'_> {
+        if column >= self.packed.width() {
+            return Side::Null;
+        }
+        side_of(kind, self.packed.segment(column).cell(self.position))
     }
 }
 
-/// The truth of a predicate over the row at a position. Only for a form other than a comparison the row is made.
-pub fn truth_at(
-    pred: &Pred,
-    packed: &Packed,
-    schema: &Schema,
-    position: usize,
-) -> Result<Truth, Memory>
+/// The truth of a predicate over the row at a position.
+pub fn truth_at(pred: &Pred, packed: &Packed, schema: &Schema, position: usize) -> Truth
     requires { position < length packed.now.rows }
-    ensures { IfOk result (λ found. found ≡ model.truth pred.now (row_at packed.now position).cells schema.now) }
+    ensures { result ≡ model.truth pred.now (row_at packed.now position).cells schema.now }
 {
-    match pred {
-        Pred::Compare { left, sign, right } => Ok(compare(
-            *sign,
-            operand_at(packed, schema, left, position),
-            operand_at(packed, schema, right, position),
-        )),
-        _ => {
-            let row = packed.row(position)?;
-            Ok(truth(pred, &row, schema))
+    let row = GroupRow { packed, position };
+    truth_of(pred, &row, schema)
+}
+
+/// A row with a cell in one column, whose other cells are NULL.
+#[derive(Drop)]
+struct LoneCell<'a> {
+    column: usize,
+    cell: CellRef<'a>,
+}
+
+impl Cells for LoneCell<'_> {
+    ghost row_of = { λ row. lone_row row.column (seen row.cell) };
+
+    fn side(&self, kind: ColumnType, column: usize) -> Side<'_> {
+        if column == self.column {
+            side_of(kind, self.cell)
+        } else {
+            Side::Null
         }
     }
+}
+
+/// The truth of a predicate that names one column alone, over a row with this cell there.
+pub fn truth_of_cell(pred: &Pred, schema: &Schema, column: usize, cell: CellRef<'_>) -> Truth
+    requires { list_all (λ i. i == column) (named pred.now) ≡ true }
+    ensures { (row : List Value) → cell_at row column ≡ seen cell.entry → result ≡ model.truth pred.now row schema.now }
+{
+    let row = LoneCell { column, cell };
+    truth_of(pred, &row, schema)
 }

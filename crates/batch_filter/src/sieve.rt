@@ -26,8 +26,7 @@ impl Model for Sieve {
 }
 
 impl Sieve {
-    /// The verdicts over each row of a group, deleted ones too. `Memory` comes where they find no room, or a row that is judged by
-    /// itself.
+    /// The verdicts over each row of a group, deleted ones too. `Memory` comes where they find no room.
     pub fn of(alloc: Global, pred: &Pred, packed: &Packed, schema: &Schema) -> Result<Sieve, Memory>
         ensures { IfOk result (λ sieve. sieve ≡ verdicts schema.now pred.now packed.now) }
     {

@@ -101,8 +101,7 @@ fn positions_of(
 }
 
 /// The positions of a packed group, in ascending order, at which the statement reads the version and the predicate, if there is
-/// one, is True of the row. It is not asked whether the predicate skips the group. No row is made, but where the predicate is
-/// judged row by row.
+/// one, is True of the row. It is not asked whether the predicate skips the group. No row is made.
 pub fn kept_positions(
     alloc: Global,
     pinned: &Pinned,

@@ -64,25 +64,25 @@ fn number_cmp(m: i128, s: u8, n: i128, t: u8) -> Ordering
     }
 }
 
-/// What a value of a column of this type lends.
-fn side_of_value(kind: ColumnType, value: &Value) -> Side<'_>
-    ensures { lent result ≡ loose_of kind value.now }
-{
-    match value {
-        Value::Null => Side::Null,
-        Value::Number(number) => Side::of_number(kind, *number),
-        Value::Text(text) => Side::Text(text.as_slice()),
-    }
-}
-
 impl<'a> Side<'a> {
     /// What a row's cell in a column lends, NULL past the columns.
     pub fn of_cell<C: Cells>(schema: &Schema, row: &'a C, column: usize) -> Side<'a>
         ensures { lent result ≡ cells.loose_at schema.now (C.row_of row.now) column }
     {
         match schema.columns.get(column) {
-            Some(found) => side_of_value(found.kind, row.cell(column)),
+            Some(found) => row.side(found.kind, column),
             None => Side::Null,
+        }
+    }
+
+    /// What a value of a column of this type lends.
+    pub fn of_value(kind: ColumnType, value: &'a Value) -> Side<'a>
+        ensures { lent result ≡ loose_of kind value.now }
+    {
+        match value {
+            Value::Null => Side::Null,
+            Value::Number(number) => Side::of_number(kind, *number),
+            Value::Text(text) => Side::Text(text.as_slice()),
         }
     }
 

@@ -143,7 +143,7 @@ fn choose_positions(
 }
 
 /// Chooses the rows of a packed group that are read and that the condition keeps. One that the condition skips is passed over, and no
-/// row is made to be judged but where the condition has to be judged row by row.
+/// row is made to be judged.
 fn choose_in_packed(
     alloc: Global,
     chosen: &mut Vec<Chosen>,

@@ -70,7 +70,11 @@ pub(crate) fn mover<J: Made, R: Wait, D: Desk>(
             }
             Turned::Alone => {}
             Turned::Short => changes.wait(rt),
-            Turned::Idle => news.wait(rt),
+            Turned::Idle => {
+                // A commit rings for those who wait for changes: it need not find this one among them.
+                drop(changes);
+                news.wait(rt);
+            }
         }
     }
     unreachable!()
