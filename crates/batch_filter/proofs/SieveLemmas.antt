@@ -16,8 +16,6 @@ use Rattle.cs_model.specs.Truths.{truth}
 use Rattle.row_group.specs.Rows.{PackedRow}
 use Rattle.row_group.specs.Groups.{Group, row_at}
 use Rattle.batch_kernels.specs.Masks.{IsNarrowed, IsNarrowedAt}
-use Rattle.batch_kernels.specs.Places.{places}
-use Rattle.batch_kernels.proofs.OneMore.{count-more, count-most}
 use Rattle.batch_filter.specs.Sieves.{is_asked, asks, verdicts}
 
 and_true : (b : Bool) → b ≡ (b && true)
@@ -143,47 +141,6 @@ pub written_whole : (len : ℕ) (items new : List Bool) → len ≡ length items
 written_whole len items new counted same =
     ap (λ k. take len (new ++ drop k items)) same ∙ ap (λ rest. take len (new ++ rest)) (drop-length items) ∙ ap (take len) (append-nil new) ∙ take_all len new (omega arith)
 
--- the places from one on, as many of them as there are, and past the end no place
-pub batch_within : (xs : List Bool) (from count start there i : ℕ) → start ≡ min from (length xs) → there ≡ min count (length xs - start)
-    → (nat_lt i there && get_or xs (start + i) false) ≡ (nat_lt i count && get_or xs (from + i) false)
-batch_within xs from count start there i starts counts = ⊎_elim
-    (λ (inside : from + i < length xs).
-    let same : start ≡ from = omega (arith, starts, inside) in
-    ap (λ k. nat_lt i there && get_or xs (k + i) false) same
-    ∙ ap (λ b. b && get_or xs (from + i) false) (⊎_elim
-    (λ (less : i < count). lt-ltb i there (omega (arith, starts, counts, inside, less)) ∙ sym (lt-ltb i count less))
-    (λ (more : count ≤ i). le-ltb i there (omega (arith, counts, more)) ∙ sym (le-ltb i count more))
-    (cases_lt i count)))
-    (λ (past : length xs ≤ from + i).
-    ap (λ b. b && get_or xs (start + i) false) (le-ltb i there (omega (arith, starts, counts, past)))
-    ∙ and_false (nat_lt i count)
-    ∙ ap (λ b. nat_lt i count && b) (sym (get_or_past xs (from + i) false past)))
-    (cases_lt (from + i) (length xs))
-
 -- places from one on are narrowed alike by another test that answers alike
 pub narrowed_at_alike : (from count : ℕ) (test other : ℕ → Bool) (old new : List Bool) → ((i : ℕ) → i < count → test i ≡ other i) → IsNarrowedAt from count test old new → IsNarrowedAt from count other old new
 narrowed_at_alike from count test other old new alike is = (is.0, (λ i l. is.1 i l ∙ ap (λ b. slice_index_or old (from + i) false && b) (alike i l)), is.2)
-
--- one place more
-places_more : (mask : List Bool) (n : ℕ) (b : Bool) → slice_index_or mask n false ≡ b → length (places mask (suc n)) ≡ length (places mask n) + cond b 1 0
-places_more mask n b is = ap (λ m. length (places mask m)) (sym (add-one n)) ∙ count-more (λ j. slice_index_or mask j false) n ∙ ap (λ t. length (places mask n) + cond t 1 0) is
-
--- where as many places are chosen as there are, each is
-chosen_last : (mask : List Bool) (n : ℕ) → length (places mask (suc n)) ≡ suc n → (length (places mask n) ≡ n) × (slice_index_or mask n false ≡ true)
-chosen_last mask n counted = last (slice_index_or mask n false) refl
-  where
-    last : (b : Bool) → slice_index_or mask n false ≡ b → (length (places mask n) ≡ n) × (slice_index_or mask n false ≡ true)
-    last true is = (omega (arith, counted, places_more mask n true is), is)
-    last false is = absurd (omega (arith, counted, places_more mask n false is, count-most (λ j. slice_index_or mask j false) n))
-
-pub all_chosen : (mask : List Bool) (n : ℕ) → length (places mask n) ≡ n → (i : ℕ) → i < n → slice_index_or mask i false ≡ true
-all_chosen mask zero counted i below = absurd (omega (arith, below))
-all_chosen mask (suc n) counted i below = elim (cases_lt i n) [
-  | inl less ↦ all_chosen mask n (chosen_last mask n counted).0 i less
-  | inr past ↦ ap (λ j. slice_index_or mask j false) (omega (arith, below, past)) ∙ (chosen_last mask n counted).1
-]
-
--- and where each is, as many are chosen
-pub chosen_all : (mask : List Bool) (n : ℕ) → ((i : ℕ) → i < n → slice_index_or mask i false ≡ true) → length (places mask n) ≡ n
-chosen_all mask zero each = refl
-chosen_all mask (suc n) each = omega (arith, places_more mask n true (each n (omega arith)), chosen_all mask n (λ i below. each i (omega (arith, below))))

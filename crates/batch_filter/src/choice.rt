@@ -5,7 +5,7 @@ ghost use Rattle.column_segment.specs.Bodies.{code_in};
 ghost use Rattle.batch_kernels.specs.Masks.{IsNarrowed, IsNarrowedAt};
 ghost use Rattle.batch_filter.specs.Codes.{takes, Answers};
 
-use batch_kernels::{Span, has_chosen, keep_none, narrow_in_span, narrow_in_table};
+use batch_kernels::{Span, has_any, keep_none, narrow_in_span, narrow_in_table};
 use column_segment::Segment;
 use cs_base::Items;
 
@@ -100,7 +100,7 @@ impl Choice {
         requires answers { Answers self.now segment.now.body segment.now.length }
         ensures { IsNarrowedAt from count (λ i. takes self.now (code_in segment.now.body (from + i))) mask.old mask.new }
     {
-        if !has_chosen(&mask[from..from + count]) {
+        if !has_any(&mask[from..from + count], true) {
             return;
         }
         segment.code_batch(from, count, codes);

@@ -3,7 +3,7 @@ ghost use Rattle.std.specs.List.{list_any};
 ghost use Rattle.batch_filter.specs.Sieves.{verdicts};
 
 use crate::narrow::narrow;
-use batch_kernels::{chosen, has_chosen, put_batch};
+use batch_kernels::{has_any, put_batch};
 use cs_base::{Items, Memory};
 use cs_model::Pred;
 use cs_types::Schema;
@@ -37,6 +37,13 @@ impl Sieve {
         })
     }
 
+    /// The verdicts.
+    pub fn as_slice(&self) -> &[bool]
+        ensures { result.now ≡ self.now }
+    {
+        self.verdicts.as_slice()
+    }
+
     /// The number of rows.
     pub fn len(&self) -> usize
         ensures { result ≡ length self.now }
@@ -55,15 +62,14 @@ impl Sieve {
     pub fn is_nowhere(&self) -> bool
         ensures { result ≡ not (list_any (λ verdict. verdict) self.now) }
     {
-        !has_chosen(self.verdicts.as_slice())
+        !has_any(self.as_slice(), true)
     }
 
     /// Whether the predicate is True of every row.
     pub fn is_everywhere(&self) -> bool
         ensures { IsTrue result ↔ ((i : ℕ) → i < length self.now → slice_index_or self.now i false ≡ true) }
     {
-        let count = self.len();
-        chosen(self.verdicts.as_slice(), count) == count as u64
+        !has_any(self.as_slice(), false)
     }
 
     /// Whether the predicate is True of the row at a position. False past the end.
@@ -80,8 +86,6 @@ impl Sieve {
     pub fn keep(&self, from: usize, count: usize, batch: &mut [bool; 1024])
         ensures { (i : ℕ) → i < 1024 → slice_index_or batch.new i false ≡ (nat_lt i count && slice_index_or self.now (from + i) false) }
     {
-        let start = from.min(self.len());
-        let there = count.min(self.len() - start);
-        put_batch(self.verdicts.as_slice(), start, there, batch);
+        put_batch(self.as_slice(), from, count, batch);
     }
 }

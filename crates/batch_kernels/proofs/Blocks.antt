@@ -1,7 +1,10 @@
 -- A block of places more.
-use Rattle.std.proofs.Common.{◌≡◌, ℕ, ◌+◌, ◌<◌, List, Bool, false, ◌&&◌, length, slice_index, slice_index_or, take, drop, fold, ◌∙◌, ap, sym}
+use Rattle.std.proofs.Common.{◌≡◌, ℕ, ◌+◌, ◌<◌, List, Bool, true, false, ◌&&◌, ◌||◌, length, slice_index, slice_index_or, take, drop, fold, ◌∙◌, ap, sym}
 use Rattle.std.specs.Prelude.{◌==◌}
-use Rattle.std.proofs.lemmas.List.{get_or-drop, get_or-take}
+use Rattle.std.specs.List.{list_any}
+use Rattle.std.proofs.Math.Seq.{take-add}
+use Rattle.std.proofs.lemmas.List.{get_or-drop, get_or-take, take-append-drop}
+use Rattle.std.proofs.lemmas.List.Folds.{list_any-append}
 use Rattle.batch_kernels.specs.Places.{places_with}
 use Rattle.batch_kernels.proofs.Batches.{fold-batch, count-batch, place-same}
 
@@ -31,3 +34,15 @@ module _ (mask : List Bool) (keys : List ℕ) (from n k : ℕ) where
   count-block m same =
       ap (λ j. length (places_with mask (slice_index keys) k from) + length (places_with (take n (drop from mask)) (slice_index (take n (drop from keys))) k j)) same
       ∙ sym (count-batch (λ i. slice_index_or mask i false && slice_index keys i == k) (λ i. slice_index_or (take n (drop from mask)) i false && slice_index (take n (drop from keys)) i == k) from n alike)
+
+module _ {A : Type 0} (p : A → Bool) (xs : List A) where
+  -- of whether one passes a test, where none did before
+  pub any-block : (from n : ℕ) → list_any p (take from xs) ≡ false → list_any p (take (from + n) xs) ≡ list_any p (take n (drop from xs))
+  any-block from n none =
+      let block = take n (drop from xs) in
+      ap (list_any p) (take-add from n xs) ∙ list_any-append p (take from xs) block ∙ ap (λ b. b || list_any p block) none
+
+  -- one of the first is one of all
+  pub any-first : (n : ℕ) → list_any p (take n xs) ≡ true → list_any p xs ≡ true
+  any-first n some =
+      sym (ap (list_any p) (take-append-drop n xs)) ∙ list_any-append p (take n xs) (drop n xs) ∙ ap (λ b. b || list_any p (drop n xs)) some

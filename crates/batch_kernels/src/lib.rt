@@ -17,8 +17,8 @@ mod turns;
 
 pub use keys::Keys;
 pub use masks::{
-    Span, choose_first, chosen, has_chosen, keep_from, keep_none, keep_where, narrow_in_span,
-    narrow_in_table, put_batch, put_found, put_span,
+    Span, choose_first, chosen, has_any, keep_from, keep_none, keep_where, narrow_in_span,
+    narrow_in_table, part, put_batch, put_found, put_span,
 };
 pub use sums::{greatest_chosen, least_chosen, sum_chosen};
 pub use tables::{count_by_key, greatest_by_key, least_by_key, sum_by_key};

@@ -1,8 +1,11 @@
 // Masks: a bool for each place, true where the place is chosen.
-ghost use Rattle.std.specs.Prelude.{◌≡◌, ℕ, ◌+◌, ◌<◌, ◌≤◌, ◌^◌, ◌&&◌, ◌||◌, nat_le, nat_lt, length, slice_index, slice_index_or, true, false};
+ghost use Rattle.std.specs.Prelude.{◌≡◌, ℕ, ◌+◌, ◌<◌, ◌≤◌, ◌^◌, ◌&&◌, ◌||◌, nat_le, nat_lt, length, slice_index, slice_index_or, true, false, take, drop};
 ghost use Rattle.std.specs.List.{list_any};
 ghost use Rattle.batch_kernels.specs.Masks.{IsNarrowedAt, in_span, same_as};
 ghost use Rattle.batch_kernels.specs.Places.{places};
+
+/// How many places are asked at once whether one of them is chosen.
+const BLOCK: usize = 1024;
 
 /// Some of the codes from `first` on: those of a range, or those outside of it.
 #[derive(Clone, Copy, Debug, PartialEq, Eq)]
@@ -177,16 +180,25 @@ fn drop_from(count: usize, batch: &mut [bool; 1024])
     }
 }
 
-/// Writes the `count` places from one on into the first places of a batch, and no other place of the batch is chosen.
+/// The `count` places from one on, as far as there are so many.
+pub fn part(mask: &[bool], from: usize, count: usize) -> &[bool]
+    ensures { result.now ≡ take count (drop from mask.now) }
+{
+    let start = from.min(mask.len());
+    let end = start + count.min(mask.len() - start);
+    &mask[start..end]
+}
+
+/// Writes the `count` places from one on, as far as there are so many, into the first places of a batch, and no other place of the
+/// batch is chosen.
 pub fn put_batch(mask: &[bool], from: usize, count: usize, batch: &mut [bool; 1024])
-    requires { from + count ≤ length mask.now }
     ensures { (i : ℕ) → i < 1024 → slice_index_or batch.new i false ≡ (nat_lt i count && slice_index_or mask.now (from + i) false) }
 {
-    let there = count.min(1024);
-    for i in 0..there {
-        batch[i] = mask[from + i];
+    let there = part(mask, from, count.min(1024));
+    for i in 0..there.len() {
+        batch[i] = there[i];
     }
-    drop_from(there, batch);
+    drop_from(there.len(), batch);
 }
 
 /// Adds to a table, a bool for each code, the codes of a span.
@@ -210,13 +222,28 @@ pub fn keep_none(from: usize, count: usize, mask: &mut [bool])
     }
 }
 
-/// Whether a place is chosen.
-pub fn has_chosen(mask: &[bool]) -> bool
-    ensures { result ≡ list_any (λ chosen. chosen) mask.now }
+/// Whether a place is chosen, or, where not `wanted`, whether one is not. No place past the first block that has one is read.
+pub fn has_any(mask: &[bool], wanted: bool) -> bool
+    ensures { result ≡ list_any (same_as wanted) mask.now }
+{
+    let mut from = 0;
+    while from < mask.len() {
+        let count = (mask.len() - from).min(BLOCK);
+        if has_in_block(&mask[from..from + count], wanted) {
+            return true;
+        }
+        from += count;
+    }
+    false
+}
+
+/// The same of a block. Each place is looked at, so that many are at once.
+fn has_in_block(block: &[bool], wanted: bool) -> bool
+    ensures { result ≡ list_any (same_as wanted) block.now }
 {
     let mut found = false;
-    for chosen in mask {
-        found |= *chosen;
+    for chosen in block {
+        found |= *chosen == wanted;
     }
     found
 }

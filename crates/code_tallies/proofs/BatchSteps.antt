@@ -66,30 +66,6 @@ pub keys-fewer : (m n : ℕ) (columns : List Column) → n ≤ m → HasKeys m c
 keys-fewer m n [] fewer has = tt
 keys-fewer m n (c ∷ cs) fewer has = (omega (arith, fewer, has.0), has.1, (λ i below. has.2 i (omega (arith, fewer, below))), has.3, keys-fewer m n cs fewer has.4)
 
--- masks so far, with one more
-pub chosen-push : (masks : List (List Bool)) (mask : List Bool) (number n : ℕ) (f : ℕ → Bool) → length masks ≡ number →
-    ((i : ℕ) → i < 1024 * number → i < n → chosen_in masks i ≡ f i) →
-    ((j : ℕ) → j < 1024 → 1024 * number + j < n → slice_index_or mask j false ≡ f (1024 * number + j)) →
-    (i : ℕ) → i < 1024 * (number + 1) → i < n → chosen_in (masks ++ mask ∷ []) i ≡ f i
-chosen-push masks mask number n f long before here i below within = elim (cases_lt i (1024 * number)) [
-  | inl less ↦
-      let there : i / 1024 < length masks = omega (arith, less, long) in
-      ap (λ m. slice_index_or m (i % 1024) false) (get_or_append_left masks (mask ∷ []) [] (i / 1024) there) ∙ before i less within
-  | inr more ↦
-      let there : length masks ≡ i / 1024 = omega (arith, below, more, long) in
-      let place : 1024 * number + i % 1024 ≡ i = omega (arith, below, more) in
-      ap (λ m. slice_index_or m (i % 1024) false) (get_or_push masks mask [] (i / 1024) there)
-      ∙ here (i % 1024) (omega arith) (omega (arith, place, within))
-      ∙ ap f place
-]
-
--- a batch read from its masks
-pub chosen-here : (masks : List (List Bool)) (number j : ℕ) → j < 1024 → chosen_in masks (1024 * number + j) ≡ slice_index_or (slice_index_or masks number []) j false
-chosen-here masks number j below =
-    let first : (1024 * number + j) / 1024 ≡ number = omega (arith, below) in
-    let second : (1024 * number + j) % 1024 ≡ j = omega (arith, below) in
-    ap (λ m. slice_index_or (slice_index_or masks m []) ((1024 * number + j) % 1024) false) first ∙ ap (λ m. slice_index_or (slice_index_or masks number []) m false) second
-
 -- a vector whose elements are written whole
 pub written : {X : Type 0} (xs ys : List X) (n : ℕ) → length xs ≡ n → take n (xs ++ ys) ≡ xs
 written [] ys zero e = refl

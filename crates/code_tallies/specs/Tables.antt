@@ -1,8 +1,9 @@
 -- What is kept of the chosen rows of a group, an entry for each key number.
-use Rattle.std.specs.Prelude.{◌≡◌, ◌<◌, ◌≤◌, ℕ, ◌+◌, ◌-◌, ◌*◌, ◌/◌, ◌%◌, ◌==◌, min, max, ℤ, pos, ◌+ℤ◌, Bool, false, ◌&&◌, nat_le, nat_lt, List, [], Option, None, Some, length, filter, fold, slice_index, slice_index_or, vec_len}
+use Rattle.std.specs.Prelude.{◌≡◌, ◌<◌, ◌≤◌, ℕ, ◌+◌, ◌-◌, ◌*◌, ◌==◌, min, max, ℤ, pos, ◌+ℤ◌, Bool, false, ◌&&◌, nat_le, nat_lt, List, Option, None, Some, length, filter, fold, slice_index, slice_index_or, vec_len}
 use Rattle.std.specs.List.{range_with_len, AllZip}
 use Rattle.std.specs.Option.{option_copied}
-use Rattle.std.specs.declared.vec.Vec.{Vec}
+use Rattle.std.specs.Cow.{cow_slice_items}
+use Rattle.std.specs.declared.borrow.CowSlice.{CowSlice}
 use Rattle.std.specs.declared.alloc.Global.{Global}
 use Rattle.cs_types.specs.Rows.{number_in}
 use Rattle.column_segment.specs.Bodies.{IsKnown}
@@ -21,17 +22,13 @@ use Rattle.code_tallies.specs.Keys.{key_at}
 use Rattle.code_tallies.specs.Columns.{code_at, cell_there, shown_code}
 use Rattle.code_tallies.specs.Shown.{is_shown, rows_at}
 
--- whether masks, of 1,024 places each, choose a position
-abbrev pub chosen_in : List (List Bool) → ℕ → Bool
-chosen_in masks i = slice_index_or (slice_index_or masks (i / 1024) []) (i % 1024) false
-
--- whether a position is chosen: by masks, or where there are none as it is shown
-abbrev pub chosen_by : Option (Vec (List Bool) Global) → Option (List Bool) → ℕ → Bool
+-- whether a position is chosen: by a list, or where there is none as it is shown
+abbrev pub chosen_by : Option (CowSlice Bool Global) → Option (List Bool) → ℕ → Bool
 chosen_by None shown i = is_shown shown i
-chosen_by (Some masks) shown i = chosen_in masks.items i
+chosen_by (Some kept) shown i = slice_index_or (cow_slice_items kept) i false
 
 abbrev pub is_chosen : Chosen → ℕ → Bool
-is_chosen chosen i = chosen_by chosen.masks (option_copied chosen.shown) i
+is_chosen chosen i = chosen_by chosen.kept (option_copied chosen.shown) i
 
 -- each position that is shown is chosen, and no other
 abbrev pub IsEachShown : Chosen → Type 0

@@ -2,74 +2,73 @@
 ghost use Rattle.std.specs.Prelude.{◌≡◌, ℕ, ◌+◌, ◌-◌, ◌*◌, ◌<◌, ◌≤◌, ◌^◌, ◌&&◌, nat_lt, min, length, vec_len, slice_index, slice_index_or, IfOk, IfSome, true, false, []};
 ghost use Rattle.std.specs.Bool.{OnTrue, OnFalse};
 ghost use Rattle.std.specs.Option.{option_copied};
+ghost use Rattle.batch_kernels.specs.Masks.{IsNarrowed};
 ghost use Rattle.code_tallies.specs.Shown.{is_shown};
 ghost use Rattle.code_tallies.specs.Keys.{HasKeys};
-ghost use Rattle.code_tallies.specs.Tables.{chosen_by, chosen_in, is_chosen, present_in, AreCounts, HasCodes, IsBatch, reached};
+ghost use Rattle.code_tallies.specs.Tables.{chosen_by, is_chosen, present_in, AreCounts, HasCodes, IsBatch, reached};
 
 use crate::chosen::{Batch, Chosen};
 use crate::column::Column;
 use crate::keys::read_keys;
 use crate::pieces::rows_by_pieces;
 use crate::verdicts::Verdicts;
-use batch_kernels::{Keys, count_by_key, has_chosen, keep_from, keep_where};
+use batch_kernels::{Keys, count_by_key, has_any, keep_from, keep_where, part, put_batch};
 use cs_base::Memory;
 use delete_bitmap::Positions;
 use std::alloc::Global;
+use std::borrow::CowSlice;
 
-/// The masks of the rows that are shown and that the verdicts keep. None where these are all that are shown.
-pub fn masks_of<V: Verdicts>(
+/// Which rows are shown and kept by the verdicts. None where these are all that are shown.
+pub fn kept_of<'a, V: Verdicts>(
     alloc: Global,
     length: usize,
     shown: Option<&Positions>,
-    verdicts: &V,
-) -> Result<Option<Vec<[bool; 1024]>>, Memory>
-    requires { length < 2 ^ 59 }
-    ensures enough { IfOk result (λ found. IfSome found (λ masks. length ≤ 1024 * vec_len masks)) }
-    ensures chosen { IfOk result (λ found. (i : ℕ) → i < length → chosen_by found (option_copied shown.entry) i ≡ (is_shown (option_copied shown.entry) i && V.kept verdicts.now i)) }
+    verdicts: &'a V,
+) -> Result<Option<CowSlice<'a, bool, Global>>, Memory>
+    ensures { IfOk result (λ found. (i : ℕ) → i < length → chosen_by found (option_copied shown.entry) i ≡ (is_shown (option_copied shown.entry) i && V.kept verdicts.now i)) }
 {
-    if verdicts.keeps_each(length) {
+    let Some(flags) = verdicts.flags(length) else {
         return Ok(None);
+    };
+    match shown {
+        None => Ok(Some(CowSlice::Borrowed(flags))),
+        Some(set) => Ok(Some(CowSlice::Owned(kept_in(alloc, flags, set)?))),
     }
-    Ok(Some(each_mask(alloc, length, shown, verdicts)?))
 }
 
-/// The masks of the rows that are shown and that the verdicts keep.
-fn each_mask<V: Verdicts>(
-    alloc: Global,
-    length: usize,
-    shown: Option<&Positions>,
-    verdicts: &V,
-) -> Result<Vec<[bool; 1024]>, Memory>
-    requires { length < 2 ^ 59 }
-    ensures enough { IfOk result (λ masks. length ≤ 1024 * vec_len masks) }
-    ensures chosen { IfOk result (λ masks. (i : ℕ) → i < length → chosen_in masks.items i ≡ (is_shown (option_copied shown.entry) i && V.kept verdicts.now i)) }
+/// Which of these rows are in a set.
+fn kept_in(alloc: Global, flags: &[bool], set: &Positions) -> Result<Vec<bool>, Memory>
+    ensures { IfOk result (λ rows. IsNarrowed (λ i. slice_index_or set.now i false) flags.now rows.items) }
 {
-    let mut masks = Vec::with_capacity(alloc, length.div_ceil(1024))?;
-    for number in 0..length.div_ceil(1024) {
-        let from = 1024 * number;
-        masks.push(mask_of(from, (length - from).min(1024), shown, verdicts))?;
-    }
-    Ok(masks)
+    let mut rows = Vec::from_slice(alloc, flags)?;
+    drop_hidden(set, rows.as_mut_slice());
+    Ok(rows)
 }
 
-/// The mask of the rows from a position on.
-fn mask_of<V: Verdicts>(
-    from: usize,
-    count: usize,
-    shown: Option<&Positions>,
-    verdicts: &V,
-) -> [bool; 1024]
-    requires { count ≤ 1024 }
-    ensures { (i : ℕ) → i < 1024 → slice_index_or result i false ≡ (nat_lt i count && (is_shown (option_copied shown.entry) (from + i) && V.kept verdicts.now (from + i))) }
+/// Leaves those rows chosen that are in a set, batch by batch.
+fn drop_hidden(set: &Positions, rows: &mut [bool])
+    ensures { IsNarrowed (λ i. slice_index_or set.now i false) rows.old rows.new }
 {
-    let mut mask = [false; 1024];
-    verdicts.keep(from, count, &mut mask);
-    if let Some(set) = shown {
-        let mut there = [false; 1024];
-        set.put_mask(from, count, &mut there);
-        keep_where(&mut mask[..count], &there[..count], true);
+    let mut from = 0;
+    while from < rows.len() {
+        let count = (rows.len() - from).min(1024);
+        drop_hidden_from(set, from, &mut rows[from..from + count]);
+        from += count;
     }
-    mask
+}
+
+/// The same of a batch of rows from a position on. Where none of them is chosen, the set is not asked.
+fn drop_hidden_from(set: &Positions, from: usize, rows: &mut [bool])
+    requires { length rows.old ≤ 1024 }
+    ensures { IsNarrowed (λ i. slice_index_or set.now (from + i) false) rows.old rows.new }
+{
+    if !has_any(rows, true) {
+        return;
+    }
+    let count = rows.len();
+    let mut there = [false; 1024];
+    set.put_mask(from, count, &mut there);
+    keep_where(rows, &there[..count], true);
 }
 
 impl Chosen<'_> {
@@ -94,9 +93,9 @@ impl Chosen<'_> {
         requires { 1024 * number < self.now.length }
         ensures { OnFalse result ((i : ℕ) → i < min 1024 (self.now.length - 1024 * number) → is_chosen self.now (1024 * number + i) ≡ false) }
     {
-        match &self.masks {
+        match &self.kept {
             None => self.shown_from(1024 * number, self.count(number)) > 0,
-            Some(masks) => has_chosen(&masks[number]),
+            Some(kept) => has_any(part(kept.as_slice(), 1024 * number, self.count(number)), true),
         }
     }
 
@@ -106,9 +105,9 @@ impl Chosen<'_> {
         requires count { count ≤ 1024 }
         ensures { (i : ℕ) → i < count → slice_index_or mask.new i false ≡ is_chosen self.now (1024 * number + i) }
     {
-        match &self.masks {
+        match &self.kept {
             None => self.put_shown(1024 * number, count, mask),
-            Some(masks) => *mask = masks[number],
+            Some(kept) => put_batch(kept.as_slice(), 1024 * number, count, mask),
         }
     }
 
@@ -131,7 +130,7 @@ impl Chosen<'_> {
         ensures each { OnTrue result ((i : ℕ) → is_chosen self.now i ≡ true) }
         ensures alone { OnTrue result (self.now.keys.items ≡ []) }
     {
-        self.masks.is_none() && self.shown.is_none() && self.keys.is_empty()
+        self.kept.is_none() && self.shown.is_none() && self.keys.is_empty()
     }
 
     /// How many rows are chosen, for each key number.

@@ -1,10 +1,11 @@
-ghost use Rattle.std.specs.Prelude.{◌≡◌, ◌*◌, ◌<◌, ◌≤◌, ◌^◌, vec_len};
-ghost use Rattle.std.specs.Option.{ForSome};
+ghost use Rattle.std.specs.Prelude.{◌≡◌, ◌<◌, ◌^◌};
 ghost use Rattle.code_tallies.specs.Keys.{key_count};
 
 use crate::column::Column;
 use batch_kernels::Keys;
 use delete_bitmap::Positions;
+use std::alloc::Global;
+use std::borrow::CowSlice;
 
 /// The rows of a group that are chosen, and their key numbers.
 #[derive(Drop)]
@@ -13,14 +14,14 @@ pub struct Chosen<'a> {
     pub length: usize,
     /// The rows that are shown. None where each row is.
     pub shown: Option<&'a Positions>,
-    /// Which rows are chosen: a mask for each 1,024 of them. None where each row that is shown is.
-    pub masks: Option<Vec<[bool; 1024]>>,
+    /// Whether each row is chosen: the verdicts of a filter, or where rows are not shown a list of its own. None where each row that
+    /// is shown is.
+    pub kept: Option<CowSlice<'a, bool, Global>>,
     /// The grouping columns.
     pub keys: Vec<Column<'a>>,
     /// How many key numbers there are.
     pub size: usize,
     ghost few: { length < 2 ^ 59 },
-    ghost enough: { ForSome masks (λ masks. length ≤ 1024 * vec_len masks) },
     ghost sized: { size ≡ key_count keys.items },
     ghost small: { size < 2 ^ 60 },
 }

@@ -41,7 +41,7 @@ impl Chosen<'_> {
     pub fn has_pieces(&self) -> bool
         ensures { OnTrue result (IsEachShown self.now) }
     {
-        self.masks.is_none() && are_in_runs(&self.keys)
+        self.kept.is_none() && are_in_runs(&self.keys)
     }
 
     /// The rows from a position on.

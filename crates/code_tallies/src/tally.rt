@@ -10,7 +10,7 @@ ghost use Rattle.code_tallies.specs.Keys.{AreColumnsOf, HasKeys};
 ghost use Rattle.code_tallies.specs.Tables.{AreTablesOf, is_chosen};
 ghost use Rattle.code_tallies.specs.Scans.{AreKept, IsChoice};
 
-use crate::batch::masks_of;
+use crate::batch::kept_of;
 use crate::chosen::{Batch, Chosen};
 use crate::codes::column_at;
 use crate::column::Column;
@@ -79,7 +79,7 @@ fn choose<'a, V: Verdicts>(
     packed: &'a Packed,
     places: &[usize],
     shown: Option<&'a Positions>,
-    verdicts: &V,
+    verdicts: &'a V,
 ) -> Result<Option<Chosen<'a>>, Memory>
     ensures { IfOk result (λ found. IfSome found (λ chosen. IsChoice packed.now places.now (λ i. is_shown (option_copied shown.entry) i && V.kept verdicts.now i) chosen)) }
 {
@@ -93,11 +93,11 @@ fn choose<'a, V: Verdicts>(
     let Some(size) = key_count(&keys, length as u64 + 1024) else {
         return Ok(None);
     };
-    let masks = masks_of(alloc, length, shown, verdicts)?;
+    let kept = kept_of(alloc, length, shown, verdicts)?;
     Ok(Some(Chosen {
         length,
         shown,
-        masks,
+        kept,
         keys,
         size: size as usize,
     }))

@@ -1,24 +1,18 @@
 // What a filter says of the rows of a group.
-ghost use Rattle.std.specs.Prelude.{◌≡◌, ℕ, ◌+◌, ◌<◌, ◌≤◌, ◌&&◌, nat_lt, Bool, false, true, slice_index_or};
-ghost use Rattle.std.specs.Bool.{OnTrue};
+ghost use Rattle.std.specs.Prelude.{◌≡◌, ℕ, ◌<◌, Bool, false, true, slice_index_or};
+ghost use Rattle.std.specs.Option.{option_copied};
+ghost use Rattle.code_tallies.specs.Shown.{is_shown};
 
 use batch_filter::Sieve;
-use batch_kernels::choose_first;
 
 /// Which rows of a group a filter keeps.
 pub trait Verdicts {
     /// Whether it keeps the row at a position.
     ghost kept: { Self → ℕ → Bool };
 
-    /// Puts whether it keeps the row at `from + i` into place i of a mask, for each i below `count`, and false into the other
-    /// places.
-    fn keep(&self, from: usize, count: usize, mask: &mut [bool; 1024])
-        requires { count ≤ 1024 }
-        ensures { (i : ℕ) → i < 1024 → slice_index_or mask.new i false ≡ (nat_lt i count && kept self.now (from + i)) };
-
-    /// Whether it keeps each row of a group of so many. False where that is not known.
-    fn keeps_each(&self, length: usize) -> bool
-        ensures { OnTrue result ((i : ℕ) → i < length → kept self.now i ≡ true) };
+    /// Whether it keeps each row of a group of so many: a bool for each, and false past the last bool. None where it keeps all.
+    fn flags(&self, length: usize) -> Option<&[bool]>
+        ensures { (i : ℕ) → i < length → is_shown (option_copied result) i ≡ kept self.now i };
 }
 
 /// The verdicts of no filter: every row is kept.
@@ -28,12 +22,8 @@ pub struct EveryRow;
 impl Verdicts for EveryRow {
     ghost kept = { λ _ _. true };
 
-    fn keep(&self, _from: usize, count: usize, mask: &mut [bool; 1024]) {
-        choose_first(count, mask);
-    }
-
-    fn keeps_each(&self, _length: usize) -> bool {
-        true
+    fn flags(&self, _length: usize) -> Option<&[bool]> {
+        None
     }
 }
 
@@ -41,11 +31,11 @@ impl Verdicts for EveryRow {
 impl Verdicts for Sieve {
     ghost kept = { λ sieve i. slice_index_or sieve i false };
 
-    fn keep(&self, from: usize, count: usize, mask: &mut [bool; 1024]) {
-        Sieve::keep(self, from, count, mask);
-    }
-
-    fn keeps_each(&self, length: usize) -> bool {
-        length <= self.len() && self.is_everywhere()
+    fn flags(&self, length: usize) -> Option<&[bool]> {
+        if length <= self.len() && self.is_everywhere() {
+            None
+        } else {
+            Some(self.as_slice())
+        }
     }
 }

@@ -17,5 +17,5 @@ returns g c =
       long = c.len-length.ensures;
       keyed = subst (λ n. HasKeys n keys) (sym c.len-length.ensures) (columns-keys group c.args.places.now keys columns few);
       columns = columns;
-      passed = c.in_ok-masks.ensures.chosen;
+      passed = c.in_ok-kept.ensures;
     }

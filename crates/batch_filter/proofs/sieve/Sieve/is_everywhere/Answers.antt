@@ -1,15 +1,15 @@
-use Rattle.std.proofs.Common.{◌≡◌, ◌∙◌, ℕ, List, Bool, length, sym, ap, arith}
-use Rattle.std.proofs.lemmas.Bool.{eqb-true, eq-eqb}
-use Rattle.batch_kernels.specs.Places.{places}
-use Rattle.batch_filter.proofs.SieveLemmas.{all_chosen, chosen_all}
+use Rattle.std.proofs.Common.{◌≡◌, ◌∙◌, List, Bool, false, sym, ap}
+use Rattle.std.specs.Prelude.{not}
+use Rattle.std.specs.List.{list_any}
+use Rattle.std.proofs.lemmas.Bool.{not-true, not-false}
+use Rattle.batch_kernels.specs.Masks.{same_as}
+use Rattle.batch_filter.proofs.CellLemmas.{none_left_out, none_wanted}
 use Rattle.batch_filter.proofs.sieve.Sieve.is_everywhere.Goals as goal
 
 pub returns : goal.returns
 returns c =
     let verdicts = c.args.self.now in
-    let count : ℕ = c.len-count.result in
-    let slice : c.as_slice.result.now ≡ verdicts = c.as_slice.ensures ∙ c.self.view_is in
-    let found : c.chosen.result ≡ length (places verdicts count) = c.chosen.ensures ∙ ap (λ (l : List Bool). length (places l count)) slice in (
-      (λ same i below. all_chosen verdicts count (sym found ∙ eqb-true c.chosen.result count same) i (omega (arith, below, c.len-count.ensures))),
-      (λ each. eq-eqb c.chosen.result count (found ∙ chosen_all verdicts count (λ i below. each i (omega (arith, below, c.len-count.ensures))))),
+    let found : c.has_any.result ≡ list_any (same_as false) verdicts = c.has_any.ensures ∙ ap (λ (l : List Bool). list_any (same_as false) l) c.as_slice.ensures in (
+      (λ each i below. not-false _ (none_wanted false verdicts (sym found ∙ not-true c.has_any.result each) i below)),
+      (λ each. ap not (found ∙ none_left_out verdicts each)),
     )

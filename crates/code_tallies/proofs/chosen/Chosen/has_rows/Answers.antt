@@ -15,5 +15,5 @@ returns-in-None c =
     (λ empty i below.
     let few : shown ≤ 0 = ltb-false 0 shown empty in
     let none : shown ≡ 0 = omega (arith, few) in
-    ap (λ masks. chosen_by masks (option_copied chosen.shown) (from + i)) c.in-None.is
+    ap (λ kept. chosen_by kept (option_copied chosen.shown) (from + i)) c.in-None.is
     ∙ none-counted (is_shown (option_copied chosen.shown)) from c.count.result (sym c.shown_from.ensures ∙ none) i (omega (arith, below, c.count.ensures)))
