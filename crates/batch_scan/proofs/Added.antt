@@ -9,13 +9,14 @@ use Rattle.std.proofs.lemmas.List.Folds.{list_any-append, list_any_more, list_an
 use Rattle.cs_types.specs.declared.Key.{Key}
 use Rattle.cs_types.specs.Keys.{same_key}
 use Rattle.write_set.specs.declared.write.Write.{Write}
-use Rattle.delete_buffer.specs.Entries.{Entry}
+use Rattle.delete_buffer.specs.Entries.{Entry, merged}
 use Rattle.row_group.specs.Groups.{Group, row_at, key_at_place, AreByKey, ArePlacesOf}
 use Rattle.row_group.specs.Fields.{begin_in, AreStamps}
 use Rattle.group_book.specs.Book.{Ending}
 use Rattle.group_book.proofs.Keys.{key_here, key_is}
 use Rattle.group_view.specs.Views.{endings_of}
 use Rattle.group_view.specs.Spans.{key_at}
+use Rattle.group_view.proofs.Noted.{any_of_parts}
 use Rattle.batch_scan.specs.Hidden.{is_begun_below, is_ended_by, is_of_key, is_one_of, is_written, Adds}
 
 pub or_false : (b : Bool) → (b || false) ≡ b
@@ -246,6 +247,11 @@ module _ (entries : List Entry) (n : ℕ) (d : Entry) (there : n < length entrie
       ∙ ap (λ (b : Bool). is_ended_by (take n entries) s group p || (same_key (key_at group p) last.0 && b)) (and_false (ltb (row_at group p).begin last.1))
       ∙ ap (λ (b : Bool). is_ended_by (take n entries) s group p || b) (and_false (same_key (key_at group p) last.0))
       ∙ or_false (is_ended_by (take n entries) s group p))
+
+-- the rows that the entries of two parts have ended are those that the entries of either have
+pub ended_parts : (entries settled recent : List Entry) (s : ℕ) (group : Group) → entries ≡ merged settled recent → (p : ℕ) → is_ended_by entries s group p ≡ (is_ended_by settled s group p || is_ended_by recent s group p)
+ended_parts entries settled recent s group is p =
+    any_of_parts (λ (e : Ending). same_key (key_at group p) e.key && (ltb (row_at group p).begin e.end && leb e.end s)) entries settled recent is
 
 -- ---- own writes
 

@@ -7,6 +7,7 @@ ghost use Rattle.batch_scan.specs.Hidden.{begins_late, is_begun_below, is_ended_
 
 use cs_base::Memory;
 use cs_types::Key;
+use delete_buffer::Ends;
 use group_view::{Pinned, entries_within, key_bounds};
 use row_group::Packed;
 use std::alloc::Global;
@@ -81,7 +82,7 @@ fn add_key(
     Ok(places.from)
 }
 
-/// Adds the positions of the rows that entries of a delete buffer have ended for the snapshot `s`. Only entries of keys from the
+/// Adds the positions of the rows that some entries of a delete buffer have ended for the snapshot `s`. Only entries of keys from the
 /// least to the greatest of the group are looked up.
 fn add_buffered(
     hidden: &mut Vec<usize>,
@@ -100,6 +101,16 @@ fn add_buffered(
             near = add_key(hidden, packed, near, key, Some(end))?;
         }
     }
+    Ok(())
+}
+
+/// Adds the positions of the rows that entries of a delete buffer have ended for the snapshot `s`.
+fn add_ended(hidden: &mut Vec<usize>, packed: &Packed, buffer: &Ends, s: u64) -> Result<(), Memory>
+    ensures { OnOk result (Adds packed.now (is_ended_by buffer.now s packed.now) hidden.old.items hidden.new.items) }
+{
+    let parts = buffer.parts();
+    add_buffered(hidden, packed, parts.settled, s)?;
+    add_buffered(hidden, packed, parts.recent, s)?;
     Ok(())
 }
 
@@ -159,9 +170,8 @@ pub fn hidden_positions(
         return Ok(hidden);
     };
     let s = pinned.snapshot;
-    let entries = pinned.view.buffer().as_slice();
     add_late(&mut hidden, packed, s)?;
-    add_buffered(&mut hidden, packed, entries, s)?;
+    add_ended(&mut hidden, packed, pinned.view.buffer(), s)?;
     add_own(&mut hidden, packed, least, greatest, &pinned.own)?;
     Ok(hidden)
 }

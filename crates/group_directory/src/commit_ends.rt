@@ -67,7 +67,7 @@ pub(crate) fn end_replaced(list: &mut GroupList, replaced: &[Key], mut others: V
     ensures room { (group_rows rows loads : ℕ) (pool : List Store) → HasRoom group_rows rows loads list.old pool → HasRoom group_rows rows loads list.new pool }
 {
     // Its contract says that the entries are in order.
-    let _entries = list.buffer.as_slice();
+    let _parts = list.buffer.parts();
     match list.opened {
         Some(at) => {
             let group = list.groups.at_mut(at);

@@ -111,7 +111,7 @@ pub(crate) fn install_group(
         unreachable!()
     };
     // Its contract says that the entries are in order.
-    let _entries = claim.view.buffer().as_slice();
+    let _parts = claim.view.buffer().parts();
     let mut groups = list.groups.take();
     bury_sources(&mut groups, &claim.view);
     put_group(&mut groups, claim.fresh, group);
@@ -176,7 +176,7 @@ pub(crate) fn install_marks(list: &mut GroupList, actor: Actor, marks: Items<(u6
         unreachable!()
     };
     // Its contract says that the entries are in order.
-    let _entries = claim.view.buffer().as_slice();
+    let _parts = claim.view.buffer().parts();
     let mut groups = list.groups.take();
     mark_sources(&mut groups, marks.into_vec());
     list.groups = Groups::from_vec(groups);

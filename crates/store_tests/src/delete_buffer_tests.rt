@@ -1,17 +1,29 @@
+ghost use Rattle.std.specs.Prelude.{◌≤ℤ◌, ◌<ℤ◌, pos};
+ghost use Rattle.delete_buffer.specs.Entries.{AreParts};
+
 use crate::made::buffer_of;
 use cs_base::Memory;
 use cs_types::Key;
-use delete_buffer::Buffer;
+use delete_buffer::{Buffer, Ends, Parts, merged};
 use std::alloc::Global;
 use std::process::Abort;
 use std::test::Fail;
 
-/// That these entries are those of a slice.
-fn expect_entries(rt: &impl Abort, found: &[(Key, u64)], entries: &[(i64, u64)]) {
+/// That the entries of two parts are those of a slice.
+fn expect_entries(
+    rt: &impl Abort,
+    alloc: Global,
+    parts: Parts<'_>,
+    entries: &[(i64, u64)],
+) -> Result<(), Memory>
+    requires { AreParts parts.settled.now parts.recent.now }
+{
+    let found = merged(alloc, parts)?;
     assert!(rt; found.len() == entries.len());
     for ((key, end), (number, commit)) in found.iter().zip(entries.iter()) {
         assert!(rt; (key.0, *end) == (*number, *commit));
     }
+    Ok(())
 }
 
 /// A key, a begin, and the least end above it, of the entries `(7, 4), (-3, 9), (7, 2), (7, 6)`.
@@ -58,8 +70,14 @@ fn entries_come_and_go(rt: HostRuntime) -> Result<(), Fail> {
     assert!(rt; !buffer.remove(Key(7), 3) && buffer.remove(Key(7), 4));
     assert!(rt; buffer.ends(Key(7), 2) == Some(6) && copied.ends(Key(7), 2) == Some(4));
     let later = buffer.copy()?;
-    expect_entries(&rt, copied.as_slice(), &[(-3, 9), (7, 2), (7, 4), (7, 6)]);
-    expect_entries(&rt, later.as_slice(), &[(-3, 9), (7, 2), (7, 6)]);
+    let alloc = rt.alloc();
+    expect_entries(
+        &rt,
+        alloc,
+        copied.parts(),
+        &[(-3, 9), (7, 2), (7, 4), (7, 6)],
+    )?;
+    expect_entries(&rt, alloc, later.parts(), &[(-3, 9), (7, 2), (7, 6)])?;
     Ok(())
 }
 
@@ -94,17 +112,24 @@ const MERGED: [Merged; 5] = [
     ),
 ];
 
+/// Takes away the entries that were copied.
+fn remove_copied(buffer: &mut Buffer, copied: &Ends) {
+    let parts = copied.parts();
+    buffer.remove_all(parts.settled);
+    buffer.remove_all(parts.recent);
+}
+
 /// That the entries of two keys are merged with those that were there, which then can be removed.
 fn check_merged(rt: &impl Abort, alloc: Global, merged: Merged) -> Result<(), Memory> {
     let (before, first, second, after) = merged;
     let mut buffer = buffer_of(alloc, before)?;
     let old = buffer.copy()?;
     assert!(rt; add_two(&mut buffer, Key(first), Key(second), 4)?);
-    expect_entries(rt, buffer.as_slice(), after);
-    buffer.remove_all(old.as_slice());
-    expect_entries(rt, buffer.as_slice(), &[(first, 4), (second, 4)]);
+    expect_entries(rt, alloc, buffer.parts(), after)?;
+    remove_copied(&mut buffer, &old);
+    expect_entries(rt, alloc, buffer.parts(), &[(first, 4), (second, 4)])?;
     let added = buffer.copy()?;
-    buffer.remove_all(added.as_slice());
+    remove_copied(&mut buffer, &added);
     assert!(rt; buffer.is_empty());
     Ok(())
 }
@@ -114,5 +139,45 @@ fn batches_are_merged(rt: HostRuntime) -> Result<(), Fail> {
     for &merged in &MERGED {
         check_merged(&rt, rt.alloc(), merged)?;
     }
+    Ok(())
+}
+
+/// Adds an entry of a scattered key at commit 5 to a buffer and to a plain list: of 200 in a row, no two are of one key.
+fn add_scattered(
+    buffer: &mut Buffer,
+    plain: &mut Vec<(i64, u64)>,
+    number: i64,
+) -> Result<(), Memory>
+    requires { (pos 0 ≤ℤ number) × (number <ℤ pos 200) }
+{
+    let key = number * 77 % 200;
+    buffer.reserve(1)?;
+    if !buffer.remove(Key(key), 5) {
+        buffer.add(Key(key), 5);
+    }
+    plain.push((key, 5))?;
+    Ok(())
+}
+
+#[test]
+fn recent_entries_settle(rt: HostRuntime) -> Result<(), Fail> {
+    let alloc = rt.alloc();
+    let mut buffer = Buffer::new(alloc);
+    let mut plain = Vec::new(alloc);
+    for number in 0..100 {
+        add_scattered(&mut buffer, &mut plain, number)?;
+    }
+    let halfway = buffer.copy()?;
+    let mut before = plain.clone()?;
+    before.sort()?;
+    for number in 100..200 {
+        add_scattered(&mut buffer, &mut plain, number)?;
+    }
+    plain.sort()?;
+    assert!(rt; buffer.parts().recent.len() < 64 && buffer.len() == 200);
+    expect_entries(&rt, alloc, buffer.parts(), &plain)?;
+    expect_entries(&rt, alloc, halfway.parts(), &before)?;
+    remove_copied(&mut buffer, &halfway);
+    assert!(rt; buffer.len() == 100 && buffer.ends(Key(77), 0).is_none());
     Ok(())
 }

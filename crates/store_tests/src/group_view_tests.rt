@@ -151,7 +151,9 @@ fn expect_parts(rt: &impl Abort, view: GroupView) {
         floor,
         clock,
     } = view;
-    assert!(rt; groups.len() == 2 && buffer.as_slice().len() == 3 && floor == 3 && clock == 12);
+    let parts = buffer.parts();
+    assert!(rt; groups.len() == 2 && parts.settled.len() + parts.recent.len() == 3);
+    assert!(rt; floor == 3 && clock == 12);
 }
 
 #[test]

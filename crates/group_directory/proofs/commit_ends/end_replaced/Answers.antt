@@ -29,7 +29,7 @@ pub returns-in-Some-clause-book : goal.returns-in-Some-clause-book
 returns-in-Some-clause-book c =
     book_ended c.args.list.now c.in-Some.at c.at_mut-group.result.now c.end_in_open.new.content c.args.list.now.opened c.add_all.new.self c.requires.held c.in-Some.is c.at_mut-group.ensures.value
     c.args.replaced.now c.deref.result.now c.args.c c.end_in_open.ensures.content
-    c.as_slice-entries.ensures.order c.add_all.ensures.order (subst (λ (ks : List Key). Ascend ks) (sym (c.deref.ensures.value ∙ c.end_in_open.ensures.others))
+    c.parts-parts.ensures.order c.add_all.ensures.order (subst (λ (ks : List Key). Ascend ks) (sym (c.deref.ensures.value ∙ c.end_in_open.ensures.others))
     (AllPairs-filter (λ a b. key_cmp a b ≡ Less) (λ key. not (has_live key (versions_of (rowed_in_content c.at_mut-group.result.now.content)))) c.args.replaced.now c.requires.ascending)) c.requires.later c.add_all.ensures.entries (c.deref.ensures.value ∙ c.end_in_open.ensures.others)
 
 pub returns-in-Some-clause-held : goal.returns-in-Some-clause-held
@@ -50,7 +50,7 @@ returns-in-Some-clause-room c = λ group_rows rows loads pool room.
 pub returns-clause-book : goal.returns-clause-book
 returns-clause-book c =
     book_ended_none c.args.list.now c.add_all-in-None.new.self c.args.replaced.now c.args.c (subst (λ (at : Option ℕ). IsOpenAt c.args.list.now.groups.items at) c.in-None.is c.requires.held.opened)
-    c.as_slice-entries.ensures.order c.add_all-in-None.ensures.order c.requires.ascending c.requires.later c.add_all-in-None.ensures.entries
+    c.parts-parts.ensures.order c.add_all-in-None.ensures.order c.requires.ascending c.requires.later c.add_all-in-None.ensures.entries
 
 pub returns-in-Some-clause-packed : goal.returns-in-Some-clause-packed
 returns-in-Some-clause-packed c =

@@ -29,7 +29,7 @@ pub remove_all-requires : goal.remove_all-requires
 remove_all-requires c =
     let claim = c.in-Some.claim in
     ordered_some (λ (entry : Ending). nat_le entry.end claim.floor) (λ (entry : Ending). list_any (ends (buffer_of claim.view) entry) (versions_of (rowed_of claim.view))) c.args.spent.now claim.view.buffer.value
-    (subst AreInOrder c.buffer.ensures c.as_slice-entries.ensures.order)
+    (subst AreInOrder c.buffer.ensures c.parts-parts.ensures.order)
     (of_held (λ (held : Actor × Claim). endings_of c.args.spent.now ≡ spent_of (claim_of held)) (held_by c.args.actor c.args.list.now.claims.items) (c.in-Some.field-0-0, claim) (sym c.take_claim.ensures.claim ∙ c.in-Some.is) c.requires.spent)
 
 pub returns-clause-book : goal.returns-clause-book

@@ -19,7 +19,7 @@ remove_all-requires c =
     let claim = c.in-Some.claim in
     let may = of_held (λ (held : Actor × Claim). MayMark c.args.list.now held c.args.marks) (held_by c.args.actor c.args.list.now.claims.items) (c.in-Some.field-0-0, claim) (sym c.take_claim.ensures.claim ∙ c.in-Some.is) c.requires.marks in
     subst AreInOrder (sym c.as_slice.ensures)
-    (ordered_lent (λ (entry : Ending). list_any (ends (buffer_of claim.view) entry) (versions_of (rowed_of claim.view))) claim.entries claim.view.buffer.value (subst AreInOrder c.buffer.ensures c.as_slice-entries.ensures.order) may.entries)
+    (ordered_lent (λ (entry : Ending). list_any (ends (buffer_of claim.view) entry) (versions_of (rowed_of claim.view))) claim.entries claim.view.buffer.value (subst AreInOrder c.buffer.ensures c.parts-parts.ensures.order) may.entries)
 
 pub returns-clause-book : goal.returns-clause-book
 returns-clause-book c =

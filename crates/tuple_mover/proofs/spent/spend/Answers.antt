@@ -1,5 +1,5 @@
 use Rattle.std.proofs.Common.{◌≡◌, ◌∙◌, ℕ, Bool, true, List, set, Option, None, Some, sym, ap, subst}
-use Rattle.delete_buffer.specs.Entries.{Entry, IsLeastEnd}
+use Rattle.delete_buffer.specs.Entries.{AreInOrder, Entry, IsLeastEnd}
 use Rattle.delete_buffer.proofs.Order.{absent, same_entry}
 use Rattle.group_book.specs.Book.{Version}
 use Rattle.group_book.specs.Turns.{least_entry, buffered_end}
@@ -38,9 +38,9 @@ unreachable-requires c =
     let entries = c.args.buffer.now in
     let end = c.in-Some.end in
     let least = subst (λ (end : Option ℕ). IsLeastEnd entries lived.key lived.begin end) c.in-Some.is c.ends.ensures in
-    let order = c.as_slice.ensures.order in
-    let within = rw c.as_slice.ensures.value at c.in-Err.ensures.bound in
-    let parted = rw c.as_slice.ensures.value at c.in-Err.ensures.position in
+    let order = subst AreInOrder c.requires.entries c.requires.order in
+    let within = rw c.requires.entries at c.in-Err.ensures.bound in
+    let parted = rw c.requires.entries at c.in-Err.ensures.position in
     absent entries (lived.key, end) c.in-Err.field-0 order within parted least.0
 
 pub returns : goal.returns
@@ -52,7 +52,7 @@ returns c = λ (versions : List Version) (was : c.args.spent.now.items ≡ spent
     let entry : Entry = (lived.key, end) in
     let least = subst (λ (end : Option ℕ). IsLeastEnd entries lived.key lived.begin end) c.in-Some.is c.ends.ensures in
     let is : buffered_end buffer (lived_version lived) ≡ Some end = unrecorded lived.end (least_entry buffer lived.key lived.begin) (sym c.if-is_some.ensures) ∙ least-is entries lived.key lived.begin (Some end) least in
-    let there = rw c.as_slice.ensures.value at c.in-Ok.ensures.bound in
-    let found = rw c.as_slice.ensures.value at c.in-Ok.ensures.position in
+    let there = rw c.requires.entries at c.in-Ok.ensures.bound in
+    let found = rw c.requires.entries at c.in-Ok.ensures.position in
     ap (λ (bits : List Bool). set bits c.in-Ok.place true) was
-    ∙ spent-set c.args.floor entries c.as_slice.ensures.order versions (lived_version lived) end is c.if-end-floor.false c.in-Ok.place there (same_entry _ entry (found entry))
+    ∙ spent-set c.args.floor entries (subst AreInOrder c.requires.entries c.requires.order) versions (lived_version lived) end is c.if-end-floor.false c.in-Ok.place there (same_entry _ entry (found entry))

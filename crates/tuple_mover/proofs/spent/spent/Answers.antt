@@ -19,8 +19,10 @@ use Rattle.tuple_mover.proofs.spent.spent.Goals as goal
 pub loop-place-init : goal.loop-place-init
 loop-place-init c =
     let claim = c.args.claim.now in
+    let counted : c.len.result ≡ length c.in_ok-entries.entries.items = grind arith in
     c.in_ok-spent.ensures.items_if_clones_equal (λ y same. same)
-    ∙ ap (λ (entries : List Entry). replicate (length entries) false) (c.as_slice-entries.ensures.value ∙ c.deref.ensures)
+    ∙ ap (λ (n : ℕ). replicate n false) counted
+    ∙ ap (λ (entries : List Entry). replicate (length entries) false) (c.in_ok-entries.ensures ∙ sym c.parts.ensures.entries ∙ c.deref.ensures)
     ∙ none-spent claim.floor (buffer_of claim.view) claim.view.buffer.value
 
 pub loop-place-preserved : goal.loop-place-preserved
@@ -42,17 +44,17 @@ returns c =
     let buffer = buffer_of claim.view in
     let versions = versions_of (rowed_of claim.view) in
     let all : length groups ≤ c.loop-place.place = omega (arith, c.loop-place-test.false, c.len-place-end.ensures) in
-    let entries : c.as_slice-entries.result.now ≡ claim.view.buffer.value = c.as_slice-entries.ensures.value ∙ c.deref.ensures in
-    let marks : c.deref-2.result.now ≡ map (is_spent claim.floor buffer versions) (endings_of c.as_slice-entries.result.now) =
-    c.deref-2.ensures.value ∙ c.loop-place.invariant
+    let entries : c.deref-2.result.now ≡ claim.view.buffer.value = c.deref-2.ensures.value ∙ c.in_ok-entries.ensures ∙ sym c.parts.ensures.entries ∙ c.deref.ensures in
+    let marks : c.deref-3.result.now ≡ map (is_spent claim.floor buffer versions) (endings_of c.deref-2.result.now) =
+    c.deref-3.ensures.value ∙ c.loop-place.invariant
     ∙ ap (λ (some : List (ℕ × GroupPart)). spent_by claim.floor buffer (flat_map (λ (group : ℕ × GroupPart). versions_in group.1) some)) (take_all c.loop-place.place groups all)
     ∙ ap (spent_by claim.floor buffer) (versions-all groups)
     ∙ ap (λ (some : List Entry). map (is_spent claim.floor buffer versions) (endings_of some)) (sym entries) in
-    IfOk-weaker c.marked.result (λ (some : Vec Entry Global). some.items ≡ filter (λ (entry : Entry). is_spent claim.floor buffer versions (ending_of entry)) c.as_slice-entries.result.now)
+    IfOk-weaker c.marked.result (λ (some : Vec Entry Global). some.items ≡ filter (λ (entry : Entry). is_spent claim.floor buffer versions (ending_of entry)) c.deref-2.result.now)
     (λ (some : Vec Entry Global). endings_of some.items ≡ filter (λ (entry : Ending). leb entry.end claim.floor) (lent_entries claim))
     (λ some is.
     ap endings_of is
-    ∙ sym (filter-map (is_spent claim.floor buffer versions) ending_of c.as_slice-entries.result.now)
+    ∙ sym (filter-map (is_spent claim.floor buffer versions) ending_of c.deref-2.result.now)
     ∙ ap (λ (some : List Entry). filter (is_spent claim.floor buffer versions) (endings_of some)) entries
     ∙ spent-filter claim.floor buffer versions buffer)
     (c.marked.ensures (is_spent claim.floor buffer versions) marks)
