@@ -31,7 +31,7 @@ pub fn check<R: Reader>(
     for (text, expected) in cases {
         assert!(rt; text.len() <= 131_072);
         let printed = R::read(alloc, text)?;
-        assert_eq!(rt; printed.as_str(), *expected, "at {text:?}");
+        assert!(rt; printed.as_str() == *expected, "{printed} at {text:?}");
     }
     Ok(())
 }
@@ -40,10 +40,9 @@ pub fn check<R: Reader>(
 pub fn check_refused<R: Reader>(rt: &impl Abort, alloc: Global, text: &[u8], number: u32, at: u32) {
     assert!(rt; text.len() <= 131_072);
     let refusal = R::read(alloc, text).err();
-    assert_eq!(rt;
-        refusal,
-        Some(ReadRefusal::At { number, at }),
-        "at {text:?}"
+    assert!(rt;
+        refusal == Some(ReadRefusal::At { number, at }),
+        "{refusal:?} at {text:?}"
     );
 }
 

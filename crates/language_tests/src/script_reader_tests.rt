@@ -28,7 +28,7 @@ fn check(
     expected: &str,
 ) -> Result<(), AllocError> {
     let outcome = outcome_of(alloc, mode, script)?;
-    assert_eq!(rt; outcome.as_str(), expected, "at {script:?}");
+    assert!(rt; outcome.as_str() == expected, "{outcome} at {script:?}");
     Ok(())
 }
 
@@ -64,7 +64,7 @@ fn long(alloc: Global, front: &[u8], byte: u8, size: usize) -> Result<Vec<u8>, A
     Ok(line)
 }
 
-const FORMS: [(&[u8], &str); 16] = [
+static FORMS: [(&[u8], &str); 16] = [
     (b"", "[] []"),
     (b"s1 A", "[Whole { session: 1, text: [65] }] [1]"),
     (b"s1\tA\n", "[Whole { session: 1, text: [65] }] [1]"),
@@ -112,7 +112,7 @@ fn forms(rt: HostRuntime) -> Result<(), AllocError> {
     check_lines(&rt, rt.alloc(), Mode::Replay, &FORMS)
 }
 
-const MOVER_FORMS: [(&[u8], &str); 13] = [
+static MOVER_FORMS: [(&[u8], &str); 13] = [
     (b"m1", "[Turn { mover: 1 }] []"),
     (b"m8\n", "[Turn { mover: 8 }] []"),
     (b" \tm1\t \r\n", "[Turn { mover: 1 }] []"),
@@ -160,7 +160,7 @@ fn mover_forms(rt: HostRuntime) -> Result<(), AllocError> {
     check_lines(&rt, rt.alloc(), Mode::Replay, &MOVER_FORMS)
 }
 
-const BAD_STEPS: [(&[u8], &str); 37] = [
+static BAD_STEPS: [(&[u8], &str); 37] = [
     (b"abc", "Bad { line: 2, reason: 1, number: 0 }"),
     (b"-", "Bad { line: 2, reason: 1, number: 0 }"),
     (b"- -", "Bad { line: 2, reason: 1, number: 0 }"),
@@ -205,7 +205,7 @@ fn bad_steps(rt: HostRuntime) -> Result<(), AllocError> {
     check_lines(&rt, rt.alloc(), Mode::Replay, &BAD_STEPS)
 }
 
-const BAD_MOVER_STEPS: [(&[u8], &str); 47] = [
+static BAD_MOVER_STEPS: [(&[u8], &str); 47] = [
     (b"m", "Bad { line: 2, reason: 1, number: 0 }"),
     (b"M1", "Bad { line: 2, reason: 1, number: 0 }"),
     (b"m 1", "Bad { line: 2, reason: 1, number: 0 }"),
@@ -263,7 +263,7 @@ fn bad_mover_steps(rt: HostRuntime) -> Result<(), AllocError> {
     check_lines(&rt, rt.alloc(), Mode::Replay, &BAD_MOVER_STEPS)
 }
 
-const SETUPS: [(&[u8], &str); 20] = [
+static SETUPS: [(&[u8], &str); 20] = [
     (b"", "Bad { line: 1, reason: 2, number: 0 }"),
     (b"\n", "Bad { line: 2, reason: 2, number: 0 }"),
     (b"\r", "Bad { line: 1, reason: 2, number: 0 }"),
@@ -295,15 +295,25 @@ const SETUPS: [(&[u8], &str); 20] = [
     ),
 ];
 
-#[test]
-fn setups(rt: HostRuntime) -> Result<(), AllocError> {
-    for &(script, expected) in &SETUPS {
-        check(&rt, rt.alloc(), Mode::Replay, script, expected)?;
+/// Each of the scripts has the outcome beside it, in this mode.
+fn check_scripts(
+    rt: &impl Abort,
+    alloc: Global,
+    mode: Mode,
+    cases: &[(&[u8], &str)],
+) -> Result<(), AllocError> {
+    for (script, expected) in cases {
+        check(rt, alloc, mode, script, expected)?;
     }
     Ok(())
 }
 
-const WHOLE_STATEMENTS: [(&[u8], &str); 29] = [
+#[test]
+fn setups(rt: HostRuntime) -> Result<(), AllocError> {
+    check_scripts(&rt, rt.alloc(), Mode::Replay, &SETUPS)
+}
+
+static WHOLE_STATEMENTS: [(&[u8], &str); 29] = [
     (b"", "[] []"),
     (b"-- m1\n\ns1 A", "[Whole { session: 1, text: [65] }] [1]"),
     (
@@ -351,7 +361,7 @@ fn whole_statements_of_a_run(rt: HostRuntime) -> Result<(), AllocError> {
     check_lines(&rt, rt.alloc(), Mode::Run, &WHOLE_STATEMENTS)
 }
 
-const SETUPS_OF_A_RUN: [(&[u8], &str); 10] = [
+static SETUPS_OF_A_RUN: [(&[u8], &str); 10] = [
     (b"", "Bad { line: 1, reason: 2, number: 0 }"),
     (b"--\n", "Bad { line: 2, reason: 2, number: 0 }"),
     (b"m1", "Bad { line: 1, reason: 2, number: 0 }"),
@@ -366,10 +376,7 @@ const SETUPS_OF_A_RUN: [(&[u8], &str); 10] = [
 
 #[test]
 fn setups_of_a_run(rt: HostRuntime) -> Result<(), AllocError> {
-    for &(script, expected) in &SETUPS_OF_A_RUN {
-        check(&rt, rt.alloc(), Mode::Run, script, expected)?;
-    }
-    Ok(())
+    check_scripts(&rt, rt.alloc(), Mode::Run, &SETUPS_OF_A_RUN)
 }
 
 /// The line has the outcome that is printed so, after a setup line and before a byte 13, in this mode.
@@ -389,7 +396,7 @@ const TOO_LONG: &str = "Bad { line: 2, reason: 5, number: 0 }";
 
 const STATEMENT: &str = "[Whole { session: 1, text: [65] }] [1]";
 
-const LONG_LINES: [(Mode, &[u8], u8, usize, &str); 10] = [
+static LONG_LINES: [(Mode, &[u8], u8, usize, &str); 10] = [
     (Mode::Replay, b"--", b'-', 65_536, "[] []"),
     (Mode::Replay, b"--", b'-', 65_537, TOO_LONG),
     (Mode::Replay, b"s1 A", b' ', 65_536, STATEMENT),

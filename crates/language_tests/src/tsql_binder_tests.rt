@@ -57,8 +57,8 @@ fn outcome(bound: &Bound) -> Meant {
     }
 }
 
-/// Each text means what stands beside it.
-fn check(
+/// Each text means what stands beside it at a table.
+fn check_texts(
     rt: &impl Abort,
     alloc: Global,
     schema: &Schema,
@@ -66,13 +66,24 @@ fn check(
 ) -> Result<(), Memory> {
     for (text, want) in cases {
         assert!(rt; text.len() <= 131_072);
-        let bound = bind_text(alloc, schema, text)?;
-        assert_eq!(rt; outcome(&bound), *want);
+        let meant = outcome(&bind_text(alloc, schema, text)?);
+        assert!(rt; meant == *want, "{meant:?} at {text:?}");
     }
     Ok(())
 }
 
-const REPORTS: [(&[u8], Meant); 10] = [
+/// Each text means what stands beside it at a table of this name.
+fn check(
+    rt: &impl Abort,
+    alloc: Global,
+    name: &[u8],
+    cases: &[(&[u8], Meant)],
+) -> Result<(), Memory> {
+    let schema = table(alloc, name)?;
+    check_texts(rt, alloc, &schema, cases)
+}
+
+static REPORTS: [(&[u8], Meant); 10] = [
     (
         b"SELECT * FROM sys.dm_db_column_store_row_group_physical_stats",
         Groups,
@@ -111,11 +122,10 @@ const REPORTS: [(&[u8], Meant); 10] = [
 
 #[test]
 fn a_report_is_bound_by_select_of_all(rt: HostRuntime) -> Result<(), Memory> {
-    let schema = table(rt.alloc(), b"t")?;
-    check(&rt, rt.alloc(), &schema, &REPORTS)
+    check(&rt, rt.alloc(), b"t", &REPORTS)
 }
 
-const BEHIND_SYS: [(&[u8], Meant); 8] = [
+static BEHIND_SYS: [(&[u8], Meant); 8] = [
     (b"SELECT * FROM column_store_segments", Refused(208, 15)),
     (b"SELECT * FROM dbo.column_store_segments", Refused(208, 15)),
     (b"SELECT * FROM sys.column_store_segment", Refused(208, 15)),
@@ -137,11 +147,10 @@ const BEHIND_SYS: [(&[u8], Meant); 8] = [
 
 #[test]
 fn a_report_stands_behind_sys_in_a_select_alone(rt: HostRuntime) -> Result<(), Memory> {
-    let schema = table(rt.alloc(), b"t")?;
-    check(&rt, rt.alloc(), &schema, &BEHIND_SYS)
+    check(&rt, rt.alloc(), b"t", &BEHIND_SYS)
 }
 
-const NAMED_AS_A_REPORT: [(&[u8], Meant); 6] = [
+static NAMED_AS_A_REPORT: [(&[u8], Meant); 6] = [
     (b"SELECT * FROM sys.column_store_segments", Segments),
     (
         b"SELECT k FROM sys.column_store_segments",
@@ -158,11 +167,15 @@ const NAMED_AS_A_REPORT: [(&[u8], Meant); 6] = [
 
 #[test]
 fn a_table_may_have_the_name_of_a_report(rt: HostRuntime) -> Result<(), Memory> {
-    let schema = table(rt.alloc(), b"column_store_segments")?;
-    check(&rt, rt.alloc(), &schema, &NAMED_AS_A_REPORT)
+    check(
+        &rt,
+        rt.alloc(),
+        b"column_store_segments",
+        &NAMED_AS_A_REPORT,
+    )
 }
 
-const SETTINGS: [(&[u8], Meant); 4] = [
+static SETTINGS: [(&[u8], Meant); 4] = [
     (b"SET STATISTICS IO ON", Setting(true)),
     (b"set statistics io off", Setting(false)),
     (b"SET STATISTICS TIME ON", Refused(102, 16)),
@@ -171,11 +184,10 @@ const SETTINGS: [(&[u8], Meant); 4] = [
 
 #[test]
 fn statistics_io_is_a_setting(rt: HostRuntime) -> Result<(), Memory> {
-    let schema = table(rt.alloc(), b"t")?;
-    check(&rt, rt.alloc(), &schema, &SETTINGS)
+    check(&rt, rt.alloc(), b"t", &SETTINGS)
 }
 
-const REORGANIZES: [(&[u8], Meant); 9] = [
+static REORGANIZES: [(&[u8], Meant); 9] = [
     (b"ALTER INDEX ALL ON t REORGANIZE", Reorganize(false)),
     (
         b"ALTER INDEX ALL ON t REORGANIZE WITH (COMPRESS_ALL_ROW_GROUPS = ON)",
@@ -204,6 +216,5 @@ const REORGANIZES: [(&[u8], Meant); 9] = [
 
 #[test]
 fn a_reorganize_closes_the_open_store_where_it_says_on(rt: HostRuntime) -> Result<(), Memory> {
-    let schema = table(rt.alloc(), b"t")?;
-    check(&rt, rt.alloc(), &schema, &REORGANIZES)
+    check(&rt, rt.alloc(), b"t", &REORGANIZES)
 }

@@ -21,7 +21,7 @@ fn check_read(rt: &impl Abort, alloc: Global, text: &[u8]) {
     assert!(rt; read_statement(alloc, text).is_ok());
 }
 
-const TRANSACTIONS_AND_SETTINGS: [(&[u8], &str); 15] = [
+static TRANSACTIONS_AND_SETTINGS: [(&[u8], &str); 15] = [
     (b"BEGIN TRAN", "Begin"),
     (b"begin Transaction", "Begin"),
     (b"COMMIT", "Commit"),
@@ -50,7 +50,7 @@ fn transactions_and_settings(rt: HostRuntime) -> Result<(), ReadRefusal> {
     check::<Statements>(&rt, rt.alloc(), &TRANSACTIONS_AND_SETTINGS)
 }
 
-const INDEXES: [(&[u8], &str); 4] = [
+static INDEXES: [(&[u8], &str); 4] = [
     (
         b"ALTER INDEX ALL ON t REORGANIZE",
         "AlterIndex { index: None, table: TableTree { first: NameTree { place: 20, bytes: [116] }, second: None }, compress: None }",
@@ -74,7 +74,7 @@ fn indexes(rt: HostRuntime) -> Result<(), ReadRefusal> {
     check::<Statements>(&rt, rt.alloc(), &INDEXES)
 }
 
-const INSERTS: [(&[u8], &str); 5] = [
+static INSERTS: [(&[u8], &str); 5] = [
     (
         b"INSERT t VALUES (1)",
         "Insert { table: TableTree { first: NameTree { place: 8, bytes: [116] }, second: None }, names: None, source: Values([RowTree { place: 17, exprs: [ExprTree { first: TermTree { first: FactorTree { sign: None, primary: Number(NumberTree { place: 18, minus: false, digits: 1, s: 0, point: false }) }, rest: [] }, rest: [] }] }]) }",
@@ -102,7 +102,7 @@ fn inserts(rt: HostRuntime) -> Result<(), ReadRefusal> {
     check::<Statements>(&rt, rt.alloc(), &INSERTS)
 }
 
-const EXPRESSIONS: [(&[u8], &str); 8] = [
+static EXPRESSIONS: [(&[u8], &str); 8] = [
     (
         b"INSERT t VALUES (1+2-3)",
         "Insert { table: TableTree { first: NameTree { place: 8, bytes: [116] }, second: None }, names: None, source: Values([RowTree { place: 17, exprs: [ExprTree { first: TermTree { first: FactorTree { sign: None, primary: Number(NumberTree { place: 18, minus: false, digits: 1, s: 0, point: false }) }, rest: [] }, rest: [(SignTree { place: 19, minus: false }, TermTree { first: FactorTree { sign: None, primary: Number(NumberTree { place: 20, minus: false, digits: 2, s: 0, point: false }) }, rest: [] }), (SignTree { place: 21, minus: true }, TermTree { first: FactorTree { sign: None, primary: Number(NumberTree { place: 22, minus: false, digits: 3, s: 0, point: false }) }, rest: [] })] }] }]) }",
@@ -142,7 +142,7 @@ fn expressions(rt: HostRuntime) -> Result<(), ReadRefusal> {
     check::<Statements>(&rt, rt.alloc(), &EXPRESSIONS)
 }
 
-const DELETES: [(&[u8], &str); 4] = [
+static DELETES: [(&[u8], &str); 4] = [
     (
         b"DELETE t",
         "Delete { table: TableTree { first: NameTree { place: 8, bytes: [116] }, second: None }, filter: None }",
@@ -166,7 +166,7 @@ fn deletes(rt: HostRuntime) -> Result<(), ReadRefusal> {
     check::<Statements>(&rt, rt.alloc(), &DELETES)
 }
 
-const PREDICATES: [(&[u8], &str); 17] = [
+static PREDICATES: [(&[u8], &str); 17] = [
     (
         b"DELETE t WHERE a=1 OR b=2 AND c=3",
         "Delete { table: TableTree { first: NameTree { place: 8, bytes: [116] }, second: None }, filter: Some(PredTree { first: ConjTree { first: NegTree { negated: false, part: Atom(Compare { left: Name(NameTree { place: 16, bytes: [97] }), cmp: Equal, right: Const(Number(NumberTree { place: 18, minus: false, digits: 1, s: 0, point: false })) }) }, rest: [] }, rest: [ConjTree { first: NegTree { negated: false, part: Atom(Compare { left: Name(NameTree { place: 23, bytes: [98] }), cmp: Equal, right: Const(Number(NumberTree { place: 25, minus: false, digits: 2, s: 0, point: false })) }) }, rest: [NegTree { negated: false, part: Atom(Compare { left: Name(NameTree { place: 31, bytes: [99] }), cmp: Equal, right: Const(Number(NumberTree { place: 33, minus: false, digits: 3, s: 0, point: false })) }) }] }] }) }",
@@ -242,7 +242,7 @@ fn predicates(rt: HostRuntime) -> Result<(), ReadRefusal> {
     check::<Statements>(&rt, rt.alloc(), &PREDICATES)
 }
 
-const SELECTS: [(&[u8], &str); 8] = [
+static SELECTS: [(&[u8], &str); 8] = [
     (
         b"SELECT * FROM t",
         "Select { items: All { place: 8 }, table: TableTree { first: NameTree { place: 15, bytes: [116] }, second: None }, filter: None, groups: None, order: None }",
@@ -282,7 +282,7 @@ fn selects(rt: HostRuntime) -> Result<(), ReadRefusal> {
     check::<Statements>(&rt, rt.alloc(), &SELECTS)
 }
 
-const REFUSALS: [(&[u8], u32, u32); 72] = [
+static REFUSALS: [(&[u8], u32, u32); 72] = [
     (b"", 102, 1),
     (b"-- only", 102, 8),
     (b"INSERT INTO t VAL", 102, 15),
@@ -366,7 +366,7 @@ fn refusals(rt: HostRuntime) {
     check_refusals::<Statements>(&rt, rt.alloc(), &REFUSALS);
 }
 
-const WITHIN_THE_LIMITS: [(&[u8], &[u8], usize, &[u8]); 7] = [
+static WITHIN_THE_LIMITS: [(&[u8], &[u8], usize, &[u8]); 7] = [
     (b"INSERT t VALUES (1)", b",(1)", 999, b""),
     (b"SELECT a", b",a", 63, b" FROM t"),
     (b"DELETE t WHERE a IN (1", b",1", 999, b")"),
@@ -395,7 +395,7 @@ fn within_the_limits(rt: HostRuntime) -> Result<(), Memory> {
     Ok(())
 }
 
-const OVER_THE_LIMITS: [(&[u8], &[u8], usize, &[u8], u32, u32); 12] = [
+static OVER_THE_LIMITS: [(&[u8], &[u8], usize, &[u8], u32, u32); 12] = [
     (b"INSERT t VALUES (1)", b",(1)", 1000, b"", 10738, 4017),
     (b"INSERT t VALUES (1)", b",(1)", 1500, b"", 10738, 4017),
     (b"SELECT a", b",a", 64, b" FROM t", 50001, 136),

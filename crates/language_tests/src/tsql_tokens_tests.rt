@@ -48,7 +48,7 @@ fn is_refused(alloc: Global, bytes: &[u8], number: u32, at: u32) -> bool
     }
 }
 
-const WORDS_AND_NAMES: [(&[u8], &[Piece]); 14] = [
+static WORDS_AND_NAMES: [(&[u8], &[Piece]); 14] = [
     (b"", &[]),
     (b"select", &[(Reserved, 0, 6)]),
     (b"SeLeCt t", &[(Reserved, 0, 6), (Name, 7, 8)]),
@@ -78,7 +78,7 @@ fn words_and_names(rt: HostRuntime) {
     check_cuts(&rt, rt.alloc(), &WORDS_AND_NAMES);
 }
 
-const NUMBERS: [(&[u8], &[Piece]); 18] = [
+static NUMBERS: [(&[u8], &[Piece]); 18] = [
     (b"0", &[(Number, 0, 1)]),
     (b"12 34", &[(Number, 0, 2), (Number, 3, 5)]),
     (b"1.5", &[(Number, 0, 3)]),
@@ -104,7 +104,7 @@ fn numbers(rt: HostRuntime) {
     check_cuts(&rt, rt.alloc(), &NUMBERS);
 }
 
-const TEXTS: [(&[u8], &[Piece]); 8] = [
+static TEXTS: [(&[u8], &[Piece]); 8] = [
     (b"''", &[(Text, 0, 2)]),
     (b"'a'", &[(Text, 0, 3)]),
     (b"''''", &[(Text, 0, 4)]),
@@ -120,7 +120,7 @@ fn texts(rt: HostRuntime) {
     check_cuts(&rt, rt.alloc(), &TEXTS);
 }
 
-const SIGNS: [(&[u8], &[Piece]); 11] = [
+static SIGNS: [(&[u8], &[Piece]); 11] = [
     (
         b"(),.;*+-/%=",
         &[
@@ -170,7 +170,7 @@ fn signs(rt: HostRuntime) {
     check_cuts(&rt, rt.alloc(), &SIGNS);
 }
 
-const BLANKS_AND_COMMENTS: [(&[u8], &[Piece]); 11] = [
+static BLANKS_AND_COMMENTS: [(&[u8], &[Piece]); 11] = [
     (b" \t ", &[]),
     (b"--", &[]),
     (b"a--b\nc", &[(Name, 0, 1)]),
@@ -189,7 +189,7 @@ fn blanks_and_comments(rt: HostRuntime) {
     check_cuts(&rt, rt.alloc(), &BLANKS_AND_COMMENTS);
 }
 
-const REFUSALS: [(&[u8], u32, u32); 30] = [
+static REFUSALS: [(&[u8], u32, u32); 30] = [
     (b"/*/", 102, 1),
     (b"a /* /* */", 102, 3),
     (b"/*", 102, 1),
@@ -230,7 +230,7 @@ fn refusals(rt: HostRuntime) {
     }
 }
 
-const WITHIN_THE_LIMITS: [(&[u8], &[u8], usize, &[u8], usize); 14] = [
+static WITHIN_THE_LIMITS: [(&[u8], &[u8], usize, &[u8], usize); 14] = [
     (b"", b"a", 128, b"", 1),
     (b"[", b"a", 128, b"]", 1),
     (b"", b"7", 19, b"", 1),
@@ -247,22 +247,23 @@ const WITHIN_THE_LIMITS: [(&[u8], &[u8], usize, &[u8], usize); 14] = [
     (b"", b"''", 300, b"", 1),
 ];
 
+/// The number of the tokens of a text.
+fn count_of(rt: &impl Abort, alloc: Global, bytes: &[u8]) -> Result<usize, TokenRefusal> {
+    assert!(rt; bytes.len() <= 131_072);
+    Ok(tokens(alloc, bytes)?.len())
+}
+
 #[test]
 fn within_the_limits(rt: HostRuntime) -> Result<(), TokenRefusal> {
-    for &(first, unit, count, last, expected) in &WITHIN_THE_LIMITS {
-        let bytes = repeated(rt.alloc(), first, unit, count, last)?;
-        assert!(rt; bytes.len() <= 131_072);
-        let found = tokens(rt.alloc(), &bytes)?;
-        let length = found.len();
-        assert!(rt;
-            length == expected,
-            "{length} at {first:?} {unit:?} {count} {last:?}"
-        );
+    for (place, (first, unit, count, last, expected)) in WITHIN_THE_LIMITS.iter().enumerate() {
+        let bytes = repeated(rt.alloc(), first, unit, *count, last)?;
+        let found = count_of(&rt, rt.alloc(), &bytes)?;
+        assert!(rt; found == *expected, "{found} at {place}");
     }
     Ok(())
 }
 
-const OVER_THE_LIMITS: [(&[u8], &[u8], usize, &[u8], u32, u32); 16] = [
+static OVER_THE_LIMITS: [(&[u8], &[u8], usize, &[u8], u32, u32); 16] = [
     (b"", b"a", 129, b"", 50001, 1),
     (b"b ", b"a", 129, b"", 50001, 3),
     (b"[", b"a", 129, b"]", 50001, 1),
@@ -283,36 +284,40 @@ const OVER_THE_LIMITS: [(&[u8], &[u8], usize, &[u8], u32, u32); 16] = [
 
 #[test]
 fn over_the_limits(rt: HostRuntime) -> Result<(), Memory> {
-    for &(first, unit, count, last, number, at) in &OVER_THE_LIMITS {
-        let bytes = repeated(rt.alloc(), first, unit, count, last)?;
+    for (place, (first, unit, count, last, number, at)) in OVER_THE_LIMITS.iter().enumerate() {
+        let bytes = repeated(rt.alloc(), first, unit, *count, last)?;
         assert!(rt; bytes.len() <= 131_072);
-        assert!(rt;
-            is_refused(rt.alloc(), &bytes, number, at),
-            "at {first:?} {unit:?} {count} {last:?}"
-        );
+        assert!(rt; is_refused(rt.alloc(), &bytes, *number, *at), "at {place}");
     }
     Ok(())
 }
 
+/// How many comments are opened and how many are closed, and the number and the place of the refusal, where there is one.
+static COMMENTS: [(usize, usize, u32, u32); 3] = [
+    (64, 64, 0, 0),
+    (65, 65, 50_001, 129),
+    (65, 64, 102, 1),
+];
+
+/// A name behind such comments is cut, or refused.
+fn fits_comments(rt: &impl Abort, alloc: Global, bytes: &[u8], number: u32, at: u32) -> bool {
+    assert!(rt; bytes.len() <= 131_072);
+    if number == 0 {
+        is_cut(alloc, bytes, &[(Name, 257, 258)])
+    } else {
+        is_refused(alloc, bytes, number, at)
+    }
+}
+
 #[test]
 fn nested_comments(rt: HostRuntime) -> Result<(), Memory> {
-    // so many comments are opened, and so many closed
-    for &(opened, closed, number, at) in &[
-        (64, 64, 0, 0),
-        (65, 65, 50_001, 129),
-        (65, 64, 102, 1),
-    ] {
-        let front = repeated(rt.alloc(), b"", b"/*", opened, b"")?;
-        let bytes = repeated(rt.alloc(), &front, b"*/", closed, b" a")?;
-        assert!(rt; bytes.len() <= 131_072);
-        if number == 0 {
-            assert!(rt; is_cut(rt.alloc(), &bytes, &[(Name, 257, 258)]));
-        } else {
-            assert!(rt;
-                is_refused(rt.alloc(), &bytes, number, at),
-                "at {opened} {closed}"
-            );
-        }
+    for (opened, closed, number, at) in &COMMENTS {
+        let front = repeated(rt.alloc(), b"", b"/*", *opened, b"")?;
+        let bytes = repeated(rt.alloc(), &front, b"*/", *closed, b" a")?;
+        assert!(rt;
+            fits_comments(&rt, rt.alloc(), &bytes, *number, *at),
+            "at {opened} {closed}"
+        );
     }
     Ok(())
 }

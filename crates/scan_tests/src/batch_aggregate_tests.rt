@@ -67,7 +67,7 @@ struct Case {
 
 const GREATEST: i64 = 2_147_483_647;
 
-const CASES: [Case; 10] = [
+static CASES: [Case; 10] = [
     Case {
         rows: &[],
         items: &[Item::CountAll, Item::Sum(1)],

@@ -97,7 +97,7 @@ fn cells_of(made: &Option<Vec<Vec<Option<i64>>>>, column: usize) -> Option<&[Opt
 }
 
 /// The type of the second column, a series, what the column is given, and its cells, or None where it declines.
-const CASES: [(
+static CASES: [(
     ColumnType,
     (i64, i64),
     Given,
@@ -199,9 +199,8 @@ fn series_are_columns(rt: HostRuntime) -> Result<(), Fail> {
         let schema = table(alloc, kind)?;
         let plan = plan_of(alloc, start, stop, given)?;
         let made = series_columns(alloc, &schema, &plan)?;
-        assert_eq!(rt;
-            cells_of(&made, 1),
-            expected,
+        assert!(rt;
+            cells_of(&made, 1) == expected,
             "{kind:?} {given:?} from {start}"
         );
     }
@@ -226,9 +225,8 @@ fn cells_are_those_of_the_columns(rt: HostRuntime) -> Result<(), Fail> {
         let expr = given_of(alloc, given)?;
         for (i, cell) in expected.unwrap_or(&[]).iter().enumerate() {
             let number = start.saturating_add(i as i64);
-            assert_eq!(rt;
-                series_cell(&column, expr.as_ref(), number),
-                Some(*cell),
+            assert!(rt;
+                series_cell(&column, expr.as_ref(), number) == Some(*cell),
                 "{kind:?} {given:?} over {number}"
             );
         }
@@ -247,7 +245,7 @@ fn long_series_are_columns(rt: HostRuntime) -> Result<(), Fail> {
         expected.push(Some(cell))?;
     }
     let made = series_columns(alloc, &schema, &plan)?;
-    assert_eq!(rt; cells_of(&made, 1), Some(expected.as_slice()));
+    assert!(rt; cells_of(&made, 1) == Some(expected.as_slice()));
     Ok(())
 }
 
@@ -259,7 +257,7 @@ fn keys_are_the_numbers(rt: HostRuntime) -> Result<(), Fail> {
     let mut plan = plan_of(alloc, -1, 1, Given::Null)?;
     let made = series_columns(alloc, &schema, &plan)?;
     let keys: &[Option<i64>] = &[Some(-1), Some(0), Some(1)];
-    assert_eq!(rt; cells_of(&made, 0), Some(keys));
+    assert!(rt; cells_of(&made, 0) == Some(keys));
     plan.columns = Items::new(alloc);
     assert!(rt; series_columns(alloc, &schema, &plan)?.is_none());
     plan.series = None;

@@ -9,14 +9,14 @@ use std::process::Abort;
 use std::test::Fail;
 
 /// The cells of four rows in the columns n int, t varchar(8) and d decimal(5, 2); the fifth row is like the first.
-const NUMBERS: [Option<i64>; 4] = [None, Some(-5), Some(7), Some(9)];
+static NUMBERS: [Option<i64>; 4] = [None, Some(-5), Some(7), Some(9)];
 
-const TEXTS: [Option<&[u8]>; 4] = [Some(b""), Some(b"ab"), None, Some(b"b")];
+static TEXTS: [Option<&[u8]>; 4] = [Some(b""), Some(b"ab"), None, Some(b"b")];
 
-const DECIMALS: [Option<i64>; 4] = [Some(100), Some(-500), Some(701), None];
+static DECIMALS: [Option<i64>; 4] = [Some(100), Some(-500), Some(701), None];
 
 /// How many rows a batch has.
-const COUNTS: [usize; 5] = [0, 1, 3, 1_023, 1_024];
+static COUNTS: [usize; 5] = [0, 1, 3, 1_023, 1_024];
 
 /// A predicate of one part.
 #[derive(Clone, Copy)]
@@ -51,7 +51,7 @@ enum Case {
 }
 
 /// Predicates, and of which of the four rows each is True.
-const CASES: [(Case, [bool; 4]); 24] = [
+static CASES: [(Case, [bool; 4]); 24] = [
     (
         Case::One(Form::Number(Relation::Equal, 7)),
         [false, false, true, false],

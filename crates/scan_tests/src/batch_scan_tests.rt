@@ -114,7 +114,7 @@ fn expect(
 const FOUR: &[(u8, u64)] = &[(1, 1), (2, 1), (2, 7), (3, 1)];
 
 /// How what is read is said, and what it is.
-const CASES: [(u8, Case); 23] = [
+static CASES: [(u8, Case); 23] = [
     (b'e', (FOUR, 5, &[], &[], &[], 7, b"1111")),
     (b's', (FOUR, 5, &[], &[], &[], 6, b"1101")),
     (b's', (FOUR, 5, &[], &[], &[], 5, b"1101")),

@@ -40,7 +40,7 @@ impl Case {
 
 /// Numbers near one another, far apart and without a NULL; many of them; texts; NULLs alone; and few keys, so that both columns stand
 /// in long runs.
-const CASES: [Case; 9] = [
+static CASES: [Case; 9] = [
     Case {
         kind: ColumnType::Int,
         cells: &[
@@ -188,7 +188,7 @@ const BY_BOTH: &[Item] = &[
     Item::Sum(0),
 ];
 
-const QUERIES: [Asked; 8] = [
+static QUERIES: [Asked; 8] = [
     (ALL, &[], None),
     (ALL, &[], Some(7)),
     (BOUNDS, &[], None),
@@ -314,7 +314,7 @@ fn check(
 }
 
 /// Whether the rows of a group are shown: all of them, none of them, and some of them.
-const FLAGS: [&[bool]; 4] = [&[], &[true, true, false], &[false], &[true]];
+static FLAGS: [&[bool]; 4] = [&[], &[true, true, false], &[false], &[true]];
 
 /// The same of a group of so many rows.
 fn check_count(rt: &impl Abort, alloc: Global, case: &Case, count: u16) -> Result<(), Memory> {
@@ -348,7 +348,7 @@ fn codes_tally_as_rows_do(rt: HostRuntime) -> Result<(), Fail> {
 }
 
 /// Numbers that are added up in several groups, with their whole sum, where it is in the range of its type.
-const SUMS: [(&[&[Cell]], Option<i128>); 4] = [
+static SUMS: [(&[&[Cell]], Option<i128>); 4] = [
     (
         &[
             &[Cell::Number(i64::MAX), Cell::Number(i64::MAX)],
@@ -432,7 +432,7 @@ fn sums_may_pass_their_range_on_the_way(rt: HostRuntime) -> Result<(), Fail> {
 
 /// Queries over a group of many cells, and whether they go by codes: not those with far more keys than rows, with a column that is
 /// not there, and those that put no rows together.
-const WAYS: [(Asked, bool); 5] = [
+static WAYS: [(Asked, bool); 5] = [
     ((ALL, &[0], None), true),
     ((BY_CELL, &[1], None), false),
     ((BY_BOTH, &[0, 1], None), false),

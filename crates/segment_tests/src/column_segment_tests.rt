@@ -3,12 +3,9 @@ ghost use Rattle.std.specs.Bool.{OnTrue};
 ghost use Rattle.cs_types.specs.Kinds.{IsColumnType, is_of_type};
 
 use crate::made::{NULL, is_of_type};
-use column_segment::{Batch, CellRef, Segment, SegmentBody, encode};
+use column_segment::{Batch, CellRef, Segment, encode};
 use cs_base::{Items, Memory};
 use cs_types::{ColumnType, Encoding, Value};
-use segment_dict::{Dict, NumberDict, TextDict};
-use segment_rle::Runs;
-use segment_value::Scale;
 use std::alloc::Global;
 use std::process::Abort;
 use std::test::Fail;
@@ -54,6 +51,14 @@ fn check_batch(
     Ok(())
 }
 
+/// The code and the number of the cell at a place, or what stood before in the other places of a batch.
+fn wanted_at(segment: &Segment, place: usize) -> (u64, i64) {
+    if place >= segment.length {
+        return (7, -7);
+    }
+    (segment.code(place), segment.cell(place).number_or_zero())
+}
+
 /// The codes and the numbers that are read from a place on are those of the cells one by one, and the other places of a
 /// batch stay as they are.
 fn check_codes(rt: &impl Abort, segment: &Segment, from: usize) {
@@ -65,15 +70,9 @@ fn check_codes(rt: &impl Abort, segment: &Segment, from: usize) {
     let mut numbers = [-7; 1024];
     segment.code_batch(from, count, &mut codes);
     segment.number_batch(from, count, &mut numbers);
-    for i in 0..count {
-        let number = segment.cell(from + i).number_or_zero();
-        assert!(rt;
-            codes[i] == segment.code(from + i) && numbers[i] == number,
-            "{i} from {from}"
-        );
-    }
-    for i in count..1024 {
-        assert!(rt; codes[i] == 7 && numbers[i] == -7, "{i} from {from}");
+    for i in 0..1024 {
+        let wanted = wanted_at(segment, from.saturating_add(i));
+        assert!(rt; (codes[i], numbers[i]) == wanted, "{i} from {from}");
     }
 }
 
@@ -94,33 +93,84 @@ fn check_cuts(
 ) -> Result<(), Memory> {
     for (cell, at, past) in cuts {
         let bound = cell.to_value(alloc)?;
-        assert!(rt; segment.cut(&bound, false) == *at, "at {cell:?}");
-        assert!(rt; segment.cut(&bound, true) == *past, "past {cell:?}");
+        let found = (segment.cut(&bound, false), segment.cut(&bound, true));
+        assert!(rt; found == (*at, *past), "at {cell:?}");
     }
     Ok(())
 }
 
-/// The segment of the cells has this encoding and this number of words, and gives each cell back.
-fn check(
+/// The segment of cells that the type has.
+fn encoded(
     rt: &impl Abort,
     alloc: Global,
     kind: ColumnType,
     cells: &[Value],
-    encoding: Encoding,
-    words: u64,
-) -> Result<(), Memory>
+) -> Result<Segment, Memory>
     requires { IsColumnType kind }
 {
     assert!(rt; !cells.is_empty() && are_kept(kind, cells));
-    let segment = encode(alloc, kind, cells)?;
-    assert!(rt; segment.encoding() == encoding && segment.words() == words);
+    encode(alloc, kind, cells)
+}
+
+/// The segment of runs of cells that the type has.
+fn segment_of(
+    rt: &impl Abort,
+    alloc: Global,
+    kind: ColumnType,
+    runs: &[(usize, CellRef<'_>)],
+) -> Result<Segment, Memory>
+    requires { IsColumnType kind }
+{
+    let cells = cells_of(alloc, runs)?;
+    encoded(rt, alloc, kind, &cells)
+}
+
+/// A column's cells in runs, with their encoding and words.
+type Counted = (&'static [(usize, CellRef<'static>)], Encoding, u64);
+
+/// A segment has this encoding and this number of words, and gives each cell back.
+fn check_segment(
+    rt: &impl Abort,
+    alloc: Global,
+    segment: &Segment,
+    cells: &[Value],
+    wanted: (Encoding, u64),
+) -> Result<(), Memory> {
+    assert!(rt; (segment.encoding(), segment.words()) == wanted);
     assert!(rt; segment.length == cells.len());
     for i in 0..cells.len() {
         assert!(rt; segment.cell(i).to_value(alloc)? == cells[i], "cell {i}");
     }
     for &from in &[0, 1, 63, 64, 1000, 1024, 5000, usize::MAX] {
-        check_batch(rt, alloc, &segment, cells, from)?;
-        check_codes(rt, &segment, from);
+        check_batch(rt, alloc, segment, cells, from)?;
+        check_codes(rt, segment, from);
+    }
+    Ok(())
+}
+
+/// The segment of cells is so.
+fn check(rt: &impl Abort, alloc: Global, kind: ColumnType, counted: &Counted) -> Result<(), Memory>
+    requires { IsColumnType kind }
+{
+    let cells = cells_of(alloc, counted.0)?;
+    let segment = encoded(rt, alloc, kind, &cells)?;
+    let outcome = check_segment(rt, alloc, &segment, &cells, (counted.1, counted.2));
+    // A segment that is let go by a call has a short proof, and one that is let go at the end of its scope a long one.
+    drop(segment);
+    outcome
+}
+
+/// Each of the segments is so.
+fn check_all(
+    rt: &impl Abort,
+    alloc: Global,
+    kind: ColumnType,
+    all: &[Counted],
+) -> Result<(), Memory>
+    requires { IsColumnType kind }
+{
+    for counted in all {
+        check(rt, alloc, kind, counted)?;
     }
     Ok(())
 }
@@ -134,18 +184,36 @@ type Coded = (
     &'static [(CellRef<'static>, u128, u128)],
 );
 
-/// The codes of a column's cells are in the order of the cells.
-fn check_coded(rt: &impl Abort, alloc: Global, kind: ColumnType, coded: Coded) -> Result<(), Memory>
+/// The codes of a segment are in the order of the cells.
+fn check_order(
+    rt: &impl Abort,
+    alloc: Global,
+    segment: &Segment,
+    coded: &Coded,
+) -> Result<(), Memory> {
+    let (_, encoding, last, stretches, cuts) = *coded;
+    assert!(rt; segment.length > 0);
+    assert!(rt; (segment.encoding(), segment.last_code()) == (encoding, last));
+    check_stretches(rt, segment, stretches);
+    check_cuts(rt, alloc, segment, cuts)
+}
+
+/// The codes of each column's cells are so.
+fn check_coded(
+    rt: &impl Abort,
+    alloc: Global,
+    kind: ColumnType,
+    all: &[Coded],
+) -> Result<(), Memory>
     requires { IsColumnType kind }
 {
-    let (runs, encoding, last, stretches, cuts) = coded;
-    let cells = cells_of(alloc, runs)?;
-    assert!(rt; !cells.is_empty() && are_kept(kind, &cells));
-    let segment = encode(alloc, kind, &cells)?;
-    assert!(rt; segment.length > 0);
-    assert!(rt; segment.encoding() == encoding && segment.last_code() == last);
-    check_stretches(rt, &segment, stretches);
-    check_cuts(rt, alloc, &segment, cuts)
+    for coded in all {
+        let segment = segment_of(rt, alloc, kind, coded.0)?;
+        let outcome = check_order(rt, alloc, &segment, coded);
+        drop(segment);
+        outcome?;
+    }
+    Ok(())
 }
 
 const LOW: CellRef<'static> = CellRef::Number(i64::MIN);
@@ -175,7 +243,7 @@ const B: CellRef<'static> = CellRef::Text(b"b");
 
 const LONG: CellRef<'static> = CellRef::Text(b"abcdefghi");
 
-const CODED_NUMBERS: [Coded; 6] = [
+static CODED_NUMBERS: [Coded; 6] = [
     (
         &[(1, TEN), (1, ELEVEN)],
         Encoding::ValuePacked,
@@ -246,13 +314,11 @@ const CODED_NUMBERS: [Coded; 6] = [
 
 #[test]
 fn codes_of_numbers(rt: HostRuntime) -> Result<(), Fail> {
-    for &coded in &CODED_NUMBERS {
-        check_coded(&rt, rt.alloc(), ColumnType::BigInt, coded)?;
-    }
+    check_coded(&rt, rt.alloc(), ColumnType::BigInt, &CODED_NUMBERS)?;
     Ok(())
 }
 
-const CODED_TEXTS: [Coded; 2] = [
+static CODED_TEXTS: [Coded; 2] = [
     (
         &[(1, NULL), (2, A), (1, B)],
         Encoding::DictPacked,
@@ -278,9 +344,7 @@ const CODED_TEXTS: [Coded; 2] = [
 
 #[test]
 fn codes_of_texts(rt: HostRuntime) -> Result<(), Fail> {
-    for &coded in &CODED_TEXTS {
-        check_coded(&rt, rt.alloc(), ColumnType::VarChar { n: 9 }, coded)?;
-    }
+    check_coded(&rt, rt.alloc(), ColumnType::VarChar { n: 9 }, &CODED_TEXTS)?;
     Ok(())
 }
 
@@ -299,28 +363,32 @@ fn in_turn(alloc: Global, length: i64, step: i64) -> Result<Vec<Value>, Memory> 
 
 /// The batches of the cells from places beside multiples of 64 and of 1,024.
 fn check_edges(rt: &impl Abort, alloc: Global, cells: &[Value]) -> Result<(), Memory> {
-    assert!(rt; cells.len() > 0 && are_kept(ColumnType::BigInt, cells));
-    let segment = encode(alloc, ColumnType::BigInt, cells)?;
+    let segment = encoded(rt, alloc, ColumnType::BigInt, cells)?;
     for &from in &[0, 1, 62, 63, 64, 65, 1022, 1023, 1024] {
         check_codes(rt, &segment, from);
     }
+    drop(segment);
     Ok(())
+}
+
+/// Those of so many cells, of a scale and of a dictionary.
+fn check_length(rt: &impl Abort, alloc: Global, length: i64) -> Result<(), Memory> {
+    check_edges(rt, alloc, &in_turn(alloc, length, 1)?)?;
+    check_edges(rt, alloc, &in_turn(alloc, length, i64::MAX / 3)?)
 }
 
 /// Batches of columns that end beside a multiple of 64 and of 1,024, of a scale and of a dictionary.
 #[test]
 fn batches_at_edges(rt: HostRuntime) -> Result<(), Fail> {
-    let alloc = rt.alloc();
     for &length in &[1, 63, 64, 65, 1023, 1024, 1025] {
-        check_edges(&rt, alloc, &in_turn(alloc, length, 1)?)?;
-        check_edges(&rt, alloc, &in_turn(alloc, length, i64::MAX / 3)?)?;
+        check_length(&rt, rt.alloc(), length)?;
     }
     Ok(())
 }
 
 const HALF: u128 = 9_223_372_036_854_775_808;
 
-const WHOLE_RANGE: [(CellRef<'static>, u128, u128); 3] = [
+static WHOLE_RANGE: [(CellRef<'static>, u128, u128); 3] = [
     (LOW, 0, 1),
     (CellRef::Number(-1), HALF - 1, HALF),
     (HIGH, 2 * HALF - 1, 2 * HALF),
@@ -337,24 +405,25 @@ fn whole_range_cells(alloc: Global) -> Result<Vec<Value>, Memory> {
     Ok(cells)
 }
 
+/// The codes of a segment from the least number to the greatest.
+fn check_range(rt: &impl Abort, alloc: Global, segment: &Segment) -> Result<(), Memory> {
+    assert!(rt; segment.length > 0);
+    assert!(rt; segment.encoding() == Encoding::ValuePacked && segment.last_code() == u64::MAX);
+    check_cuts(rt, alloc, segment, &WHOLE_RANGE)
+}
+
 /// Numbers from the least to the greatest, so that the last code is the greatest word.
 #[test]
 fn whole_range(rt: HostRuntime) -> Result<(), Fail> {
-    let alloc = rt.alloc();
-    let cells = whole_range_cells(alloc)?;
-    assert!(rt; cells.len() > 0 && are_kept(ColumnType::BigInt, &cells));
-    let segment = encode(alloc, ColumnType::BigInt, &cells)?;
-    assert!(rt; segment.length > 0);
-    assert!(rt; segment.encoding() == Encoding::ValuePacked && segment.last_code() == u64::MAX);
-    check_cuts(&rt, alloc, &segment, &WHOLE_RANGE)?;
-    Ok(())
+    let cells = whole_range_cells(rt.alloc())?;
+    let segment = encoded(&rt, rt.alloc(), ColumnType::BigInt, &cells)?;
+    let outcome = check_range(&rt, rt.alloc(), &segment);
+    drop(segment);
+    Ok(outcome?)
 }
 
-/// A column's cells in runs, with their encoding and words.
-type Counted = (&'static [(usize, CellRef<'static>)], Encoding, u64);
-
 /// Each encoding, at the ends of its reach, with the words that a slow program of another language counted.
-const NUMBERS: [Counted; 12] = [
+static NUMBERS: [Counted; 12] = [
     (&[(1, LOW), (1, HIGH)], Encoding::DictPacked, 3),
     (&[(1, LOW), (1, HIGH), (1, NULL)], Encoding::DictPacked, 3),
     (
@@ -393,7 +462,7 @@ const NUMBERS: [Counted; 12] = [
     ),
 ];
 
-const TEXTS: [Counted; 3] = [
+static TEXTS: [Counted; 3] = [
     (&[(3, NULL)], Encoding::DictPacked, 0),
     (
         &[(300, B), (300, NULL), (300, LONG)],
@@ -405,185 +474,101 @@ const TEXTS: [Counted; 3] = [
 
 #[test]
 fn fewest_words(rt: HostRuntime) -> Result<(), Fail> {
-    for &(runs, encoding, words) in &NUMBERS {
-        let cells = cells_of(rt.alloc(), runs)?;
-        check(&rt, rt.alloc(), ColumnType::BigInt, &cells, encoding, words)?;
-    }
+    check_all(&rt, rt.alloc(), ColumnType::BigInt, &NUMBERS)?;
     Ok(())
 }
 
 #[test]
 fn texts(rt: HostRuntime) -> Result<(), Fail> {
-    let kind = ColumnType::VarChar { n: 9 };
-    for &(runs, encoding, words) in &TEXTS {
-        let cells = cells_of(rt.alloc(), runs)?;
-        check(&rt, rt.alloc(), kind, &cells, encoding, words)?;
-    }
+    check_all(&rt, rt.alloc(), ColumnType::VarChar { n: 9 }, &TEXTS)?;
     Ok(())
 }
 
 /// The numbers of a column in another order.
-const NUMBERS_IN_NO_ORDER: [(usize, CellRef<'static>); 4] = [
+const IN_NO_ORDER: &[(usize, CellRef<'static>)] = &[
     (1, CellRef::Number(2)),
     (1, CellRef::Number(1)),
     (1, CellRef::Number(4)),
     (1, CellRef::Number(3)),
 ];
 
-/// Its fields, all of them.
-#[test]
-fn packed_numbers(rt: HostRuntime) -> Result<(), Fail> {
-    let cells = cells_of(rt.alloc(), &NUMBERS_IN_NO_ORDER)?;
-    assert!(rt; cells.len() == 4 && are_kept(ColumnType::Int, &cells));
-    let segment = encode(rt.alloc(), ColumnType::Int, &cells)?;
-    let Segment {
-        length,
-        body,
-        least,
-        greatest,
-        nulls,
-    } = segment;
-    assert!(rt; length == 4 && !nulls);
-    assert!(rt; least == Value::Number(1) && greatest == Value::Number(4));
-    match body {
-        SegmentBody::ValuePacked {
-            scale,
-            width,
-            codes,
-        } => {
-            check_scale(&rt, scale, (0, 1, false));
-            assert!(rt; width == 2 && codes.as_slice() == [177].as_slice());
-        }
-        _other => assert!(rt; false, "value, packed"),
-    }
-    Ok(())
-}
-
-/// What a segment of those numbers says of its cells.
-#[test]
-fn least_and_greatest(rt: HostRuntime) -> Result<(), Fail> {
-    let cells = cells_of(rt.alloc(), &NUMBERS_IN_NO_ORDER)?;
-    assert!(rt; cells.len() == 4 && are_kept(ColumnType::Int, &cells));
-    let segment = encode(rt.alloc(), ColumnType::Int, &cells)?;
+/// What a segment of numbers from 1 to 4 says of its cells.
+fn check_bounds(rt: &impl Abort, segment: &Segment) {
     assert!(rt; segment.words() == 3 && !segment.has_null());
     assert!(rt; segment.least() == CellRef::Number(1) && segment.greatest() == CellRef::Number(4));
+}
+
+#[test]
+fn least_and_greatest(rt: HostRuntime) -> Result<(), Fail> {
+    let segment = segment_of(&rt, rt.alloc(), ColumnType::Int, IN_NO_ORDER)?;
+    check_bounds(&rt, &segment);
+    drop(segment);
     Ok(())
 }
 
-/// The fields of a scale, all of them.
-fn check_scale(rt: &impl Abort, scale: Scale, wanted: (u32, i64, bool)) {
-    let Scale {
-        exponent,
-        base,
-        nulls,
-    } = scale;
-    assert!(rt; (exponent, base, nulls) == wanted);
-}
+/// A column's cells in runs, and all fields of their segment.
+type Shown = (
+    ColumnType,
+    &'static [(usize, CellRef<'static>)],
+    &'static str,
+);
 
-/// The body of a segment, whose other fields are let go.
-fn body_of(segment: Segment) -> SegmentBody {
-    let Segment {
-        length: _length,
-        body,
-        least: _least,
-        greatest: _greatest,
-        nulls: _nulls,
-    } = segment;
-    body
-}
+/// Packed numbers, a dictionary of one number, one of texts and a NULL, whose codes are 0, 1, 1 and 2 at two bits, that is
+/// 1 * 4 + 1 * 16 + 2 * 64, and long runs of the codes of a dictionary and of a scale.
+static SHOWN: [Shown; 5] = [
+    (
+        ColumnType::Int,
+        IN_NO_ORDER,
+        "Segment { length: 4, body: ValuePacked { scale: Scale { exponent: 0, base: 1, nulls: false }, width: 2, codes: [177] }, least: Number(1), greatest: Number(4), nulls: false }",
+    ),
+    (
+        ColumnType::Int,
+        &[(4, SEVEN)],
+        "Segment { length: 4, body: DictPacked { dict: Numbers(NumberDict { entries: [7], nulls: false }), width: 0, codes: [] }, least: Number(7), greatest: Number(7), nulls: false }",
+    ),
+    (
+        ColumnType::VarChar { n: 8 },
+        &[(1, NULL), (2, A), (1, B)],
+        "Segment { length: 4, body: DictPacked { dict: Texts(TextDict { ends: [1, 2], bytes: [97, 98], nulls: true }), width: 2, codes: [148] }, least: Text([97]), greatest: Text([98]), nulls: true }",
+    ),
+    (
+        ColumnType::Int,
+        &[(500, NULL), (500, SEVEN)],
+        "Segment { length: 1000, body: DictRuns { dict: Numbers(NumberDict { entries: [7], nulls: true }), runs: Runs { codes: [0, 1], ends: [500, 1000] } }, least: Number(7), greatest: Number(7), nulls: true }",
+    ),
+    (
+        ColumnType::Int,
+        &[(700, THIRTY), (700, TEN), (700, TWENTY)],
+        "Segment { length: 2100, body: ValueRuns { scale: Scale { exponent: 1, base: 1, nulls: false }, runs: Runs { codes: [2, 0, 1], ends: [700, 1400, 2100] } }, least: Number(10), greatest: Number(30), nulls: false }",
+    ),
+];
 
-/// The fields of a dictionary, all of them.
-fn check_dict(
+/// A segment has these fields, all of them.
+fn check_fields(
     rt: &impl Abort,
-    dict: Dict,
-    numbers: &[i64],
-    ends: &[u64],
-    bytes: &[u8],
-    has_null: bool,
-) {
-    match dict {
-        Dict::Numbers(dict) => {
-            let NumberDict { entries, nulls } = dict;
-            assert!(rt; entries.as_slice() == numbers && nulls == has_null);
-        }
-        Dict::Texts(dict) => {
-            let TextDict {
-                ends: kept_ends,
-                bytes: kept_bytes,
-                nulls,
-            } = dict;
-            assert!(rt; kept_ends.as_slice() == ends && kept_bytes.as_slice() == bytes);
-            assert!(rt; nulls == has_null);
-        }
-    }
-}
-
-/// The fields of runs, all of them.
-fn check_runs(rt: &impl Abort, runs: Runs, codes: &[u64], ends: &[u64]) {
-    let Runs {
-        codes: kept_codes,
-        ends: kept_ends,
-    } = runs;
-    assert!(rt; kept_codes.as_slice() == codes && kept_ends.as_slice() == ends);
-}
-
-/// A dictionary of one number.
-#[test]
-fn a_dictionary_of_numbers(rt: HostRuntime) -> Result<(), Fail> {
-    let cells = cells_of(rt.alloc(), &[(4, SEVEN)])?;
-    assert!(rt; cells.len() == 4 && are_kept(ColumnType::Int, &cells));
-    match body_of(encode(rt.alloc(), ColumnType::Int, &cells)?) {
-        SegmentBody::DictPacked { dict, width, codes } => {
-            assert!(rt; width == 0 && codes.len() == 0);
-            check_dict(&rt, dict, &[7], &[], &[], false);
-        }
-        _other => assert!(rt; false, "dictionary, packed"),
-    }
+    alloc: Global,
+    segment: &Segment,
+    wanted: &str,
+) -> Result<(), Memory> {
+    let found = format!(in alloc; "{segment:?}")?;
+    assert!(rt; found.as_str() == wanted);
     Ok(())
 }
 
-/// A dictionary of texts and a NULL: codes 0, 1, 1 and 2 at two bits, that is 1 * 4 + 1 * 16 + 2 * 64.
-#[test]
-fn a_dictionary_of_texts(rt: HostRuntime) -> Result<(), Fail> {
-    let kind = ColumnType::VarChar { n: 8 };
-    let cells = cells_of(rt.alloc(), &[(1, NULL), (2, A), (1, B)])?;
-    assert!(rt; cells.len() == 4 && are_kept(kind, &cells));
-    match body_of(encode(rt.alloc(), kind, &cells)?) {
-        SegmentBody::DictPacked { dict, width, codes } => {
-            assert!(rt; width == 2 && codes.as_slice() == [148].as_slice());
-            check_dict(&rt, dict, &[], &[1, 2], b"ab", true);
-        }
-        _other => assert!(rt; false, "dictionary, packed"),
-    }
-    Ok(())
+/// The segment of cells has these fields.
+fn check_shown(rt: &impl Abort, alloc: Global, shown: &Shown) -> Result<(), Memory> {
+    let (kind, runs, wanted) = *shown;
+    assert!(rt; kind.is_valid());
+    let segment = segment_of(rt, alloc, kind, runs)?;
+    let outcome = check_fields(rt, alloc, &segment, wanted);
+    drop(segment);
+    outcome
 }
 
-/// Long runs of a dictionary's codes.
 #[test]
-fn runs_of_a_dictionary(rt: HostRuntime) -> Result<(), Fail> {
-    let cells = cells_of(rt.alloc(), &[(500, NULL), (500, SEVEN)])?;
-    assert!(rt; cells.len() == 1000 && are_kept(ColumnType::Int, &cells));
-    match body_of(encode(rt.alloc(), ColumnType::Int, &cells)?) {
-        SegmentBody::DictRuns { dict, runs } => {
-            check_dict(&rt, dict, &[7], &[], &[], true);
-            check_runs(&rt, runs, &[0, 1], &[500, 1000]);
-        }
-        _other => assert!(rt; false, "dictionary, in runs"),
-    }
-    Ok(())
-}
-
-/// Long runs of a scale's codes.
-#[test]
-fn runs_of_a_scale(rt: HostRuntime) -> Result<(), Fail> {
-    let cells = cells_of(rt.alloc(), &[(700, THIRTY), (700, TEN), (700, TWENTY)])?;
-    assert!(rt; cells.len() == 2100 && are_kept(ColumnType::Int, &cells));
-    match body_of(encode(rt.alloc(), ColumnType::Int, &cells)?) {
-        SegmentBody::ValueRuns { scale, runs } => {
-            check_scale(&rt, scale, (1, 1, false));
-            check_runs(&rt, runs, &[2, 0, 1], &[700, 1400, 2100]);
-        }
-        _other => assert!(rt; false, "value, in runs"),
+fn fields_of_segments(rt: HostRuntime) -> Result<(), Fail> {
+    for shown in &SHOWN {
+        check_shown(&rt, rt.alloc(), shown)?;
     }
     Ok(())
 }

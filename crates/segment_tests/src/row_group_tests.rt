@@ -7,7 +7,7 @@ use crate::made::{NULL, is_of_type};
 use column_segment::{CellRef, SegmentBody};
 use cs_base::{Items, Memory};
 use cs_types::{Bytes, Column, ColumnType, Encoding, Key, Row, Schema, Value, Version};
-use row_group::{Packed, Places, pack_rows};
+use row_group::{Packed, pack_rows};
 use std::alloc::Global;
 use std::process::Abort;
 use std::test::Fail;
@@ -128,29 +128,28 @@ fn versions_of(
     Ok(versions)
 }
 
+/// A row of three cells, NULL among them.
+fn whole_row(alloc: Global, cells: Cells<'_>) -> Result<Row, Memory> {
+    let mut row = Row::new(alloc);
+    row.push(Value::Number(cells.0))?;
+    row.push(cells.1.to_value(alloc)?)?;
+    row.push(cells.2.to_value(alloc)?)?;
+    Ok(row)
+}
+
 /// The row at a position has the cells, NULL among them, and the begin.
 fn check_row(
     rt: &impl Abort,
     alloc: Global,
     group: &Packed,
     position: usize,
-    cells: Cells<'_>,
-    begin: u64,
+    wanted: &(Cells<'_>, u64),
 ) -> Result<(), Memory> {
+    let (cells, begin) = *wanted;
     assert!(rt; position < group.len());
-    let row = group.row(position)?;
-    let key = group.key_at(position);
+    assert!(rt; (group.key_at(position), group.begin(position)) == (Key(cells.0), begin));
     assert!(rt;
-        key == Key(cells.0) && group.begin(position) == begin,
-        "at {position}"
-    );
-    assert!(rt;
-        row.len() == 3 && row.cell(0) == &Value::Number(cells.0),
-        "at {position}"
-    );
-    let (second, third) = (cells.1.to_value(alloc)?, cells.2.to_value(alloc)?);
-    assert!(rt;
-        row.cell(1) == &second && row.cell(2) == &third,
+        group.row(position)? == whole_row(alloc, cells)?,
         "at {position}"
     );
     Ok(())
@@ -165,18 +164,30 @@ type Case = (
 );
 
 /// The group of a case, None where there is none.
-fn group_of(rt: &impl Abort, alloc: Global, case: Case) -> Result<Option<Packed>, Memory> {
+fn group_of(rt: &impl Abort, alloc: Global, case: &Case) -> Result<Option<Packed>, Memory> {
     let schema = table(alloc)?;
-    let versions = versions_of(rt, alloc, &schema, case.0)?;
-    pack_rows(alloc, &schema, versions, case.1)
+    let group = match versions_of(rt, alloc, &schema, case.0) {
+        Ok(versions) => pack_rows(alloc, &schema, versions, case.1),
+        Err(Memory) => Err(Memory),
+    };
+    // What is let go by a call has a short proof, and what is let go at the end of its scope a long one.
+    drop(schema);
+    group
+}
+
+/// The group of a case that has one.
+fn some_group(rt: &impl Abort, alloc: Global, case: &Case) -> Result<Packed, Memory> {
+    let group = group_of(rt, alloc, case)?;
+    assert!(rt; group.is_some());
+    Ok(group.unwrap())
 }
 
 /// That a group is that of its case.
-fn check_group(rt: &impl Abort, alloc: Global, group: &Packed, case: Case) -> Result<(), Memory> {
-    let (_, floor, wanted, by_key) = case;
-    assert!(rt; group.len() == wanted.len() && group.base() == floor);
-    for (position, (cells, begin)) in wanted.iter().enumerate() {
-        check_row(rt, alloc, group, position, *cells, *begin)?;
+fn check_group(rt: &impl Abort, alloc: Global, group: &Packed, case: &Case) -> Result<(), Memory> {
+    let (_, floor, wanted, by_key) = *case;
+    assert!(rt; (group.len(), group.base()) == (wanted.len(), floor));
+    for (position, row) in wanted.iter().enumerate() {
+        check_row(rt, alloc, group, position, row)?;
     }
     assert!(rt; group.places() == by_key);
     Ok(())
@@ -184,7 +195,7 @@ fn check_group(rt: &impl Abort, alloc: Global, group: &Packed, case: Case) -> Re
 
 /// Versions below, at and above the floor, several of a key among them. What is wanted comes from a slow program of another
 /// language.
-const IN_ORDER: [Case; 5] = [
+static IN_ORDER: [Case; 5] = [
     (
         &[((8, NULL, NULL), 1, Some(2))],
         1,
@@ -250,7 +261,7 @@ const MANY: &[(Cells<'static>, u64, Option<u64>)] = &[
 ];
 
 /// Few, many and all different texts, NULL first, between and last among them.
-const TEXTS: [Case; 3] = [
+static TEXTS: [Case; 3] = [
     (
         &[
             ((1, ONE, NULL), 0, None),
@@ -315,12 +326,18 @@ const TEXTS: [Case; 3] = [
     ),
 ];
 
+/// That a case has the group that it wants.
+fn check_case(rt: &impl Abort, alloc: Global, case: &Case) -> Result<(), Memory> {
+    let group = some_group(rt, alloc, case)?;
+    let outcome = check_group(rt, alloc, &group, case);
+    drop(group);
+    outcome
+}
+
 /// That each case has the group that it wants.
 fn check_cases(rt: &impl Abort, alloc: Global, cases: &[Case]) -> Result<(), Memory> {
     for case in cases {
-        let group = group_of(rt, alloc, *case)?;
-        assert!(rt; group.is_some());
-        check_group(rt, alloc, &group.unwrap(), *case)?;
+        check_case(rt, alloc, case)?;
     }
     Ok(())
 }
@@ -338,31 +355,39 @@ fn texts_few_many_and_different(rt: HostRuntime) -> Result<(), Fail> {
 }
 
 /// No version that is kept.
-const NONE_KEPT: [Case; 2] = [
+static NONE_KEPT: [Case; 2] = [
     (&[], 0, &[], &[]),
     (&[((8, NULL, NULL), 1, Some(2))], 2, &[], &[]),
 ];
 
+/// That a case has no group.
+fn check_none(rt: &impl Abort, alloc: Global, case: &Case) -> Result<(), Memory> {
+    let group = group_of(rt, alloc, case)?;
+    assert!(rt; group.is_none());
+    drop(group);
+    Ok(())
+}
+
 #[test]
 fn no_version_makes_no_group(rt: HostRuntime) -> Result<(), Fail> {
-    for &case in &NONE_KEPT {
-        assert!(rt; group_of(&rt, rt.alloc(), case)?.is_none());
+    for case in &NONE_KEPT {
+        check_none(&rt, rt.alloc(), case)?;
     }
     Ok(())
 }
 
 /// The encoding and the words of a column's segment.
-fn check_segment(rt: &impl Abort, group: &Packed, column: usize, encoding: Encoding, words: u64) {
+fn check_segment(rt: &impl Abort, group: &Packed, column: usize, wanted: (Encoding, u64)) {
     assert!(rt; column < group.width());
     let segment = group.segment(column);
     assert!(rt;
-        segment.encoding() == encoding && segment.words() == words,
+        (segment.encoding(), segment.words()) == wanted,
         "of {column}"
     );
 }
 
 /// A group of four rows.
-const FOUR_ROWS: Case = (
+static FOUR_ROWS: Case = (
     &[
         ((1, SEVEN, A), 0, None),
         ((2, SEVEN, NULL), 0, None),
@@ -379,28 +404,50 @@ const FOUR_ROWS: Case = (
     &[1, 0, 3, 2],
 );
 
-#[test]
-fn a_group_has_these_segments(rt: HostRuntime) -> Result<(), Fail> {
-    let group = group_of(&rt, rt.alloc(), FOUR_ROWS)?.ok_or("no group")?;
-    check_group(&rt, rt.alloc(), &group, FOUR_ROWS)?;
-    check_segment(&rt, &group, 0, Encoding::ValuePacked, 3);
-    check_segment(&rt, &group, 1, Encoding::DictPacked, 1);
-    check_segment(&rt, &group, 2, Encoding::DictPacked, 4);
-    Ok(())
+/// That a group has these segments.
+fn check_segments(rt: &impl Abort, group: &Packed) {
+    check_segment(rt, group, 0, (Encoding::ValuePacked, 3));
+    check_segment(rt, group, 1, (Encoding::DictPacked, 1));
+    check_segment(rt, group, 2, (Encoding::DictPacked, 4));
 }
 
 #[test]
-fn a_group_finds_its_keys(rt: HostRuntime) -> Result<(), Fail> {
-    let group = group_of(&rt, rt.alloc(), FOUR_ROWS)?.ok_or("no group")?;
-    for &(key, from, to) in &[(3, 2, 3), (5, 4, 4), (0, 0, 0)] {
-        assert!(rt; group.find(Key(key)) == Places { from, to }, "of {key}");
+fn a_group_has_these_segments(rt: HostRuntime) -> Result<(), Fail> {
+    let group = some_group(&rt, rt.alloc(), &FOUR_ROWS)?;
+    let outcome = check_group(&rt, rt.alloc(), &group, &FOUR_ROWS);
+    check_segments(&rt, &group);
+    drop(group);
+    Ok(outcome?)
+}
+
+/// Keys, and between which places they stand.
+static FOUND: [(i64, usize, usize); 3] = [(3, 2, 3), (5, 4, 4), (0, 0, 0)];
+
+/// That a group finds its keys.
+fn check_keys(rt: &impl Abort, group: &Packed) {
+    for (key, from, to) in &FOUND {
+        let places = group.find(Key(*key));
+        assert!(rt; (places.from, places.to) == (*from, *to), "of {key}");
     }
     assert!(rt; group.width() == 3 && group.stamped().len() == 0);
+}
+
+/// That the keys of a group stand in codes of two bits.
+fn check_codes(rt: &impl Abort, group: &Packed) {
+    assert!(rt; group.width() == 3);
     match &group.segment(0).body {
         SegmentBody::ValuePacked { width, codes, .. } => {
             assert!(rt; *width == 2 && codes.as_slice() == [177].as_slice());
         }
         _ => assert!(rt; false),
     }
+}
+
+#[test]
+fn a_group_finds_its_keys(rt: HostRuntime) -> Result<(), Fail> {
+    let group = some_group(&rt, rt.alloc(), &FOUR_ROWS)?;
+    check_keys(&rt, &group);
+    check_codes(&rt, &group);
+    drop(group);
     Ok(())
 }

@@ -1,3 +1,4 @@
+use cs_base::Memory;
 use segment_dict::{NumberDict, TextDict, numbers_of, texts_of};
 use std::alloc::Global;
 use std::process::Abort;
@@ -6,7 +7,7 @@ use std::test::Fail;
 /// Numbers, their dictionary, whether one is NULL, and their codes.
 type Numbers = (&'static [Option<i64>], &'static [i64], bool, &'static [u64]);
 
-const NUMBERS: [Numbers; 5] = [
+static NUMBERS: [Numbers; 5] = [
     (&[], &[], false, &[]),
     (&[None, None], &[], true, &[0, 0]),
     (&[Some(7)], &[7], false, &[0]),
@@ -30,23 +31,30 @@ fn check_numbers(rt: &impl Abort, dict: &NumberDict, cells: &[Option<i64>], code
         let code = dict.code_of(cells[i]);
         assert!(rt; code == codes.get(i).copied(), "{i} of {cells:?}");
         if let Some(code) = code {
-            assert!(rt; dict.entry(code) == cells[i], "{i} of {cells:?}");
+            assert!(rt; dict.entry(code) == cells[i]);
         }
     }
 }
 
+/// That the numbers of a case have their dictionary.
+fn check_number_dict(rt: &impl Abort, alloc: Global, case: &Numbers) -> Result<(), Memory> {
+    let (cells, wanted, has_null, codes) = *case;
+    let dict = numbers_of(alloc, cells)?;
+    check_numbers(rt, &dict, cells, codes);
+    assert!(rt; dict.code_of(Some(5)).is_none() && dict.words() == wanted.len() as u64);
+    // The fields, all of them.
+    let NumberDict { entries, nulls } = &dict;
+    assert!(rt;
+        (entries.as_slice(), *nulls) == (wanted, has_null),
+        "of {cells:?}"
+    );
+    Ok(())
+}
+
 #[test]
 fn numbers_are_sorted(rt: HostRuntime) -> Result<(), Fail> {
-    for &(cells, wanted, has_null, codes) in &NUMBERS {
-        let dict = numbers_of(rt.alloc(), cells)?;
-        check_numbers(&rt, &dict, cells, codes);
-        assert!(rt; dict.code_of(Some(5)).is_none() && dict.words() == wanted.len() as u64);
-        // The fields, all of them.
-        let NumberDict { entries, nulls } = dict;
-        assert!(rt;
-            entries.as_slice() == wanted && nulls == has_null,
-            "of {cells:?}"
-        );
+    for case in &NUMBERS {
+        check_number_dict(&rt, rt.alloc(), case)?;
     }
     Ok(())
 }
@@ -61,7 +69,7 @@ type Texts = (
     &'static [u64],
 );
 
-const TEXTS: [Texts; 7] = [
+static TEXTS: [Texts; 7] = [
     (&[], &[], b"", false, 0, &[]),
     (&[None], &[], b"", true, 0, &[0]),
     (&[Some(b"")], &[0], b"", false, 1, &[0]),
@@ -91,30 +99,33 @@ fn check_texts(rt: &impl Abort, dict: &TextDict, cells: &[Option<&[u8]>], codes:
         let code = dict.code_of(cells[i]);
         assert!(rt; code == codes.get(i).copied(), "{i} of {cells:?}");
         if let Some(code) = code {
-            assert!(rt; dict.entry(code) == cells[i], "{i} of {cells:?}");
+            assert!(rt; dict.entry(code) == cells[i]);
         }
     }
 }
 
+/// The fields of a dictionary, all of them.
+fn check_fields(rt: &impl Abort, dict: &TextDict, wanted: (&[u64], &[u8], bool)) {
+    let TextDict { ends, bytes, nulls } = dict;
+    assert!(rt; (ends.as_slice(), bytes.as_slice(), *nulls) == wanted);
+}
+
 /// That the texts of a case have their dictionary.
-fn check_dict(rt: &impl Abort, alloc: Global, case: Texts) -> Result<(), Fail> {
-    let (cells, wanted_ends, wanted_bytes, has_null, words, codes) = case;
+fn check_dict(rt: &impl Abort, alloc: Global, case: &Texts) -> Result<(), Memory> {
+    let (cells, ends, bytes, has_null, words, codes) = *case;
     let dict = texts_of(alloc, cells)?;
     check_texts(rt, &dict, cells, codes);
     assert!(rt;
         dict.code_of(Some(b"a")).is_none() && dict.words() == words,
         "of {cells:?}"
     );
-    // The fields, all of them.
-    let TextDict { ends, bytes, nulls } = dict;
-    assert!(rt; ends.as_slice() == wanted_ends && bytes.as_slice() == wanted_bytes);
-    assert!(rt; nulls == has_null, "of {cells:?}");
+    check_fields(rt, &dict, (ends, bytes, has_null));
     Ok(())
 }
 
 #[test]
 fn texts_are_sorted_and_joined(rt: HostRuntime) -> Result<(), Fail> {
-    for &case in &TEXTS {
+    for case in &TEXTS {
         check_dict(&rt, rt.alloc(), case)?;
     }
     Ok(())

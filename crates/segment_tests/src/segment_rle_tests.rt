@@ -1,4 +1,7 @@
+use cs_base::Memory;
 use segment_rle::{Runs, runs_of};
+use std::alloc::Global;
+use std::process::Abort;
 use std::test::Fail;
 
 const LAST: u64 = u64::MAX;
@@ -6,7 +9,7 @@ const LAST: u64 = u64::MAX;
 /// Codes, the codes and the ends of their runs, and how many words those are.
 type Case = (&'static [u64], &'static [u64], &'static [u64], u64);
 
-const CASES: [Case; 6] = [
+static CASES: [Case; 6] = [
     (&[], &[], &[], 0),
     (&[5], &[5], &[1], 2),
     (&[7, 7, 7], &[7], &[3], 2),
@@ -15,17 +18,27 @@ const CASES: [Case; 6] = [
     (&[3, 4, 3, 4], &[3, 4, 3, 4], &[1, 2, 3, 4], 8),
 ];
 
+/// The words and the fields of runs, all of them.
+fn check_runs(rt: &impl Abort, runs: &Runs, case: &Case) {
+    let (of, wanted_codes, wanted_ends, words) = *case;
+    let Runs { codes, ends } = runs;
+    assert!(rt;
+        (runs.words(), codes.as_slice(), ends.as_slice()) == (words, wanted_codes, wanted_ends),
+        "of {of:?}"
+    );
+}
+
+/// That the codes of a case have their runs.
+fn check_case(rt: &impl Abort, alloc: Global, case: &Case) -> Result<(), Memory> {
+    let runs = runs_of(alloc, case.0)?;
+    check_runs(rt, &runs, case);
+    Ok(())
+}
+
 #[test]
 fn runs_are_maximal(rt: HostRuntime) -> Result<(), Fail> {
-    for &(codes, run_codes, run_ends, words) in &CASES {
-        let runs = runs_of(rt.alloc(), codes)?;
-        assert!(rt; runs.words() == words, "of {codes:?}");
-        // The fields, all of them.
-        let Runs { codes: kept, ends } = runs;
-        assert!(rt;
-            kept.as_slice() == run_codes && ends.as_slice() == run_ends,
-            "of {codes:?}"
-        );
+    for case in &CASES {
+        check_case(&rt, rt.alloc(), case)?;
     }
     Ok(())
 }

@@ -1,4 +1,5 @@
-use segment_value::{restore, scale_of, shrink};
+use segment_value::{Scale, restore, scale_of, shrink};
+use std::process::Abort;
 
 const LEAST: i64 = i64::MIN;
 
@@ -13,7 +14,7 @@ type Case = (
     &'static [u64],
 );
 
-const CASES: [Case; 13] = [
+static CASES: [Case; 13] = [
     (&[], Some((0, 0, false)), &[]),
     (&[None], Some((0, 0, true)), &[0]),
     (&[Some(5)], Some((0, 5, false)), &[0]),
@@ -41,22 +42,31 @@ const CASES: [Case; 13] = [
     (&[Some(LEAST), Some(MOST), None], None, &[]),
 ];
 
-#[test]
-fn cells_become_codes_and_come_back(rt: HostRuntime) {
-    for &(cells, wanted, codes) in &CASES {
-        let found = scale_of(cells);
+/// That each cell has its code, and the code its cell.
+fn check_codes(rt: &impl Abort, scale: Scale, cells: &[Option<i64>], codes: &[u64]) {
+    for i in 0..cells.len() {
+        let code = shrink(scale, cells[i]);
         assert!(rt;
-            found.map(|it| (it.exponent, it.base, it.nulls)) == wanted,
+            codes.get(i) == Some(&code) && restore(scale, code) == cells[i],
             "of {cells:?}"
         );
-        if let Some(scale) = found {
-            for i in 0..cells.len() {
-                let code = shrink(scale, cells[i]);
-                assert!(rt;
-                    codes.get(i) == Some(&code) && restore(scale, code) == cells[i],
-                    "of {cells:?}"
-                );
-            }
-        }
+    }
+}
+
+/// That the cells of a case have their scale.
+fn check_case(rt: &impl Abort, case: &Case) {
+    let (cells, wanted, codes) = *case;
+    let found = scale_of(cells);
+    let parts = found.map(|it| (it.exponent, it.base, it.nulls));
+    assert!(rt; parts == wanted, "of {cells:?}");
+    if let Some(scale) = found {
+        check_codes(rt, scale, cells, codes);
+    }
+}
+
+#[test]
+fn cells_become_codes_and_come_back(rt: HostRuntime) {
+    for case in &CASES {
+        check_case(&rt, case);
     }
 }

@@ -5,7 +5,7 @@ ghost use Rattle.cs_types.specs.Schemas.{IsSchema, IsRowOf};
 use crate::row_group_tests::{fits, name};
 use cs_base::{Items, Memory};
 use cs_types::{ColumnType, Row, Schema, Value, Version};
-use row_group::pack_rows;
+use row_group::{Packed, pack_rows};
 use std::alloc::Global;
 use std::process::Abort;
 use std::test::Fail;
@@ -60,18 +60,46 @@ fn wide_versions(
     Ok(versions)
 }
 
+/// The packed group of 300 rows of a wide table.
+fn wide_group(rt: &impl Abort, alloc: Global, schema: &Schema) -> Result<Packed, Memory>
+    requires { IsSchema schema.now }
+{
+    let group = pack_rows(alloc, schema, wide_versions(rt, alloc, schema, 300)?, 0)?;
+    assert!(rt; group.is_some());
+    Ok(group.unwrap())
+}
+
+/// The rows of the group are those of the table.
+fn check_rows(
+    rt: &impl Abort,
+    alloc: Global,
+    schema: &Schema,
+    group: &Packed,
+) -> Result<(), Memory> {
+    assert!(rt; (group.len(), group.width()) == (300, 32));
+    for place in 0..group.places().len() {
+        let row = group.row(group.place(place))?;
+        assert!(rt; row == wide_row(alloc, schema, place)?, "at {place}");
+    }
+    Ok(())
+}
+
+/// That the rows of a wide table come back.
+fn check_table(rt: &impl Abort, alloc: Global, schema: &Schema) -> Result<(), Memory>
+    requires { IsSchema schema.now }
+{
+    let group = wide_group(rt, alloc, schema)?;
+    let outcome = check_rows(rt, alloc, schema, &group);
+    drop(group);
+    outcome
+}
+
 /// Rows of 32 columns, of each type in turn and with NULL in each column but the key, come back as they were.
 #[test]
 fn a_wide_table_comes_back(rt: HostRuntime) -> Result<(), Fail> {
-    let alloc = rt.alloc();
-    let schema = read_table(alloc, WIDE)?;
-    assert_eq!(rt; schema.columns.len(), 32);
-    let versions = wide_versions(&rt, alloc, &schema, 300)?;
-    let group = pack_rows(alloc, &schema, versions, 0)?.ok_or("no group")?;
-    assert_eq!(rt; (group.len(), group.width()), (300, 32));
-    for place in 0..group.places().len() {
-        let row = group.row(group.place(place))?;
-        assert_eq!(rt; row, wide_row(alloc, &schema, place)?, "at {place}");
-    }
-    Ok(())
+    let schema = read_table(rt.alloc(), WIDE)?;
+    assert!(rt; schema.columns.len() == 32);
+    let outcome = check_table(&rt, rt.alloc(), &schema);
+    drop(schema);
+    Ok(outcome?)
 }

@@ -170,7 +170,7 @@ type Chosen = (
     Choice,
 );
 
-const FIRST: [Chosen; 16] = [
+static FIRST: [Chosen; 16] = [
     (
         &[FOUR, Made::Closed, Made::Closed],
         &[(2, 5)],
@@ -206,10 +206,12 @@ const FIRST: [Chosen; 16] = [
 
 #[test]
 fn the_first_choice_is_made(rt: HostRuntime) -> Result<(), Fail> {
-    for &(given, entries, claimed, choice) in &FIRST {
+    for (given, entries, claimed, choice) in &FIRST {
         let list = list_of(&rt, rt.alloc(), given, entries, claimed, 9)?;
         let made = next_work(&list, 10, 4, Actor::Mover(1));
-        assert!(rt; made == choice, "{made:?} for {choice:?}");
+        // What is let go by a call has a short proof, and what is let go at the end of its scope a long one.
+        drop(list);
+        assert!(rt; made == *choice, "{made:?} for {choice:?}");
     }
     Ok(())
 }
@@ -224,7 +226,7 @@ const GREATEST: u64 = 1 << 62;
 /// The groups, the entries of the buffer, the next id, who asks, and what is chosen.
 type Bounded = (&'static [Made], &'static [(i64, u64)], u64, Actor, Choice);
 
-const BOUNDED: [Bounded; 10] = [
+static BOUNDED: [Bounded; 10] = [
     (
         &[Made::Closed, FOUR],
         &[(2, 5)],
@@ -263,23 +265,26 @@ const BOUNDED: [Bounded; 10] = [
 
 #[test]
 fn actors_and_ids_bound_it(rt: HostRuntime) -> Result<(), Fail> {
-    for &(given, entries, next, actor, choice) in &BOUNDED {
-        let list = list_of(&rt, rt.alloc(), given, entries, &[], next)?;
-        let made = next_work(&list, 10, 4, actor);
-        assert!(rt; made == choice, "{made:?} for {choice:?}");
+    for (given, entries, next, actor, choice) in &BOUNDED {
+        let list = list_of(&rt, rt.alloc(), given, entries, &[], *next)?;
+        let made = next_work(&list, 10, 4, *actor);
+        drop(list);
+        assert!(rt; made == *choice, "{made:?} for {choice:?}");
     }
     Ok(())
 }
 
-const LENT: [Made; 4] = [FOUR, TWO, Made::Packed(7, 9, 0), Made::Closed];
+static LENT: [Made; 4] = [FOUR, TWO, Made::Packed(7, 9, 0), Made::Closed];
 
-const ENTRIES: [(i64, u64); 7] = [(8, 3), (2, 12), (2, 5), (3, 11), (5, 1), (7, 13), (9, 4)];
+static ENTRIES: [(i64, u64); 7] = [(8, 3), (2, 12), (2, 5), (3, 11), (5, 1), (7, 13), (9, 4)];
 
 #[test]
 fn flushes_have_their_entries(rt: HostRuntime) -> Result<(), Fail> {
     let alloc = rt.alloc();
     let list = list_of(&rt, alloc, &LENT, &ENTRIES, &[3], 9)?;
-    let flush = flush_of(alloc, &list)?;
+    let flush = flush_of(alloc, &list);
+    drop(list);
+    let flush = flush?;
     assert!(rt; flush.sources.as_slice() == [1].as_slice());
     assert!(rt; flush.entries.as_slice() == [(Key(2), 5), (Key(3), 11)].as_slice());
     Ok(())

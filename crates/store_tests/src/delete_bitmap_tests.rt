@@ -29,7 +29,7 @@ fn expect_ends(rt: &impl Abort, marks: &Marks, expected: &[(usize, Option<Marked
 }
 
 /// The ends of five versions, of which those that come again or are not there change nothing.
-const GIVEN: [(usize, u64); 5] = [(3, 7), (0, 9), (4, 8), (3, 1), (5, 1)];
+static GIVEN: [(usize, u64); 5] = [(3, 7), (0, 9), (4, 8), (3, 1), (5, 1)];
 
 #[test]
 fn ends_are_counted(rt: HostRuntime) -> Result<(), Fail> {
@@ -49,7 +49,7 @@ const LAST: Option<MarkedEnd> = Some(MarkedEnd::Stamped(9));
 const PLAIN: Option<MarkedEnd> = Some(MarkedEnd::Plain);
 
 /// The ends of those versions once they are settled at commit 7, and at commit 8.
-const AT_SEVEN: [(usize, Option<MarkedEnd>); 5] = [
+static AT_SEVEN: [(usize, Option<MarkedEnd>); 5] = [
     (0, LAST),
     (1, None),
     (3, PLAIN),
@@ -57,7 +57,7 @@ const AT_SEVEN: [(usize, Option<MarkedEnd>); 5] = [
     (5, None),
 ];
 
-const AT_EIGHT: [(usize, Option<MarkedEnd>); 5] = [
+static AT_EIGHT: [(usize, Option<MarkedEnd>); 5] = [
     (0, LAST),
     (1, None),
     (3, PLAIN),
@@ -113,9 +113,9 @@ fn ended_at(alloc: Global, marks: &Marks, s: u64) -> Result<Positions, Memory> {
 }
 
 /// Two positions, the commit that ends both, and whether it does.
-const TWOS: [(usize, usize, u64, bool); 3] = [(2, 3, 7, true), (3, 5, 8, false), (1, 5, 9, true)];
+static TWOS: [(usize, usize, u64, bool); 3] = [(2, 3, 7, true), (3, 5, 8, false), (1, 5, 9, true)];
 
-const AFTER_TWOS: [(usize, u64); 6] = [(0, 3), (1, 9), (2, 7), (3, 7), (4, 2), (5, 9)];
+static AFTER_TWOS: [(usize, u64); 6] = [(0, 3), (1, 9), (2, 7), (3, 7), (4, 2), (5, 9)];
 
 #[test]
 fn batches_are_marked(rt: HostRuntime) -> Result<(), Fail> {
@@ -132,14 +132,14 @@ fn batches_are_marked(rt: HostRuntime) -> Result<(), Fail> {
 }
 
 /// Two positions with their commits, and whether they end.
-const PAIRS: [((usize, u64), (usize, u64), bool); 4] = [
+static PAIRS: [((usize, u64), (usize, u64), bool); 4] = [
     ((64, 7), (65, 3), true),
     ((62, 4), (129, 5), true),
     ((0, 4), (129, 6), false),
     ((1, 4), (130, 6), false),
 ];
 
-const AFTER_PAIRS: [(usize, u64); 6] = [(62, 4), (63, 2), (64, 7), (65, 3), (128, 9), (129, 5)];
+static AFTER_PAIRS: [(usize, u64); 6] = [(62, 4), (63, 2), (64, 7), (65, 3), (128, 9), (129, 5)];
 
 #[test]
 fn batches_keep_their_commits(rt: HostRuntime) -> Result<(), Fail> {
@@ -290,7 +290,7 @@ fn ends_stand_at_the_edges_of_words(rt: HostRuntime) -> Result<(), Fail> {
 }
 
 /// The ends of 65 versions beside the edge of a word.
-const AT_EDGE: [(usize, Option<MarkedEnd>); 5] = [
+static AT_EDGE: [(usize, Option<MarkedEnd>); 5] = [
     (0, None),
     (62, None),
     (63, Some(MarkedEnd::Stamped(1))),

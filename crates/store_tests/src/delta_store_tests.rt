@@ -69,7 +69,7 @@ fn expect_places(rt: &impl Abort, frozen: &Frozen, expected: &[(i64, Option<usiz
 }
 
 /// Keys with their numbers and commits.
-const PUTS: [(i64, i64, u64); 6] = [
+static PUTS: [(i64, i64, u64); 6] = [
     (7, 70, 1),
     (-3, 30, 2),
     (7, 71, 4),
@@ -79,7 +79,7 @@ const PUTS: [(i64, i64, u64); 6] = [
 ];
 
 /// Their versions, once the key -3 has ended at commit 8, and once the key 9 has ended at commit 10.
-const AT_EIGHT: [Parts; 6] = [
+static AT_EIGHT: [Parts; 6] = [
     (7, 70, 1, Some(4)),
     (-3, 30, 2, Some(6)),
     (7, 71, 4, Some(7)),
@@ -88,7 +88,7 @@ const AT_EIGHT: [Parts; 6] = [
     (7, 72, 7, None),
 ];
 
-const AT_TEN: [Parts; 6] = [
+static AT_TEN: [Parts; 6] = [
     (7, 70, 1, Some(4)),
     (-3, 30, 2, Some(6)),
     (7, 71, 4, Some(7)),
@@ -98,7 +98,7 @@ const AT_TEN: [Parts; 6] = [
 ];
 
 /// The places of their last versions.
-const PLACES: [(i64, Option<usize>); 5] = [
+static PLACES: [(i64, Option<usize>); 5] = [
     (7, Some(5)),
     (-3, Some(4)),
     (9, Some(3)),
@@ -143,7 +143,7 @@ fn expect_earlier(rt: &impl Abort, frozen: &Frozen, i: usize, place: Option<usiz
 }
 
 /// A store in which each of three keys got a version at each of these commits, and how many versions it had before each.
-const ROUNDS: [(usize, u64); 5] = [(0, 1), (3, 11), (6, 21), (9, 31), (12, 41)];
+static ROUNDS: [(usize, u64); 5] = [(0, 1), (3, 11), (6, 21), (9, 31), (12, 41)];
 
 /// Adds a version of each of the three keys, which then stand from a place on.
 fn add_round(rt: &impl Abort, alloc: Global, delta: &mut Delta, commit: u64) -> Result<(), Memory> {
@@ -173,7 +173,7 @@ fn five_rounds(rt: &impl Abort, alloc: Global) -> Result<Frozen, Memory> {
 }
 
 /// The places of the versions before those at some places.
-const EARLIER: [(usize, Option<usize>); 9] = [
+static EARLIER: [(usize, Option<usize>); 9] = [
     (0, None),
     (1, None),
     (2, None),
@@ -198,7 +198,7 @@ fn five_versions_of_a_key(rt: HostRuntime) -> Result<(), Fail> {
 }
 
 /// Keys whose commits do not ascend.
-const NO_ORDER: [(i64, i64, u64); 6] = [
+static NO_ORDER: [(i64, i64, u64); 6] = [
     (7, 0, 5),
     (-3, 0, 6),
     (7, 0, 9),
@@ -300,7 +300,7 @@ fn held_shares(
 
 /// First and last keys of stores that grow by a piece at each key after the first: by few pieces, across as many as a chunk has,
 /// twice as many and more, and across the places at which a chunk is full.
-const GROWTHS: [(u16, u16); 9] = [
+static GROWTHS: [(u16, u16); 9] = [
     (0, 1),
     (0, 14),
     (3, 19),
@@ -419,7 +419,7 @@ type Between = ((i64, i64), &'static [(i64, usize)]);
 
 const ALL: &[(i64, usize)] = &[(-3, 4), (7, 5), (9, 3), (20, 6)];
 
-const BETWEEN: [Between; 6] = [
+static BETWEEN: [Between; 6] = [
     ((i64::MIN, i64::MAX), ALL),
     ((-3, 20), ALL),
     ((-2, 9), &[(7, 5), (9, 3)]),

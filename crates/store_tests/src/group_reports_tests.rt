@@ -159,19 +159,23 @@ fn packed(
     Ok(GroupPart::Packed(Arc::new(alloc, group)?, Arc::new(alloc, marks)?))
 }
 
+/// The rows of the first group, and of the last one.
+static FIRST: [Cells<'static>; 4] = [
+    (1, Some(7), Some(b"a")),
+    (2, Some(7), None),
+    (3, Some(7), Some(b"b")),
+    (4, Some(7), Some(b"a")),
+];
+
+static LAST: [Cells<'static>; 1] = [(-9, None, None)];
+
 /// Two COMPRESSED groups, and between them a delta store.
 fn view_of(rt: &impl Abort, alloc: Global, schema: &Schema) -> Result<GroupView, Memory>
     requires { IsSchema schema.now }
     ensures { IfOk result (λ view. ArePackedParts schema.now view.groups) }
 {
-    let rows: [Cells<'_>; 4] = [
-        (1, Some(7), Some(b"a")),
-        (2, Some(7), None),
-        (3, Some(7), Some(b"b")),
-        (4, Some(7), Some(b"a")),
-    ];
-    let first = packed(rt, alloc, schema, &rows)?;
-    let last = packed(rt, alloc, schema, &[(-9, None, None)])?;
+    let first = packed(rt, alloc, schema, &FIRST)?;
+    let last = packed(rt, alloc, schema, &LAST)?;
     let store = GroupPart::Store(Arc::new(alloc, Delta::new(alloc).freeze())?);
     let mut groups = Items::new(alloc);
     groups.push((1, first))?;
@@ -186,6 +190,15 @@ fn view_of(rt: &impl Abort, alloc: Global, schema: &Schema) -> Result<GroupView,
     })
 }
 
+/// A line is this one, of this group.
+fn check_line(rt: &impl Abort, line: &SegmentLine, wanted: &(u64, Line), bound: &(Value, Value)) {
+    let (id, (column, encoding, rows, nulls, words)) = *wanted;
+    assert!(rt; line.id == id && line.column == column);
+    assert!(rt; line.encoding == encoding && line.rows == rows);
+    assert!(rt; line.nulls == nulls && line.words == words);
+    assert!(rt; line.least == bound.0 && line.greatest == bound.1);
+}
+
 /// The lines are these, by group.
 fn check(
     rt: &impl Abort,
@@ -193,23 +206,14 @@ fn check(
     wanted: &[(u64, Line)],
     bounds: &[(Value, Value)],
 ) {
-    assert_eq!(rt; (lines.len(), bounds.len()), (wanted.len(), wanted.len()));
+    assert!(rt; lines.len() == wanted.len() && bounds.len() == wanted.len());
     for (line, (want, bound)) in lines.iter().zip(wanted.iter().zip(bounds)) {
-        let kept = (
-            line.column,
-            line.encoding,
-            line.rows,
-            line.nulls,
-            line.words,
-        );
-        assert_eq!(rt; (line.id, kept), *want);
-        assert_eq!(rt; &line.least, &bound.0);
-        assert_eq!(rt; &line.greatest, &bound.1);
+        check_line(rt, line, want, bound);
     }
 }
 
 /// The lines of the view's packed groups.
-const WANTED: [(u64, Line); 6] = [
+static WANTED: [(u64, Line); 6] = [
     (1, (1, Encoding::ValuePacked, 4, false, 3)),
     (1, (2, Encoding::DictPacked, 4, false, 1)),
     (1, (3, Encoding::DictPacked, 4, true, 4)),
@@ -252,7 +256,7 @@ fn a_group_report_is_its_lines(rt: HostRuntime) -> Result<(), Fail> {
         deleted: 1,
     })?;
     match group_lines(lines, 6) {
-        Reply::Groups { lines, buffered } => assert_eq!(rt; (lines.len(), buffered), (1, 6)),
+        Reply::Groups { lines, buffered } => assert!(rt; lines.len() == 1 && buffered == 6),
         _ => assert!(rt; false),
     }
     Ok(())

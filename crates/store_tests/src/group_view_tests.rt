@@ -88,24 +88,70 @@ fn view_of(rt: &impl Abort, alloc: Global) -> Result<GroupView, Memory>
     })
 }
 
+/// Keys, snapshots, and where the versions stand that they see.
+static SEEN: [(i64, u64, Option<Place>); 10] = [
+    (1, 2, None),
+    (
+        1,
+        5,
+        Some(Place {
+            group: 0,
+            position: 0,
+        }),
+    ),
+    (
+        1,
+        6,
+        Some(Place {
+            group: 0,
+            position: 2,
+        }),
+    ),
+    (
+        2,
+        8,
+        Some(Place {
+            group: 0,
+            position: 1,
+        }),
+    ),
+    (2, 9, None),
+    (5, 3, None),
+    (
+        6,
+        8,
+        Some(Place {
+            group: 1,
+            position: 1,
+        }),
+    ),
+    (
+        7,
+        9,
+        Some(Place {
+            group: 1,
+            position: 2,
+        }),
+    ),
+    (7, 10, None),
+    (
+        8,
+        6,
+        Some(Place {
+            group: 1,
+            position: 3,
+        }),
+    ),
+];
+
 #[test]
 fn snapshots_see_their_versions(rt: HostRuntime) -> Result<(), Fail> {
     let view = view_of(&rt, rt.alloc())?;
-    for &(key, s, found) in &[
-        (1, 2, None),
-        (1, 5, Some((0, 0))),
-        (1, 6, Some((0, 2))),
-        (2, 8, Some((0, 1))),
-        (2, 9, None),
-        (5, 3, None),
-        (6, 8, Some((1, 1))),
-        (7, 9, Some((1, 2))),
-        (7, 10, None),
-        (8, 6, Some((1, 3))),
-    ] {
-        let place = found.map(|(group, position)| Place { group, position });
-        assert_eq!(rt; view.lookup(Key(key), s), place, "{key} at {s}");
+    for (key, s, found) in &SEEN {
+        assert!(rt; view.lookup(Key(*key), *s) == *found, "{key} at {s}");
     }
+    // What is let go by a call has a short proof, and what is let go at the end of its scope a long one.
+    drop(view);
     Ok(())
 }
 
@@ -123,23 +169,34 @@ fn view_of_versions(alloc: Global) -> Result<GroupView, Memory>
     })
 }
 
+/// Snapshots, and where in the store the version stands that they see.
+static OLDER: [(u64, Option<usize>); 9] = [
+    (2, None),
+    (3, Some(0)),
+    (5, Some(0)),
+    (6, Some(1)),
+    (8, Some(1)),
+    (9, Some(3)),
+    (10, Some(3)),
+    (11, None),
+    (12, None),
+];
+
+/// A place in the first group.
+fn in_store(position: Option<usize>) -> Option<Place> {
+    match position {
+        Some(position) => Some(Place { group: 0, position }),
+        None => None,
+    }
+}
+
 #[test]
 fn older_snapshots_see_older_versions(rt: HostRuntime) -> Result<(), Fail> {
     let view = view_of_versions(rt.alloc())?;
-    for &(s, found) in &[
-        (2, None),
-        (3, Some(0)),
-        (5, Some(0)),
-        (6, Some(1)),
-        (8, Some(1)),
-        (9, Some(3)),
-        (10, Some(3)),
-        (11, None),
-        (12, None),
-    ] {
-        let place = found.map(|position| Place { group: 0, position });
-        assert_eq!(rt; view.lookup(Key(1), s), place, "at {s}");
+    for (s, found) in &OLDER {
+        assert!(rt; view.lookup(Key(1), *s) == in_store(*found), "at {s}");
     }
+    drop(view);
     Ok(())
 }
 

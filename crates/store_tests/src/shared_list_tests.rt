@@ -24,7 +24,7 @@ fn list_of(alloc: Global, lengths: &[u8]) -> Result<SharedList<usize>, Memory> {
 }
 
 /// Lengths of chunks, and the number of items.
-const LISTS: [(&[u8], usize); 6] = [
+static LISTS: [(&[u8], usize); 6] = [
     (&[], 0),
     (&[0, 0], 0),
     (&[3], 3),
@@ -38,13 +38,10 @@ fn lists_have_their_items(rt: HostRuntime) -> Result<(), Fail> {
     for (lengths, total) in &LISTS {
         let list = list_of(rt.alloc(), lengths)?;
         let shared = list.share()?;
-        assert_eq!(rt;
-            (list.len(), shared.len(), list.is_empty()),
-            (*total, *total, *total == 0)
-        );
+        assert!(rt; (list.len(), shared.len(), list.is_empty()) == (*total, *total, *total == 0));
         for i in 0..*total + 1 {
             let wanted = if i < *total { Some(i) } else { None };
-            assert_eq!(rt; shared.get(i).copied(), wanted, "at {i}");
+            assert!(rt; shared.get(i).copied() == wanted, "at {i}");
         }
     }
     Ok(())
@@ -55,10 +52,7 @@ fn shares_stay_as_they_were(rt: HostRuntime) -> Result<(), Fail> {
     let mut list = SharedList::from_vec(rt.alloc(), numbers(rt.alloc(), 0, 5)?)?;
     let before = list.share()?;
     list.append(Arc::new(rt.alloc(), numbers(rt.alloc(), 5, 2)?)?)?;
-    assert_eq!(rt; (before.len(), list.len()), (5, 7));
-    assert_eq!(rt;
-        (before.get(5).copied(), list.get(5).copied()),
-        (None, Some(5))
-    );
+    assert!(rt; (before.len(), list.len()) == (5, 7));
+    assert!(rt; (before.get(5).copied(), list.get(5).copied()) == (None, Some(5)));
     Ok(())
 }

@@ -60,21 +60,21 @@ fn end(txns: &mut Txns, session: u32)
 fn transactions_open_and_end(rt: HostRuntime) -> Result<(), Fail> {
     let mut txns = Txns::new();
     let numbers = (open(&mut txns, 64, 1), open(&mut txns, 1, 0));
-    assert_eq!(rt; numbers, (1, 2));
-    assert_eq!(rt; (txns.depth(64), txns.depth(2)), (Some(1), None));
-    assert_eq!(rt; txns.floor(9), 9);
+    assert!(rt; numbers == (1, 2));
+    assert!(rt; (txns.depth(64), txns.depth(2)) == (Some(1), None));
+    assert!(rt; txns.floor(9) == 9);
     fix(&mut txns, 64, 4);
     fix(&mut txns, 1, 3);
     fix(&mut txns, 1, 8);
-    assert_eq!(rt; txns.floor(9), 3);
+    assert!(rt; txns.floor(9) == 3);
     for &key in &[5, 2] {
         delete(&mut txns, rt.alloc(), 64, key)?;
     }
-    assert_eq!(rt; (txns.own(64)?.len(), txns.own(1)?.len()), (2, 0));
+    assert!(rt; (txns.own(64)?.len(), txns.own(1)?.len()) == (2, 0));
     for &(key, but, holder) in &[(5, 1, Some(1)), (5, 64, None), (3, 1, None)] {
-        assert_eq!(rt; txns.holder(Key(key), but), holder, "of {key}");
+        assert!(rt; txns.holder(Key(key), but) == holder, "of {key}");
     }
     end(&mut txns, 1);
-    assert_eq!(rt; (txns.depth(1), txns.floor(9)), (None, 4));
+    assert!(rt; (txns.depth(1), txns.floor(9)) == (None, 4));
     Ok(())
 }

@@ -21,7 +21,7 @@ fn note_newer(recent: &mut Recent, key: Key, change: NewestChange) -> Result<(),
 #[test]
 fn changes_are_noted_and_pruned(rt: HostRuntime) -> Result<(), Fail> {
     let mut recent = Recent::new(rt.alloc());
-    assert_eq!(rt; (recent.len(), recent.newest(Key(7))), (0, None));
+    assert!(rt; (recent.len(), recent.newest(Key(7))) == (0, None));
     for &(key, commit, txn) in &[(7, 1, 4), (-3, 2, 3), (7, 3, 9), (8, 4, 6)] {
         note_newer(&mut recent, Key(key), NewestChange { commit, txn })?;
     }
@@ -32,14 +32,14 @@ fn changes_are_noted_and_pruned(rt: HostRuntime) -> Result<(), Fail> {
         (8, Some(last)),
         (0, None),
     ] {
-        assert_eq!(rt; recent.newest(Key(key)), newest, "of {key}");
+        assert!(rt; recent.newest(Key(key)) == newest, "of {key}");
     }
-    assert_eq!(rt; recent.len(), 3);
+    assert!(rt; recent.len() == 3);
     recent.prune(3);
     for &(key, newest) in &[(7, None), (-3, None), (8, Some(last))] {
-        assert_eq!(rt; recent.newest(Key(key)), newest, "of {key}");
+        assert!(rt; recent.newest(Key(key)) == newest, "of {key}");
     }
-    assert_eq!(rt; recent.len(), 1);
+    assert!(rt; recent.len() == 1);
     Ok(())
 }
 
@@ -104,7 +104,7 @@ fn note_load(
 
 /// How many keys are loaded, whether a key was noted by itself before, and whether the keys are kept as a run, which
 /// shows in that keys above them are seen to lie apart.
-const KEPT: [(u32, bool, bool); 5] = [
+static KEPT: [(u32, bool, bool); 5] = [
     (1, false, false),
     (4_095, false, false),
     (4_096, false, true),
@@ -145,7 +145,7 @@ fn check_kept(
 
 #[test]
 fn many_keys_are_kept_as_a_run(rt: HostRuntime) -> Result<(), Fail> {
-    assert_eq!(rt; LEAST_RUN, 4_096);
+    assert!(rt; LEAST_RUN == 4_096);
     for &(count, filled, run) in &KEPT {
         check_kept(&rt, rt.alloc(), count, filled, run)?;
     }
@@ -156,7 +156,7 @@ fn many_keys_are_kept_as_a_run(rt: HostRuntime) -> Result<(), Fail> {
 /// 12,999 by 2 and key 8,001 by 3; and the same after a prune at 1 and at 2.
 type Newest = (i64, Option<u64>, Option<u64>, Option<u64>);
 
-const NEWEST: [Newest; 11] = [
+static NEWEST: [Newest; 11] = [
     (-2, None, None, None),
     (0, Some(1), None, None),
     (1, None, None, None),
@@ -182,18 +182,18 @@ fn the_latest_run_answers(rt: HostRuntime) -> Result<(), Fail> {
     assert!(rt; note_load(&mut recent, rt.alloc(), 0, 2, 8_192, 1)?);
     assert!(rt; !note_load(&mut recent, rt.alloc(), 8_000, 1, 5_000, 1)?);
     assert!(rt; note_load(&mut recent, rt.alloc(), 8_000, 1, 5_000, 2)?);
-    assert_eq!(rt; recent.len(), 13_192);
+    assert!(rt; recent.len() == 13_192);
     note_newer(&mut recent, Key(8_001), NewestChange { commit: 3, txn: 3 })?;
     for &(key, commit, _, _) in &NEWEST {
         expect_newest(&rt, &recent, key, commit);
     }
     recent.prune(1);
-    assert_eq!(rt; recent.len(), 5_001);
+    assert!(rt; recent.len() == 5_001);
     for &(key, _, commit, _) in &NEWEST {
         expect_newest(&rt, &recent, key, commit);
     }
     recent.prune(2);
-    assert_eq!(rt; recent.len(), 1);
+    assert!(rt; recent.len() == 1);
     for &(key, _, _, commit) in &NEWEST {
         expect_newest(&rt, &recent, key, commit);
     }
@@ -201,7 +201,7 @@ fn the_latest_run_answers(rt: HostRuntime) -> Result<(), Fail> {
 }
 
 /// Two bounds, and whether runs of the keys from 10 to 4,105 and from 5,000 to 9,095 lie apart from the keys between them.
-const APART: [(i64, i64, bool); 8] = [
+static APART: [(i64, i64, bool); 8] = [
     (-5, 9, true),
     (-5, 10, false),
     (4_105, 4_200, false),
@@ -244,8 +244,8 @@ fn a_run_too_many_is_kept_one_by_one(rt: HostRuntime) -> Result<(), Fail> {
         );
     }
     assert!(rt; !recent.is_apart(Key(0), Key(9_999)));
-    assert_eq!(rt; recent.len(), 65 * 4_096);
+    assert!(rt; recent.len() == 65 * 4_096);
     recent.prune(64);
-    assert_eq!(rt; recent.len(), 4_096);
+    assert!(rt; recent.len() == 4_096);
     Ok(())
 }

@@ -29,10 +29,7 @@ fn writes_are_listed(rt: HostRuntime) -> Result<(), Fail> {
     assert!(rt; none.is_empty() && none.len() == 0 && none.find(Key(0)).is_none());
     let only = write(alloc, -3, Some(30))?;
     let own = Own::new(alloc, vec![in alloc; only.copy()?]?)?;
-    assert_eq!(rt;
-        (own.len(), own.find(Key(-3)), own.find(Key(3))),
-        (1, Some(0), None)
-    );
+    assert!(rt; (own.len(), own.find(Key(-3)), own.find(Key(3))) == (1, Some(0), None));
     let listed = own.get(0);
     assert!(rt; listed.key == only.key && listed.row == only.row);
     Ok(())
@@ -53,7 +50,7 @@ fn writes_are_staged(rt: HostRuntime) -> Result<(), Fail> {
     second.push(write(alloc, 2, None)?)?;
     second.push(write(alloc, 7, Some(70))?)?;
     own.stage(second)?;
-    assert_eq!(rt; (own.len(), shared.len()), (4, 3));
+    assert!(rt; (own.len(), shared.len()) == (4, 3));
     for &(key, place) in &[
         (2, Some(0)),
         (5, Some(1)),
@@ -62,9 +59,9 @@ fn writes_are_staged(rt: HostRuntime) -> Result<(), Fail> {
         (1, None),
         (10, None),
     ] {
-        assert_eq!(rt; own.find(Key(key)), place, "of {key}");
+        assert!(rt; own.find(Key(key)) == place, "of {key}");
     }
-    assert_eq!(rt; shared.find(Key(7)), None);
+    assert!(rt; shared.find(Key(7)) == None);
     for i in 0..own.len() {
         let write = own.get(i);
         assert!(rt; write.row.is_none() == (write.key == Key(2)));
@@ -95,7 +92,7 @@ fn many_writes_are_staged(rt: HostRuntime) -> Result<(), Fail> {
     let numbers = [
         46, 42, 38, 34, 30, 26, 45, 41, 37, 33, 29, 25, 44, 40, 36, 32, 28, 24, 43, 39, 35, 31, 27,
     ];
-    assert_eq!(rt; own.len(), numbers.len());
+    assert!(rt; own.len() == numbers.len());
     for i in 0..own.len() {
         let Some(number) = numbers.get(i) else {
             return Err(Fail::from(Memory));
@@ -196,7 +193,7 @@ fn shares_stay(rt: HostRuntime) -> Result<(), Fail> {
                 own.stage(vec![in alloc; write(alloc, number, None)?]?)?;
             }
             assert!(rt; is_list(&share, share.len()) && 290 <= share.len());
-            assert_eq!(rt; own.len(), 300);
+            assert!(rt; own.len() == 300);
             for i in 0..own.len() {
                 assert!(rt; own.get(i).row.is_none());
             }

@@ -23,7 +23,7 @@ enum Wanted {
 use Wanted::{Generate, Load, Replay, Run};
 
 /// Words of a replay, joined by spaces, and the order that they are.
-const REPLAY: [(&str, Wanted); 25] = [
+static REPLAY: [(&str, Wanted); 25] = [
     ("replay", Replay(1_048_576, 102_400, 1)),
     ("replay --group-rows 2", Replay(2, 102_400, 1)),
     ("replay --group-rows 1048576", Replay(1_048_576, 102_400, 1)),
@@ -61,7 +61,7 @@ const REPLAY: [(&str, Wanted); 25] = [
 ];
 
 /// The same of a run on threads.
-const RUN: [(&str, Wanted); 22] = [
+static RUN: [(&str, Wanted); 22] = [
     ("run", Run((1_048_576, 102_400, 1), 1)),
     ("run --group-rows 2", Run((2, 102_400, 1), 1)),
     ("run --group-rows 1048576", Run((1_048_576, 102_400, 1), 1)),
@@ -93,7 +93,7 @@ const RUN: [(&str, Wanted); 22] = [
 ];
 
 /// The same of a workload that is written.
-const GENERATE: [(&str, Wanted); 24] = [
+static GENERATE: [(&str, Wanted); 24] = [
     ("generate", Generate(1, 4, 1_000)),
     ("generate --number 0", Generate(0, 4, 1_000)),
     (
@@ -127,7 +127,7 @@ const GENERATE: [(&str, Wanted); 24] = [
 ];
 
 /// The same of a workload that is run.
-const LOAD: [(&str, Wanted); 32] = [
+static LOAD: [(&str, Wanted); 32] = [
     ("load", Load((1, 4, 1_000), (1_048_576, 102_400, 1))),
     ("load --group-rows 2", Load((1, 4, 1_000), (2, 102_400, 1))),
     (
@@ -202,7 +202,7 @@ const LOAD: [(&str, Wanted); 32] = [
 ];
 
 /// Words that have no mode.
-const OTHER: [(&str, Wanted); 7] = [
+static OTHER: [(&str, Wanted); 7] = [
     ("", Wanted::None),
     ("Replay", Wanted::None),
     ("LOAD", Wanted::None),
@@ -264,43 +264,36 @@ fn check(rt: &impl Abort, alloc: Global, text: &str, wanted: Wanted) -> Result<(
     Ok(())
 }
 
-#[test]
-fn words_of_a_replay(rt: HostRuntime) -> Result<(), Fail> {
-    for &(text, wanted) in &REPLAY {
-        check(&rt, rt.alloc(), text, wanted)?;
+/// Each of the texts is the order beside it, or none.
+fn check_all(rt: &impl Abort, alloc: Global, cases: &[(&str, Wanted)]) -> Result<(), Fail> {
+    for (text, wanted) in cases {
+        check(rt, alloc, text, *wanted)?;
     }
     Ok(())
+}
+
+#[test]
+fn words_of_a_replay(rt: HostRuntime) -> Result<(), Fail> {
+    check_all(&rt, rt.alloc(), &REPLAY)
 }
 
 #[test]
 fn words_of_a_run(rt: HostRuntime) -> Result<(), Fail> {
-    for &(text, wanted) in &RUN {
-        check(&rt, rt.alloc(), text, wanted)?;
-    }
-    Ok(())
+    check_all(&rt, rt.alloc(), &RUN)
 }
 
 #[test]
 fn words_of_a_workload(rt: HostRuntime) -> Result<(), Fail> {
-    for &(text, wanted) in &GENERATE {
-        check(&rt, rt.alloc(), text, wanted)?;
-    }
-    Ok(())
+    check_all(&rt, rt.alloc(), &GENERATE)
 }
 
 #[test]
 fn words_of_a_load(rt: HostRuntime) -> Result<(), Fail> {
-    for &(text, wanted) in &LOAD {
-        check(&rt, rt.alloc(), text, wanted)?;
-    }
-    Ok(())
+    check_all(&rt, rt.alloc(), &LOAD)
 }
 
 #[test]
 fn words_without_a_mode(rt: HostRuntime) -> Result<(), Fail> {
     same(&rt, &"no words", &Order::of_words(&[]), &None);
-    for &(text, wanted) in &OTHER {
-        check(&rt, rt.alloc(), text, wanted)?;
-    }
-    Ok(())
+    check_all(&rt, rt.alloc(), &OTHER)
 }

@@ -46,7 +46,7 @@ fn sink_of(alloc: Global, room: usize, step: usize, failing: u64) -> Result<Memo
 /// Bytes, a step, a limit, the failing call, what is wanted, and the calls.
 type Reading = (usize, usize, usize, u64, Result<usize, InputRefusal>, u64);
 
-const READINGS: [Reading; 11] = [
+static READINGS: [Reading; 11] = [
     (0, 0, 0, 0, Ok(0), 1),
     (1, 0, 1, 0, Ok(1), 2),
     (20_000, 0, 20_000, 0, Ok(20_000), 4),
@@ -88,7 +88,7 @@ type Writing = (
     u64,
 );
 
-const WRITINGS: [Writing; 11] = [
+static WRITINGS: [Writing; 11] = [
     (5, 5, 0, 0, Ok(()), 5, 1),
     (5, 9, 0, 0, Ok(()), 5, 1),
     (5, 3, 0, 0, Err(WriteRefusal::Fault), 3, 2),

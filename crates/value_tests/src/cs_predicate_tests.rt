@@ -66,7 +66,7 @@ fn one_and_a_half(alloc: Global) -> Result<Row, Memory> {
 const LEAST: i128 = -9_223_372_036_854_775_808;
 
 /// Two sides and an operation, with the value that SQL Server gives.
-const PRODUCTS: [(
+static PRODUCTS: [(
     Option<i128>,
     Times,
     Option<i128>,
@@ -118,7 +118,7 @@ fn products_are_computed(rt: HostRuntime) -> Result<(), Fail> {
 }
 
 /// Patterns and texts.
-const LIKES: [(&[u8], &[u8], bool); 8] = [
+static LIKES: [(&[u8], &[u8], bool); 8] = [
     (b"", b"", true),
     (b"%", b"", true),
     (b"_", b"", false),
@@ -137,7 +137,7 @@ fn texts_are_like_patterns(rt: HostRuntime) {
 }
 
 /// A comparison of 1.50 with a number and its scale, or with NULL for None.
-const COMPARISONS: [(Relation, Option<(i128, u8)>, Truth); 6] = [
+static COMPARISONS: [(Relation, Option<(i128, u8)>, Truth); 6] = [
     (Relation::Equal, Some((15, 1)), Truth::True),
     (Relation::Less, Some((1_501, 3)), Truth::True),
     (Relation::GreaterEqual, Some((2, 0)), Truth::False),

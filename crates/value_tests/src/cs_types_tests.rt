@@ -23,7 +23,7 @@ fn decimal(p: u8, s: u8) -> ColumnType {
 
 /// Digits and scale of a decimal, a number and its scale, and what is kept, if it is in range. The expected values are
 /// those of Python's decimal numbers, rounded half up.
-const DECIMALS: [(u8, u8, i128, u8, Option<i64>); 25] = [
+static DECIMALS: [(u8, u8, i128, u8, Option<i64>); 25] = [
     (18, 2, 5, 3, Some(1)),
     (18, 2, -5, 3, Some(-1)),
     (18, 2, 49, 4, Some(0)),
@@ -76,7 +76,7 @@ const DECIMALS: [(u8, u8, i128, u8, Option<i64>); 25] = [
 ];
 
 /// An integer type with the numbers at both its ends.
-const ENDS: [(ColumnType, i64, i64, ValueRefusal); 4] = [
+static ENDS: [(ColumnType, i64, i64, ValueRefusal); 4] = [
     (ColumnType::TinyInt, 0, 255, ValueRefusal::Narrow),
     (ColumnType::SmallInt, -32_768, 32_767, ValueRefusal::Narrow),
     (
@@ -93,17 +93,21 @@ const ENDS: [(ColumnType, i64, i64, ValueRefusal); 4] = [
     ),
 ];
 
+/// That a decimal column keeps this of a number.
+fn check_decimal(rt: &impl Abort, kind: ColumnType, of: (i128, u8), expected: Option<i64>) {
+    assert!(rt; kind.is_valid());
+    let number = match expected {
+        Some(number) => Ok(Value::Number(number)),
+        None => Err(ValueRefusal::Overflow),
+    };
+    let kept = fits(kind, false, Loose::Number { m: of.0, s: of.1 });
+    same(rt, &of, &kept, &number);
+}
+
 #[test]
 fn decimals_fit(rt: HostRuntime) {
-    for &(p, places, m, s, expected) in &DECIMALS {
-        let kind = decimal(p, places);
-        assert!(rt; kind.is_valid());
-        let kept = fits(kind, false, Loose::Number { m, s });
-        let number = match expected {
-            Some(number) => Ok(Value::Number(number)),
-            None => Err(ValueRefusal::Overflow),
-        };
-        same(&rt, &(m, s), &kept, &number);
+    for (p, places, m, s, expected) in &DECIMALS {
+        check_decimal(&rt, decimal(*p, *places), (*m, *s), *expected);
     }
 }
 
@@ -128,24 +132,36 @@ fn integers_fit(rt: HostRuntime) {
     }
 }
 
-#[test]
-fn texts_and_nulls_fit(rt: HostRuntime) -> Result<(), Fail> {
-    let alloc = rt.alloc();
+/// That a column of texts of three bytes keeps this.
+fn check_text(
+    rt: &impl Abort,
+    nullable: bool,
+    given: Loose,
+    expected: Result<Value, ValueRefusal>,
+) {
     let kind = ColumnType::VarChar { n: 3 };
     assert!(rt; kind.is_valid());
-    let null = fits(kind, true, Loose::Null);
-    same(&rt, &"NULL", &null, &Ok(Value::Null));
-    let no_null = fits(kind, false, Loose::Null);
-    same(&rt, &"NOT NULL", &no_null, &Err(ValueRefusal::NullHere));
-    let kept = fits(kind, false, Loose::Text(bytes(alloc, b"abc")?));
-    same(&rt, &"abc", &kept, &Ok(Value::Text(bytes(alloc, b"abc")?)));
-    let refused = fits(kind, false, Loose::Text(bytes(alloc, b"abcd")?));
-    same(&rt, &"abcd", &refused, &Err(ValueRefusal::TooLong));
+    same(rt, &nullable, &fits(kind, nullable, given), &expected);
+}
+
+#[test]
+fn nulls_fit(rt: HostRuntime) {
+    check_text(&rt, true, Loose::Null, Ok(Value::Null));
+    check_text(&rt, false, Loose::Null, Err(ValueRefusal::NullHere));
+}
+
+#[test]
+fn texts_fit(rt: HostRuntime) -> Result<(), Fail> {
+    let alloc = rt.alloc();
+    let kept = Value::Text(bytes(alloc, b"abc")?);
+    check_text(&rt, false, Loose::Text(bytes(alloc, b"abc")?), Ok(kept));
+    let refused = Err(ValueRefusal::TooLong);
+    check_text(&rt, false, Loose::Text(bytes(alloc, b"abcd")?), refused);
     Ok(())
 }
 
 /// Texts and the days that they name; the numbers are those of Python's dates.
-const DATES: [(&[u8], Option<i64>); 21] = [
+static DATES: [(&[u8], Option<i64>); 21] = [
     (b"0001-01-01", Some(-719_162)),
     (b"1900-02-28", Some(-25_509)),
     (b"1900-02-29", None),
@@ -177,7 +193,7 @@ fn dates_are_read(rt: HostRuntime) {
 }
 
 /// Numbers, their scales and their texts.
-const NUMBERS: [(i128, u8, &[u8]); 10] = [
+static NUMBERS: [(i128, u8, &[u8]); 10] = [
     (0, 0, b"0"),
     (-1, 0, b"-1"),
     (0, 2, b"0.00"),
@@ -210,7 +226,7 @@ fn printed(alloc: Global, kind: ColumnType, value: &Value) -> Result<Line, Memor
 }
 
 /// Types, numbers and their texts.
-const CELLS: [(ColumnType, i64, &[u8]); 11] = [
+static CELLS: [(ColumnType, i64, &[u8]); 11] = [
     (ColumnType::TinyInt, 255, b"255"),
     (ColumnType::BigInt, i64::MIN, b"-9223372036854775808"),
     (ColumnType::Decimal { p: 10, s: 2 }, 11_999, b"119.99"),
@@ -240,7 +256,7 @@ fn cells_are_printed(rt: HostRuntime) -> Result<(), Fail> {
 }
 
 /// Texts, and the same in quotes.
-const TEXTS: [(&[u8], &[u8]); 4] = [
+static TEXTS: [(&[u8], &[u8]); 4] = [
     (b"", b"''"),
     (b"north", b"'north'"),
     (b"'", b"''''"),

@@ -51,7 +51,7 @@ fn events(alloc: Global, session: u32) -> [Entry; 11] {
 }
 
 /// How many events are taken, how many rows there are, and the text.
-const CASES: [(usize, u128, &str); 5] = [
+static CASES: [(usize, u128, &str); 5] = [
     (0, 0, "events 0\nok 0\nrefused 0\nends 0\nrows 0\n"),
     (3, 1000, "events 3\nok 2\nrefused 1\nends 0\nrows 1000\n"),
     (4, 5, "events 4\nok 2\nrefused 2\nends 0\nrows 5\nshort 1\n"),

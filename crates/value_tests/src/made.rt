@@ -13,5 +13,5 @@ pub fn same<T: Debug + PartialEq>(rt: &impl Abort, of: &impl Debug, found: &T, e
 
 /// That a text is this one.
 pub fn same_text(rt: &impl Abort, found: &[u8], expected: &[u8]) {
-    assert_eq!(rt; found, expected);
+    assert!(rt; found == expected, "{found:?} in place of {expected:?}");
 }

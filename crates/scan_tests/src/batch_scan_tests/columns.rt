@@ -98,7 +98,7 @@ const NINE: i64 = 9_000_000_000_000_000_000;
 const FOUR: i64 = 4_000_000_000_000_000_001;
 
 /// Numbers and texts in each encoding, with NULLs and without, decimals, days, and columns of NULLs alone.
-pub const CASES: [Case; 11] = [
+pub static CASES: [Case; 11] = [
     Case {
         kind: ColumnType::Int,
         cells: ODD,

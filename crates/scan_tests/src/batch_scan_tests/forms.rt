@@ -35,7 +35,7 @@ pub enum Joint {
     NotOr,
 }
 
-const SIGNS: [Relation; 6] = [
+static SIGNS: [Relation; 6] = [
     Relation::Equal,
     Relation::NotEqual,
     Relation::Less,
@@ -44,9 +44,9 @@ const SIGNS: [Relation; 6] = [
     Relation::GreaterEqual,
 ];
 
-const PATTERNS: [&[u8]; 7] = [b"%", b"", b"a%", b"%b", b"_", b"%b%", b"a_a"];
+static PATTERNS: [&[u8]; 7] = [b"%", b"", b"a%", b"%b", b"_", b"%b%", b"a_a"];
 
-const JOINTS: [Joint; 6] = [
+static JOINTS: [Joint; 6] = [
     Joint::First,
     Joint::Not,
     Joint::And,

@@ -277,7 +277,7 @@ const MIXED: Setting = Setting {
 };
 
 /// One thing after another, with the rows that are read of a packed group of 400 and of the store.
-const SETTINGS: [(Setting, usize); 7] = [
+static SETTINGS: [(Setting, usize); 7] = [
     (EVERY, 403),
     (
         Setting {
@@ -324,7 +324,7 @@ const SETTINGS: [(Setting, usize); 7] = [
     ),
 ];
 
-const COUNTS: [u16; 6] = [1, 63, MANY, 1_023, 1_024, 1_025];
+static COUNTS: [u16; 6] = [1, 63, MANY, 1_023, 1_024, 1_025];
 
 #[test]
 fn verdicts_are_truths(rt: HostRuntime) -> Result<(), Fail> {

@@ -24,7 +24,7 @@ const ALWAYS_NULL: usize = 9;
 /// A case, how two forms over it are joined, and whether a group of it is skipped.
 type Skip = (usize, Joint, Form, Form, bool);
 
-const ALONE: [(usize, Form, bool); 45] = [
+static ALONE: [(usize, Form, bool); 45] = [
     (ODD, Compare(Equal, 0), true),
     (ODD, Compare(Equal, 1), false),
     (ODD, Compare(Equal, 2), false),
@@ -72,7 +72,7 @@ const ALONE: [(usize, Form, bool); 45] = [
     (ALWAYS_NULL, Between(true, 0, 0), false),
 ];
 
-const JOINED: [Skip; 8] = [
+static JOINED: [Skip; 8] = [
     (ODD, Joint::And, Compare(Equal, 0), Compare(Equal, 1), true),
     (
         ODD,

@@ -134,7 +134,7 @@ pub fn packed_of(
 }
 
 /// The keys of a store, each with the row of the case that has its cell and the commit that wrote it.
-const STORED: [(i64, u16, u64); 5] = [(-1, 0, 5), (-2, 1, 6), (-1, 3, 7), (-3, 2, 8), (-4, 4, 5)];
+static STORED: [(i64, u16, u64); 5] = [(-1, 0, 5), (-2, 1, 6), (-1, 3, 7), (-3, 2, 8), (-4, 4, 5)];
 
 /// The store of these keys.
 fn store_of(rt: &impl Abort, alloc: Global, case: &Case) -> Result<GroupPart, Memory>
