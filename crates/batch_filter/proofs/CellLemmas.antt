@@ -30,7 +30,7 @@ none_wanted wanted mask none i l =
 -- none is left out where each is chosen
 pub none_left_out : (mask : List Bool) → ((i : ℕ) → i < length mask → get_or mask i false ≡ true) → list_any (same_as false) mask ≡ false
 none_left_out [] each = refl
-none_left_out (b ∷ bs) each = ap (λ c. same_as false c || list_any (same_as false) bs) (each 0 (omega arith)) ∙ none_left_out bs (λ i below. each (i + 1) (omega (arith, below)))
+none_left_out (b ∷ bs) each = ap (λ c. same_as false c || list_any (same_as false) bs) (each 0 (omega arith)) ∙ none_left_out bs (λ i below. each (suc i) (omega (arith, below)))
 
 -- nor is one chosen at these places of the list
 pub none_between : (mask : List Bool) (from count n : ℕ) → n ≡ count → from + count ≤ length mask → list_any (same_as true) (take n (drop from mask)) ≡ false

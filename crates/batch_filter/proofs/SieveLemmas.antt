@@ -1,5 +1,5 @@
 -- Masks that are narrowed part by part.
-use Rattle.std.proofs.Common.{◌≡◌, ℕ, zero, suc, add-one, cond, ◌+◌, ◌<◌, ◌≤◌, Bool, true, false, ◌&&◌, ◌||◌, List, [], length, take, get_or, slice_index_or, replicate, Some, min, nat_lt, refl, sym, ap, subst, ◌∙◌, arith, inl, inr, ⊎_elim, ◌-◌, ◌++◌, drop, true≢false, Result, Ok, Err, OnOk}
+use Rattle.std.proofs.Common.{◌≡◌, ℕ, ◌+◌, ◌<◌, ◌≤◌, Bool, true, false, ◌&&◌, ◌||◌, List, [], length, take, get_or, slice_index_or, replicate, Some, nat_lt, refl, sym, ap, subst, ◌∙◌, arith, inl, inr, ⊎_elim, ◌-◌, ◌++◌, drop, true≢false, Result, Ok, Err, OnOk}
 use Rattle.std.specs.Prelude.{not as flipped}
 use Rattle.std.specs.Bool.{OnFalse}
 use Rattle.std.specs.List.{list_all, list_any}

@@ -93,9 +93,11 @@ impl Chosen<'_> {
         requires { 1024 * number < self.now.length }
         ensures { OnFalse result ((i : ℕ) → i < min 1024 (self.now.length - 1024 * number) → is_chosen self.now (1024 * number + i) ≡ false) }
     {
+        let from = 1024 * number;
+        let count = self.count(number);
         match &self.kept {
-            None => self.shown_from(1024 * number, self.count(number)) > 0,
-            Some(kept) => has_any(part(kept.as_slice(), 1024 * number, self.count(number)), true),
+            None => self.shown_from(from, count) > 0,
+            Some(kept) => has_any(part(kept.as_slice(), from, count), true),
         }
     }
 
