@@ -1,5 +1,5 @@
 // The rows of a group that are chosen, by batches of 1,024.
-ghost use Rattle.std.specs.Prelude.{◌≡◌, ℕ, ◌+◌, ◌-◌, ◌*◌, ◌<◌, ◌≤◌, ◌^◌, ◌&&◌, nat_lt, min, length, vec_len, slice_index, slice_index_or, IfOk, IfSome, true, false, []};
+ghost use Rattle.std.specs.Prelude.{◌≡◌, ℕ, ◌+◌, ◌-◌, ◌*◌, ◌<◌, ◌≤◌, ◌&&◌, min, length, slice_index_or, IfOk, true, false, []};
 ghost use Rattle.std.specs.Bool.{OnTrue, OnFalse};
 ghost use Rattle.std.specs.Option.{option_copied};
 ghost use Rattle.batch_kernels.specs.Masks.{IsNarrowed};
