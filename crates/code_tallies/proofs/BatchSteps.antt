@@ -1,14 +1,13 @@
 -- What is kept of the batches so far, with one batch more.
-use Rattle.std.proofs.Common.{◌≡◌, ℕ, zero, suc, ◌+◌, ◌-◌, ◌*◌, ◌/◌, ◌%◌, ◌<◌, ◌≤◌, List, [], ◌∷◌, ◌++◌, Bool, false, ◌&&◌, length, min, inl, inr, refl, take, sym, ◌∙◌, ap, arith, fold, filter, cond, add-zero}
+use Rattle.std.proofs.Common.{◌≡◌, ℕ, zero, suc, ◌+◌, ◌-◌, ◌*◌, ◌<◌, ◌≤◌, List, [], ◌∷◌, ◌++◌, Bool, false, ◌&&◌, length, min, refl, take, sym, ◌∙◌, ap, arith, fold, filter, cond, add-zero}
 use Rattle.std.specs.Prelude.{◌==◌, slice_index_or}
 use Rattle.std.specs.List.{AllZip, range_with_len}
-use Rattle.std.proofs.lemmas.Bool.{cases_lt}
-use Rattle.std.proofs.lemmas.List.{append-nil, get_or_append_left, get_or_push}
+use Rattle.std.proofs.lemmas.List.{append-nil}
 use Rattle.batch_kernels.specs.Places.{places_with}
 use Rattle.batch_kernels.proofs.OneMore.{filter-more}
 use Rattle.code_tallies.specs.declared.column.Column.{Column}
 use Rattle.code_tallies.specs.Keys.{HasKeys}
-use Rattle.code_tallies.specs.Tables.{chosen_in, positions}
+use Rattle.code_tallies.specs.Tables.{positions}
 use Rattle.batch_kernels.proofs.Batches.{fold-batch, count-batch, place-same}
 
 -- positions that a test does not pass come to none

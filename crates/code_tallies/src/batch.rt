@@ -1,5 +1,5 @@
 // The rows of a group that are chosen, by batches of 1,024.
-ghost use Rattle.std.specs.Prelude.{◌≡◌, ℕ, ◌+◌, ◌-◌, ◌*◌, ◌<◌, ◌≤◌, ◌^◌, ◌&&◌, nat_lt, min, length, vec_len, slice_index, slice_index_or, IfOk, IfSome, true, false, []};
+ghost use Rattle.std.specs.Prelude.{◌≡◌, ℕ, ◌+◌, ◌-◌, ◌*◌, ◌<◌, ◌≤◌, ◌&&◌, min, length, slice_index_or, IfOk, true, false, []};
 ghost use Rattle.std.specs.Bool.{OnTrue, OnFalse};
 ghost use Rattle.std.specs.Option.{option_copied};
 ghost use Rattle.batch_kernels.specs.Masks.{IsNarrowed};
@@ -93,9 +93,11 @@ impl Chosen<'_> {
         requires { 1024 * number < self.now.length }
         ensures { OnFalse result ((i : ℕ) → i < min 1024 (self.now.length - 1024 * number) → is_chosen self.now (1024 * number + i) ≡ false) }
     {
+        let from = 1024 * number;
+        let count = self.count(number);
         match &self.kept {
-            None => self.shown_from(1024 * number, self.count(number)) > 0,
-            Some(kept) => has_any(part(kept.as_slice(), 1024 * number, self.count(number)), true),
+            None => self.shown_from(from, count) > 0,
+            Some(kept) => has_any(part(kept.as_slice(), from, count), true),
         }
     }
 
