@@ -1,4 +1,3 @@
-ghost use Rattle.std.specs.Prelude.{◌≤ℤ◌, ◌<ℤ◌, pos};
 ghost use Rattle.delete_buffer.specs.Entries.{AreParts};
 
 use crate::made::buffer_of;
@@ -142,20 +141,21 @@ fn batches_are_merged(rt: HostRuntime) -> Result<(), Fail> {
     Ok(())
 }
 
-/// Adds an entry of a scattered key at commit 5 to a buffer and to a plain list: of 200 in a row, no two are of one key.
+/// Adds entries of scattered keys at commit 5, one by one, to a buffer and to a plain list. Of 200 in a row, no two are of one key.
 fn add_scattered(
     buffer: &mut Buffer,
     plain: &mut Vec<(i64, u64)>,
-    number: i64,
-) -> Result<(), Memory>
-    requires { (pos 0 ≤ℤ number) × (number <ℤ pos 200) }
-{
-    let key = number * 77 % 200;
-    buffer.reserve(1)?;
-    if !buffer.remove(Key(key), 5) {
-        buffer.add(Key(key), 5);
+    from: i64,
+    to: i64,
+) -> Result<(), Memory> {
+    for number in from..to {
+        let key = number.wrapping_mul(77) % 200;
+        buffer.reserve(1)?;
+        if !buffer.remove(Key(key), 5) {
+            buffer.add(Key(key), 5);
+        }
+        plain.push((key, 5))?;
     }
-    plain.push((key, 5))?;
     Ok(())
 }
 
@@ -164,15 +164,11 @@ fn recent_entries_settle(rt: HostRuntime) -> Result<(), Fail> {
     let alloc = rt.alloc();
     let mut buffer = Buffer::new(alloc);
     let mut plain = Vec::new(alloc);
-    for number in 0..100 {
-        add_scattered(&mut buffer, &mut plain, number)?;
-    }
+    add_scattered(&mut buffer, &mut plain, 0, 100)?;
     let halfway = buffer.copy()?;
     let mut before = plain.clone()?;
     before.sort()?;
-    for number in 100..200 {
-        add_scattered(&mut buffer, &mut plain, number)?;
-    }
+    add_scattered(&mut buffer, &mut plain, 100, 200)?;
     plain.sort()?;
     assert!(rt; buffer.parts().recent.len() < 64 && buffer.len() == 200);
     expect_entries(&rt, alloc, buffer.parts(), &plain)?;
