@@ -309,12 +309,12 @@ fn are_same(one: Partial<'_>, other: Partial<'_>) -> bool {
 fn is_same(
     alloc: Global,
     few: bool,
-    asked: (&Schema, &Query),
+    schema: &Schema,
+    query: &Query,
     packed: &Packed,
     shown: Option<&Positions>,
     batch: &mut Batch,
 ) -> Result<bool, Memory> {
-    let (schema, query) = asked;
     let mut by_codes = Partial::new(alloc, schema, query)?;
     let done = add_codes(alloc, &mut by_codes, schema, query, packed, shown, batch)?;
     if !done {
@@ -338,7 +338,7 @@ fn check(
 {
     let schema = table(alloc, case.kind)?;
     let query = query_of(alloc, asked)?;
-    let same = is_same(alloc, case.few, (&schema, &query), packed, shown, batch);
+    let same = is_same(alloc, case.few, &schema, &query, packed, shown, batch);
     // What is let go by a call has a short proof, and what is let go at the end of its scope a long one.
     drop(query);
     drop(schema);
