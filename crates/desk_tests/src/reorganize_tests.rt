@@ -59,64 +59,109 @@ fn expect_left(rt: &impl Abort, left: &Items<(u64, Actor)>, expected: &[(u64, Ac
     }
 }
 
+/// States of groups, and turns.
+static TURNS: [(&[GroupState], u32); 8] = [
+    (&[], 1),
+    (&[OPENED], 4),
+    (&[CLOSED], 4),
+    (&[CLOSED, OPENED], 7),
+    (&[INVISIBLE], 1),
+    (&[TOMBSTONE, TOMBSTONE], 1),
+    (&[TOMBSTONE, INVISIBLE, COMPRESSED, CLOSED, OPENED], 10),
+    (&[COMPRESSED, COMPRESSED, COMPRESSED, COMPRESSED], 13),
+];
+
+/// That a course over groups in these states makes so many turns.
+fn check_turns(
+    rt: &impl Abort,
+    alloc: Global,
+    states: &[GroupState],
+    turns: u32,
+) -> Result<(), Memory> {
+    let ledger = ledger(alloc, states, &[])?;
+    let course = Reorganizing::new(alloc, true, &ledger)?;
+    assert!(rt; course.closes());
+    expect_turns(rt, course, turns);
+    Ok(())
+}
+
 #[test]
 fn turns_are_three_for_each_group_in_use_and_one(rt: HostRuntime) -> Result<(), Fail> {
-    // (states of the groups, turns)
-    let cases: [(&[GroupState], u32); 8] = [
-        (&[], 1),
-        (&[OPENED], 4),
-        (&[CLOSED], 4),
-        (&[CLOSED, OPENED], 7),
-        (&[INVISIBLE], 1),
-        (&[TOMBSTONE, TOMBSTONE], 1),
-        (&[TOMBSTONE, INVISIBLE, COMPRESSED, CLOSED, OPENED], 10),
-        (&[COMPRESSED, COMPRESSED, COMPRESSED, COMPRESSED], 13),
-    ];
-    for (states, turns) in cases {
-        let ledger = ledger(rt.alloc(), states, &[])?;
-        let course = Reorganizing::new(rt.alloc(), true, &ledger)?;
-        assert!(rt; course.closes());
-        expect_turns(&rt, course, turns);
+    for (states, turns) in &TURNS {
+        check_turns(&rt, rt.alloc(), states, *turns)?;
     }
+    Ok(())
+}
+
+const MOVER: Actor = Actor::Mover(2);
+
+const OTHER: Actor = Actor::Session(3);
+
+const OWN: Actor = Actor::Session(2);
+
+const STATES: &[GroupState] = &[
+    CLOSED, COMPRESSED, CLOSED, TOMBSTONE, INVISIBLE, OPENED, CLOSED,
+];
+
+/// The store that it closed, who holds which at its last look, and what is left.
+type Left = (
+    Option<u64>,
+    &'static [(u64, Actor)],
+    &'static [(u64, Actor)],
+);
+
+static LEFT: [Left; 7] = [
+    (None, &[], &[]),
+    (None, &[(3, MOVER)], &[(3, MOVER)]),
+    (None, &[(3, OWN)], &[]),
+    (None, &[(2, MOVER), (6, OTHER), (8, OTHER)], &[]),
+    (Some(6), &[(6, OTHER)], &[(6, OTHER)]),
+    (
+        None,
+        &[(7, MOVER), (3, OWN), (1, OTHER), (2, MOVER)],
+        &[(1, OTHER), (7, MOVER)],
+    ),
+    (
+        Some(6),
+        &[(7, MOVER), (6, Actor::Mover(1)), (1, OTHER), (3, MOVER)],
+        &[(1, OTHER), (3, MOVER), (6, Actor::Mover(1)), (7, MOVER)],
+    ),
+];
+
+/// A course that has closed a store, where there is one.
+fn course_of(alloc: Global, closed: Option<u64>) -> Result<Reorganizing, Memory> {
+    let start = ledger(alloc, STATES, &[])?;
+    let mut course = Reorganizing::new(alloc, closed.is_some(), &start)?;
+    if let Some(id) = closed {
+        course.closed(id)?;
+    }
+    Ok(course)
+}
+
+/// What a course of session 2 leaves where these actors hold groups.
+fn left_of(
+    alloc: Global,
+    course: &Reorganizing,
+    holders: &[(u64, Actor)],
+) -> Result<Items<(u64, Actor)>, Memory> {
+    let last = ledger(alloc, &[], holders)?;
+    course.left(alloc, 2, &last)
+}
+
+/// That a case leaves these groups.
+fn check_left(rt: &impl Abort, alloc: Global, case: &Left) -> Result<(), Memory> {
+    let (closed, holders, expected) = *case;
+    let course = course_of(alloc, closed)?;
+    let left = left_of(alloc, &course, holders)?;
+    expect_left(rt, &left, expected);
+    assert!(rt; course.closes() == closed.is_some());
     Ok(())
 }
 
 #[test]
 fn what_other_actors_hold_is_left(rt: HostRuntime) -> Result<(), Fail> {
-    let states = [
-        CLOSED, COMPRESSED, CLOSED, TOMBSTONE, INVISIBLE, OPENED, CLOSED,
-    ];
-    let start = ledger(rt.alloc(), &states, &[])?;
-    let mover = Actor::Mover(2);
-    let other = Actor::Session(3);
-    let own = Actor::Session(2);
-    // (the store that it closed, who holds which at its last look, what is left)
-    let cases: [(Option<u64>, &[(u64, Actor)], &[(u64, Actor)]); 7] = [
-        (None, &[], &[]),
-        (None, &[(3, mover)], &[(3, mover)]),
-        (None, &[(3, own)], &[]),
-        (None, &[(2, mover), (6, other), (8, other)], &[]),
-        (Some(6), &[(6, other)], &[(6, other)]),
-        (
-            None,
-            &[(7, mover), (3, own), (1, other), (2, mover)],
-            &[(1, other), (7, mover)],
-        ),
-        (
-            Some(6),
-            &[(7, mover), (6, Actor::Mover(1)), (1, other), (3, mover)],
-            &[(1, other), (3, mover), (6, Actor::Mover(1)), (7, mover)],
-        ),
-    ];
-    for (closed, holders, expected) in cases {
-        let mut course = Reorganizing::new(rt.alloc(), closed.is_some(), &start)?;
-        if let Some(id) = closed {
-            course.closed(id)?;
-        }
-        let last = ledger(rt.alloc(), &[], holders)?;
-        let left = course.left(rt.alloc(), 2, &last)?;
-        expect_left(&rt, &left, expected);
-        assert!(rt; course.closes() == closed.is_some());
+    for case in &LEFT {
+        check_left(&rt, rt.alloc(), case)?;
     }
     Ok(())
 }

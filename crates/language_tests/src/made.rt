@@ -14,8 +14,8 @@ pub trait Reader {
         requires { length text.now ≤ 131_072 };
 }
 
-/// What a text was read as, as it is printed.
-pub fn print<T: Debug>(alloc: Global, tree: &T) -> Result<String, ReadRefusal> {
+/// What a text was read as, as it is printed. It takes the tree: one that a reader lets go by itself makes the reader's proof long.
+pub fn print<T: Debug + Drop>(alloc: Global, tree: T) -> Result<String, ReadRefusal> {
     match format!(in alloc; "{tree:?}") {
         Ok(printed) => Ok(printed),
         Err(_) => Err(ReadRefusal::Memory),

@@ -10,15 +10,17 @@ struct Statements;
 
 impl Reader for Statements {
     fn read(alloc: Global, text: &[u8]) -> Result<String, ReadRefusal> {
-        let statement = read_statement(alloc, text)?;
-        print(alloc, &statement)
+        print(alloc, read_statement(alloc, text)?)
     }
 }
 
 /// The text is read.
 fn check_read(rt: &impl Abort, alloc: Global, text: &[u8]) {
     assert!(rt; text.len() <= 131_072);
-    assert!(rt; read_statement(alloc, text).is_ok());
+    let read = read_statement(alloc, text);
+    let is_read = read.is_ok();
+    drop(read);
+    assert!(rt; is_read);
 }
 
 static TRANSACTIONS_AND_SETTINGS: [(&[u8], &str); 15] = [

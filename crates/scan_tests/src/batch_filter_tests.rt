@@ -9,11 +9,11 @@ use std::process::Abort;
 use std::test::Fail;
 
 /// The cells of four rows in the columns n int, t varchar(8) and d decimal(5, 2); the fifth row is like the first.
-static NUMBERS: [Option<i64>; 4] = [None, Some(-5), Some(7), Some(9)];
+const NUMBERS: [Option<i64>; 4] = [None, Some(-5), Some(7), Some(9)];
 
 static TEXTS: [Option<&[u8]>; 4] = [Some(b""), Some(b"ab"), None, Some(b"b")];
 
-static DECIMALS: [Option<i64>; 4] = [Some(100), Some(-500), Some(701), None];
+const DECIMALS: [Option<i64>; 4] = [Some(100), Some(-500), Some(701), None];
 
 /// How many rows a batch has.
 static COUNTS: [usize; 5] = [0, 1, 3, 1_023, 1_024];
@@ -290,6 +290,8 @@ fn check_count(
         let pred = pred_of_case(alloc, *case)?;
         let mut mask = [true; 1024];
         filter_batch(&pred, schema, columns.as_slice(), &mut mask);
+        // What is let go by a call has a short proof, and what is let go at the end of its scope a long one.
+        drop(pred);
         assert!(rt;
             mask == wanted_mask(*wanted, count),
             "case {place} over {count} rows"

@@ -287,6 +287,43 @@ fn add_rows(
     Ok(())
 }
 
+/// The rows of a group that are shown, added one by one.
+fn rows_of<'a>(
+    alloc: Global,
+    schema: &'a Schema,
+    query: &'a Query,
+    packed: &Packed,
+    shown: Option<&Positions>,
+) -> Result<Partial<'a>, Memory> {
+    let mut partial = Partial::new(alloc, schema, query)?;
+    add_rows(&mut partial, packed, shown)?;
+    Ok(partial)
+}
+
+/// Whether two partial answers have the same answer.
+fn are_same(one: Partial<'_>, other: Partial<'_>) -> bool {
+    one.result() == other.result()
+}
+
+/// Whether the answer over the rows of a group that are shown is the same by codes and by rows, and goes by codes where those are few.
+fn is_same(
+    alloc: Global,
+    few: bool,
+    schema: &Schema,
+    query: &Query,
+    packed: &Packed,
+    shown: Option<&Positions>,
+    batch: &mut Batch,
+) -> Result<bool, Memory> {
+    let mut by_codes = Partial::new(alloc, schema, query)?;
+    let done = add_codes(alloc, &mut by_codes, schema, query, packed, shown, batch)?;
+    if !done {
+        add_rows(&mut by_codes, packed, shown)?;
+    }
+    let by_rows = rows_of(alloc, schema, query, packed, shown)?;
+    Ok(are_same(by_codes, by_rows) && (done || !few))
+}
+
 /// The answer over the rows of a group that are shown is the same by codes and by rows.
 fn check(
     rt: &impl Abort,
@@ -301,20 +338,50 @@ fn check(
 {
     let schema = table(alloc, case.kind)?;
     let query = query_of(alloc, asked)?;
-    let mut by_codes = Partial::new(alloc, &schema, &query)?;
-    let done = add_codes(alloc, &mut by_codes, &schema, &query, packed, shown, batch)?;
-    assert!(rt; done || !case.few, "by {asked:?}");
-    if !done {
-        add_rows(&mut by_codes, packed, shown)?;
-    }
-    let mut by_rows = Partial::new(alloc, &schema, &query)?;
-    add_rows(&mut by_rows, packed, shown)?;
-    assert!(rt; by_codes.result() == by_rows.result(), "by {asked:?}");
+    let same = is_same(alloc, case.few, &schema, &query, packed, shown, batch);
+    // What is let go by a call has a short proof, and what is let go at the end of its scope a long one.
+    drop(query);
+    drop(schema);
+    assert!(rt; same?, "by {asked:?}");
     Ok(())
 }
 
 /// Whether the rows of a group are shown: all of them, none of them, and some of them.
 static FLAGS: [&[bool]; 4] = [&[], &[true, true, false], &[false], &[true]];
+
+/// The same of a query over a group, whichever of its rows are shown.
+fn check_query(
+    rt: &impl Abort,
+    alloc: Global,
+    case: &Case,
+    packed: &Packed,
+    asked: Asked,
+    batch: &mut Batch,
+) -> Result<(), Memory>
+    requires { IsColumnType case.now.kind }
+{
+    let length = packed.len();
+    for &flags in &FLAGS {
+        let shown = shown_of(alloc, flags, length)?;
+        check(rt, alloc, case, packed, asked, shown.as_ref(), batch)?;
+    }
+    if asked.1.is_empty() {
+        let shown = all_but(alloc, length.saturating_sub(1), length)?;
+        check(rt, alloc, case, packed, asked, Some(&shown), batch)?;
+    }
+    Ok(())
+}
+
+/// The same of each query over a group.
+fn check_queries(rt: &impl Abort, alloc: Global, case: &Case, packed: &Packed) -> Result<(), Memory>
+    requires { IsColumnType case.now.kind }
+{
+    let mut batch = Batch::new();
+    for &asked in &QUERIES {
+        check_query(rt, alloc, case, packed, asked, &mut batch)?;
+    }
+    Ok(())
+}
 
 /// The same of a group of so many rows.
 fn check_count(rt: &impl Abort, alloc: Global, case: &Case, count: u16) -> Result<(), Memory> {
@@ -322,19 +389,9 @@ fn check_count(rt: &impl Abort, alloc: Global, case: &Case, count: u16) -> Resul
     let packed = packed_of(rt, alloc, case, count)?;
     assert!(rt; packed.is_some());
     let packed = packed.unwrap();
-    let length = packed.len();
-    let mut batch = Batch::new();
-    for &asked in &QUERIES {
-        for &flags in &FLAGS {
-            let shown = shown_of(alloc, flags, length)?;
-            check(rt, alloc, case, &packed, asked, shown.as_ref(), &mut batch)?;
-        }
-        if asked.1.is_empty() {
-            let shown = all_but(alloc, length.saturating_sub(1), length)?;
-            check(rt, alloc, case, &packed, asked, Some(&shown), &mut batch)?;
-        }
-    }
-    Ok(())
+    let outcome = check_queries(rt, alloc, case, &packed);
+    drop(packed);
+    outcome
 }
 
 #[test]
@@ -460,17 +517,29 @@ fn goes_by_codes(
     )
 }
 
+/// Which queries over a group go by codes.
+fn check_ways(
+    rt: &impl Abort,
+    alloc: Global,
+    schema: &Schema,
+    packed: &Packed,
+) -> Result<(), Memory> {
+    for &(asked, by_codes) in &WAYS {
+        let found = goes_by_codes(alloc, schema, packed, asked)?;
+        assert!(rt; found == by_codes, "{asked:?}");
+    }
+    Ok(())
+}
+
 #[test]
 fn some_queries_go_by_rows(rt: HostRuntime) -> Result<(), Fail> {
     let alloc = rt.alloc();
     let case = CASES[3];
-    let schema = table(alloc, case.kind)?;
+    assert!(rt; case.kind.is_valid());
     let packed = packed_of(&rt, alloc, &case, 63)?.ok_or("no group")?;
-    for &(asked, by_codes) in &WAYS {
-        assert!(rt;
-            goes_by_codes(alloc, &schema, &packed, asked)? == by_codes,
-            "{asked:?}"
-        );
-    }
-    Ok(())
+    let schema = table(alloc, case.kind)?;
+    let outcome = check_ways(&rt, alloc, &schema, &packed);
+    drop(schema);
+    drop(packed);
+    Ok(outcome?)
 }

@@ -35,6 +35,20 @@ fn are_kept(kind: ColumnType, cells: &[Value]) -> bool
 }
 
 /// The cells of a batch that is read from a place on.
+fn decoded(alloc: Global, segment: &Segment, from: usize) -> Result<Batch, Memory> {
+    let mut batch: Batch = Items::new(alloc);
+    batch.push(Value::Number(9))?;
+    segment.decode_batch(from, &mut batch)?;
+    Ok(batch)
+}
+
+/// The cells of a batch from a place on.
+fn cells_from(cells: &[Value], from: usize) -> &[Value] {
+    let end = (from.saturating_add(1024)).min(cells.len());
+    if from < end { &cells[from..end] } else { &[] }
+}
+
+/// The cells of a batch that is read from a place on are these.
 fn check_batch(
     rt: &impl Abort,
     alloc: Global,
@@ -42,12 +56,8 @@ fn check_batch(
     cells: &[Value],
     from: usize,
 ) -> Result<(), Memory> {
-    let mut batch: Batch = Items::new(alloc);
-    batch.push(Value::Number(9))?;
-    segment.decode_batch(from, &mut batch)?;
-    let end = (from.saturating_add(1024)).min(cells.len());
-    let want = if from < end { &cells[from..end] } else { &[] };
-    assert!(rt; batch.as_slice() == want, "from {from}");
+    let batch = decoded(alloc, segment, from)?;
+    assert!(rt; batch.as_slice() == cells_from(cells, from), "from {from}");
     Ok(())
 }
 

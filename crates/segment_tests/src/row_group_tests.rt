@@ -92,17 +92,30 @@ pub fn fits(schema: &Schema, row: &Row) -> bool
     true
 }
 
-/// A row of the cells; those that are NULL at its end are left out.
-fn row_of(alloc: Global, cells: Cells<'_>) -> Result<Row, Memory> {
+/// A row of the cells.
+fn row_of_cells(alloc: Global, cells: &[CellRef<'_>]) -> Result<Row, Memory> {
     let mut row = Row::new(alloc);
-    row.push(Value::Number(cells.0))?;
-    if cells.1 != NULL || cells.2 != NULL {
-        row.push(cells.1.to_value(alloc)?)?;
-    }
-    if cells.2 != NULL {
-        row.push(cells.2.to_value(alloc)?)?;
+    for cell in cells {
+        row.push(cell.to_value(alloc)?)?;
     }
     Ok(row)
+}
+
+/// A row of the cells; those that are NULL at its end are left out.
+fn row_of(alloc: Global, cells: Cells<'_>) -> Result<Row, Memory> {
+    let (key, second, third) = cells;
+    if third != NULL {
+        return whole_row(alloc, cells);
+    }
+    if second != NULL {
+        return row_of_cells(alloc, &[CellRef::Number(key), second]);
+    }
+    row_of_cells(alloc, &[CellRef::Number(key)])
+}
+
+/// A row of three cells, NULL among them.
+fn whole_row(alloc: Global, cells: Cells<'_>) -> Result<Row, Memory> {
+    row_of_cells(alloc, &[CellRef::Number(cells.0), cells.1, cells.2])
 }
 
 /// Versions of the rows, with their begins and ends.
@@ -126,15 +139,6 @@ fn versions_of(
         })?;
     }
     Ok(versions)
-}
-
-/// A row of three cells, NULL among them.
-fn whole_row(alloc: Global, cells: Cells<'_>) -> Result<Row, Memory> {
-    let mut row = Row::new(alloc);
-    row.push(Value::Number(cells.0))?;
-    row.push(cells.1.to_value(alloc)?)?;
-    row.push(cells.2.to_value(alloc)?)?;
-    Ok(row)
 }
 
 /// The row at a position has the cells, NULL among them, and the begin.

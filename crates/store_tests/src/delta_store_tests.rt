@@ -242,16 +242,21 @@ fn expect_owner(rt: &impl Abort, frozen: &Frozen, last: u16) {
     expect_places(rt, frozen, &[(0, Some(0)), (next, Some(at + 1))]);
 }
 
+/// Ends the first and the last of the keys from 0 to `last`, and adds the next one.
+fn go_on(rt: &impl Abort, alloc: Global, delta: &mut Delta, last: u16) -> Result<(), Memory> {
+    for &key in &[0, i64::from(last)] {
+        assert!(rt; end(delta, key, 9000)?);
+    }
+    let next = i64::from(last) + 1;
+    put(delta, alloc, next, next, 9001)
+}
+
 /// That a share of the keys from 0 to `last` stays as it was while its store goes on, where the first and the last key end.
 fn expect_share_stays(rt: &impl Abort, alloc: Global, last: u16) -> Result<(), Memory> {
     let mut delta = of_keys(alloc, last)?;
     let shared = delta.share()?;
     let again = delta.share()?;
-    for &key in &[0, i64::from(last)] {
-        assert!(rt; end(&mut delta, key, 9000)?);
-    }
-    let next = i64::from(last) + 1;
-    put(&mut delta, alloc, next, next, 9001)?;
+    go_on(rt, alloc, &mut delta, last)?;
     expect_share(rt, &shared, last);
     expect_share(rt, &again, last);
     expect_owner(rt, &delta.freeze(), last);

@@ -234,16 +234,36 @@ fn bounds(alloc: Global) -> Result<Items<(Value, Value)>, Memory> {
     Ok(bounds)
 }
 
-#[test]
-fn each_column_of_a_packed_group_has_a_line(rt: HostRuntime) -> Result<(), Fail> {
-    let schema = table(rt.alloc())?;
-    let view = view_of(&rt, rt.alloc(), &schema)?;
-    let bounds = bounds(rt.alloc())?;
-    match segment_lines(rt.alloc(), &schema, &view)? {
-        Reply::Segments(lines) => check(&rt, lines.as_slice(), &WANTED, bounds.as_slice()),
+/// The report on the segments of the view.
+fn report(rt: &impl Abort, alloc: Global, schema: &Schema) -> Result<Reply, Memory>
+    requires { IsSchema schema.now }
+{
+    let view = view_of(rt, alloc, schema)?;
+    let reply = segment_lines(alloc, schema, &view);
+    // What is let go by a call has a short proof, and what is let go at the end of its scope a long one.
+    drop(view);
+    reply
+}
+
+/// That a reply has the lines.
+fn check_reply(rt: &impl Abort, alloc: Global, reply: &Reply) -> Result<(), Memory> {
+    let bounds = bounds(alloc)?;
+    match reply {
+        Reply::Segments(lines) => check(rt, lines.as_slice(), &WANTED, bounds.as_slice()),
         _ => assert!(rt; false),
     }
     Ok(())
+}
+
+#[test]
+fn each_column_of_a_packed_group_has_a_line(rt: HostRuntime) -> Result<(), Fail> {
+    let schema = table(rt.alloc())?;
+    let reply = report(&rt, rt.alloc(), &schema);
+    drop(schema);
+    let reply = reply?;
+    let outcome = check_reply(&rt, rt.alloc(), &reply);
+    drop(reply);
+    Ok(outcome?)
 }
 
 #[test]

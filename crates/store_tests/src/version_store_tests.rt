@@ -18,28 +18,42 @@ fn note_newer(recent: &mut Recent, key: Key, change: NewestChange) -> Result<(),
     Ok(())
 }
 
+/// The last change of all.
+const LAST: NewestChange = NewestChange { commit: 4, txn: 6 };
+
+/// Keys with their newest changes, before a prune at 3 and after it.
+static NOTED: [(i64, Option<NewestChange>); 4] = [
+    (7, Some(NewestChange { commit: 3, txn: 9 })),
+    (-3, Some(NewestChange { commit: 2, txn: 3 })),
+    (8, Some(LAST)),
+    (0, None),
+];
+
+static PRUNED: [(i64, Option<NewestChange>); 3] = [(7, None), (-3, None), (8, Some(LAST))];
+
+/// That so many changes are noted, and these keys have these ones.
+fn expect_changes(
+    rt: &impl Abort,
+    recent: &Recent,
+    count: usize,
+    changes: &[(i64, Option<NewestChange>)],
+) {
+    assert!(rt; recent.len() == count);
+    for (key, newest) in changes {
+        assert!(rt; recent.newest(Key(*key)) == *newest, "of {key}");
+    }
+}
+
 #[test]
 fn changes_are_noted_and_pruned(rt: HostRuntime) -> Result<(), Fail> {
     let mut recent = Recent::new(rt.alloc());
-    assert!(rt; (recent.len(), recent.newest(Key(7))) == (0, None));
+    expect_changes(&rt, &recent, 0, &[(7, None)]);
     for &(key, commit, txn) in &[(7, 1, 4), (-3, 2, 3), (7, 3, 9), (8, 4, 6)] {
         note_newer(&mut recent, Key(key), NewestChange { commit, txn })?;
     }
-    let last = NewestChange { commit: 4, txn: 6 };
-    for &(key, newest) in &[
-        (7, Some(NewestChange { commit: 3, txn: 9 })),
-        (-3, Some(NewestChange { commit: 2, txn: 3 })),
-        (8, Some(last)),
-        (0, None),
-    ] {
-        assert!(rt; recent.newest(Key(key)) == newest, "of {key}");
-    }
-    assert!(rt; recent.len() == 3);
+    expect_changes(&rt, &recent, 3, &NOTED);
     recent.prune(3);
-    for &(key, newest) in &[(7, None), (-3, None), (8, Some(last))] {
-        assert!(rt; recent.newest(Key(key)) == newest, "of {key}");
-    }
-    assert!(rt; recent.len() == 1);
+    expect_changes(&rt, &recent, 1, &PRUNED);
     Ok(())
 }
 

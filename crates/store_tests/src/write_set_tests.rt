@@ -2,6 +2,7 @@ use cs_base::Memory;
 use cs_types::{Key, Row, Value};
 use std::alloc::Global;
 use std::mem;
+use std::process::Abort;
 use std::test::Fail;
 use write_set::{Own, Write};
 
@@ -35,40 +36,61 @@ fn writes_are_listed(rt: HostRuntime) -> Result<(), Fail> {
     Ok(())
 }
 
+/// Writes of these keys, each with its number or nothing.
+fn writes_of(alloc: Global, given: &[(i64, Option<i64>)]) -> Result<Vec<Write>, Memory> {
+    let mut writes = Vec::new(alloc);
+    for (key, number) in given {
+        writes.push(write(alloc, *key, *number)?)?;
+    }
+    Ok(writes)
+}
+
+/// What is staged first and then, a key coming twice.
+static FIRST: [(i64, Option<i64>); 4] = [(5, Some(5)), (2, Some(2)), (9, Some(9)), (2, Some(2))];
+
+static SECOND: [(i64, Option<i64>); 2] = [(2, None), (7, Some(70))];
+
+/// Keys, and their places once both are staged.
+static FOUND: [(i64, Option<usize>); 6] = [
+    (2, Some(0)),
+    (5, Some(1)),
+    (7, Some(2)),
+    (9, Some(3)),
+    (1, None),
+    (10, None),
+];
+
+/// That the list has what was staged.
+fn check_staged(rt: &impl Abort, own: &Own) {
+    assert!(rt; own.len() == 4);
+    for (key, place) in &FOUND {
+        assert!(rt; own.find(Key(*key)) == *place, "of {key}");
+    }
+    for i in 0..own.len() {
+        let write = own.get(i);
+        assert!(rt; write.row.is_none() == (write.key == Key(2)));
+    }
+}
+
+/// That a share has what was staged before it was made.
+fn check_shared(rt: &impl Abort, alloc: Global, shared: &Own) -> Result<(), Memory> {
+    assert!(rt; shared.len() == 3 && shared.find(Key(7)) == None);
+    for write in shared.copies(alloc)? {
+        assert!(rt; write.row.is_some());
+    }
+    Ok(())
+}
+
 #[test]
 fn writes_are_staged(rt: HostRuntime) -> Result<(), Fail> {
     let alloc = rt.alloc();
     let mut own = Own::empty();
     assert!(rt; own.is_empty() && own.find(Key(1)).is_none());
-    let mut first = Vec::new(alloc);
-    for &key in &[5, 2, 9, 2] {
-        first.push(write(alloc, key, Some(key))?)?;
-    }
-    own.stage(first)?;
+    own.stage(writes_of(alloc, &FIRST)?)?;
     let shared = own.share()?;
-    let mut second = Vec::new(alloc);
-    second.push(write(alloc, 2, None)?)?;
-    second.push(write(alloc, 7, Some(70))?)?;
-    own.stage(second)?;
-    assert!(rt; (own.len(), shared.len()) == (4, 3));
-    for &(key, place) in &[
-        (2, Some(0)),
-        (5, Some(1)),
-        (7, Some(2)),
-        (9, Some(3)),
-        (1, None),
-        (10, None),
-    ] {
-        assert!(rt; own.find(Key(key)) == place, "of {key}");
-    }
-    assert!(rt; shared.find(Key(7)) == None);
-    for i in 0..own.len() {
-        let write = own.get(i);
-        assert!(rt; write.row.is_none() == (write.key == Key(2)));
-    }
-    for write in shared.copies(alloc)? {
-        assert!(rt; write.row.is_some());
-    }
+    own.stage(writes_of(alloc, &SECOND)?)?;
+    check_staged(&rt, &own);
+    check_shared(&rt, alloc, &shared)?;
     Ok(())
 }
 

@@ -19,7 +19,7 @@ fn schema(alloc: Global) -> Schema {
 fn add(
     alloc: Global,
     number: u64,
-    place: u32,
+    place: u64,
     entry: Entry,
     line: &mut Line,
 ) -> Result<(), Memory> {

@@ -4,6 +4,7 @@ use cs_model::{Expr, ExprRefusal, Operand, Pred, Relation, Times, Truth};
 use cs_predicate::{compute, is_like, truth};
 use cs_types::{Column, ColumnType, Loose, Row, Schema, Value};
 use std::alloc::Global;
+use std::process::Abort;
 use std::test::Fail;
 
 /// The whole number, or NULL for None.
@@ -96,24 +97,34 @@ static PRODUCTS: [(
     ),
 ];
 
+/// That each product has its value, at a row that they don't read.
+fn check_products(
+    rt: &impl Abort,
+    alloc: Global,
+    schema: &Schema,
+    row: &Row,
+) -> Result<(), Memory> {
+    for &(left, times, right, expected) in &PRODUCTS {
+        let expr = product(alloc, left, times, right)?;
+        let computed = compute(&expr, row, schema);
+        // What is let go by a call has a short proof, and what is let go at the end of its scope a long one.
+        drop(expr);
+        same(rt, &(left, times, right), &computed, &expected.map(whole));
+    }
+    Ok(())
+}
+
 #[test]
 fn products_are_computed(rt: HostRuntime) -> Result<(), Fail> {
     let alloc = rt.alloc();
     let schema = decimals(alloc)?;
     let row = one_and_a_half(alloc)?;
-    for &(left, times, right, expected) in &PRODUCTS {
-        let expr = product(alloc, left, times, right)?;
-        let computed = compute(&expr, &row, &schema);
-        same(&rt, &(left, times, right), &computed, &expected.map(whole));
-    }
+    check_products(&rt, alloc, &schema, &row)?;
     let expr = null_and(alloc, product(alloc, Some(1), Times::Divide, Some(0))?)?;
     let computed = compute(&expr, &row, &schema);
-    same(
-        &rt,
-        &"NULL and a part",
-        &computed,
-        &Err(ExprRefusal::ZeroDivisor),
-    );
+    drop(expr);
+    let expected = Err(ExprRefusal::ZeroDivisor);
+    same(&rt, &"NULL and a part", &computed, &expected);
     Ok(())
 }
 
@@ -165,12 +176,9 @@ fn comparisons_have_three_truths(rt: HostRuntime) -> Result<(), Fail> {
             sign,
             right: Operand::Constant(literal(number)),
         };
-        same(
-            &rt,
-            &(sign, number),
-            &truth(&pred, &row, &schema),
-            &expected,
-        );
+        let found = truth(&pred, &row, &schema);
+        drop(pred);
+        same(&rt, &(sign, number), &found, &expected);
     }
     Ok(())
 }

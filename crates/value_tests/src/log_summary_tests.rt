@@ -1,14 +1,14 @@
 use crate::made::same_text;
-use cs_base::Items;
+use cs_base::{Items, Memory};
 use cs_model::{Actor, Entry, Refusal, Reply, Work};
 use log_summary::print_summary;
 use std::alloc::Global;
 use std::test::Fail;
 
 /// Events other than Starts, of each kind that a summary counts.
-fn events(alloc: Global, session: u32) -> [Entry; 11] {
+fn events(alloc: Global, session: u32) -> Result<Vec<Entry>, Memory> {
     let mover = Actor::Mover(1);
-    [
+    Ok(vec![in alloc;
         Entry::Finish {
             session,
             reply: Reply::Done,
@@ -47,7 +47,7 @@ fn events(alloc: Global, session: u32) -> [Entry; 11] {
             session,
             reply: Reply::Left(Items::new(alloc)),
         },
-    ]
+    ]?)
 }
 
 /// How many events are taken, how many rows there are, and the text.
@@ -69,7 +69,8 @@ static CASES: [(usize, u128, &str); 5] = [
 
 #[test]
 fn summaries_count_each_kind(rt: HostRuntime) -> Result<(), Fail> {
-    let events = events(rt.alloc(), 7);
+    let given = events(rt.alloc(), 7)?;
+    let events = given.as_slice();
     for &(taken, rows, text) in &CASES {
         assert!(rt; taken <= events.len());
         let line = print_summary(rt.alloc(), &events[..taken], rows)?;

@@ -8,8 +8,7 @@ struct Tables;
 
 impl Reader for Tables {
     fn read(alloc: Global, text: &[u8]) -> Result<String, ReadRefusal> {
-        let schema = read_table(alloc, text)?;
-        print(alloc, &schema)
+        print(alloc, read_table(alloc, text)?)
     }
 }
 
@@ -29,7 +28,7 @@ fn wide(alloc: Global, count: usize) -> Result<Vec<u8>, AllocError> {
     Ok(bytes)
 }
 
-const SCHEMAS: [(&[u8], &str); 5] = [
+static SCHEMAS: [(&[u8], &str); 5] = [
     (
         b"CREATE TABLE t (k int PRIMARY KEY)",
         "Schema { name: [116], columns: [Column { name: [107], kind: Int, nullable: false }], key: 0 }",
@@ -57,7 +56,7 @@ fn schemas(rt: HostRuntime) -> Result<(), ReadRefusal> {
     check::<Tables>(&rt, rt.alloc(), &SCHEMAS)
 }
 
-const REFUSALS: [(&[u8], u32, u32); 34] = [
+static REFUSALS: [(&[u8], u32, u32); 34] = [
     (b"CREATE TABLE t (k int ?)", 102, 23),
     (b"CREATE TABLE t (k int, k int", 102, 29),
     (b"CREATE TABLE t (k int UNIQUE)", 50001, 23),

@@ -8,12 +8,11 @@ struct Trees;
 
 impl Reader for Trees {
     fn read(alloc: Global, text: &[u8]) -> Result<String, ReadRefusal> {
-        let tree = read_create(alloc, text)?;
-        print(alloc, &tree)
+        print(alloc, read_create(alloc, text)?)
     }
 }
 
-const SETUP_STATEMENTS: [(&[u8], &str); 9] = [
+static SETUP_STATEMENTS: [(&[u8], &str); 9] = [
     (
         b"CREATE TABLE t (k int)",
         "CreateTree { table: TableTree { first: NameTree { place: 14, bytes: [116] }, second: None }, parts: [Column { name: NameTree { place: 17, bytes: [107] }, kind: Plain { place: 19, kind: Int }, marks: [] }] }",
@@ -57,7 +56,7 @@ fn setup_statements(rt: HostRuntime) -> Result<(), ReadRefusal> {
     check::<Trees>(&rt, rt.alloc(), &SETUP_STATEMENTS)
 }
 
-const REFUSALS: [(&[u8], u32, u32); 35] = [
+static REFUSALS: [(&[u8], u32, u32); 35] = [
     (b"", 102, 1),
     (b"CREATE", 102, 7),
     (b"CREATE t", 102, 8),
