@@ -34,9 +34,10 @@ fn share_view(
 }
 
 /// The view of this moment: all groups that it shows, and the whole buffer. The first view after a change of the buffer copies
-/// its recent entries, and the settled ones where these have changed; of the groups it shares what has not changed since the last view, a chunk at a time, and no version, nor a pair of a store's
-/// index, is copied. After `Memory` the list stands for the same book, with the same rows. Larson et al., PVLDB 2015, section 4, read
-/// groups, bitmaps and the delete buffer of one moment in the same way.
+/// its recent entries, and the settled ones where these have changed; of the groups it shares what has not changed since the last
+/// view, a chunk at a time, and no version, nor a pair of a store's index, is copied. After `Memory` the list stands for the same
+/// book, with the same rows. Larson et al., PVLDB 2015, section 4, read groups, bitmaps and the delete buffer of one moment in the
+/// same way.
 pub(crate) fn view_of(
     alloc: Global,
     list: &mut GroupList,
