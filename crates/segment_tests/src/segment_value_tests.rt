@@ -1,4 +1,4 @@
-use segment_value::{Scale, restore, scale_of, shrink};
+use segment_value::{restore, scale_of, shrink};
 use std::process::Abort;
 
 const LEAST: i64 = i64::MIN;
@@ -42,25 +42,20 @@ static CASES: [Case; 13] = [
     (&[Some(LEAST), Some(MOST), None], None, &[]),
 ];
 
-/// That each cell has its code, and the code its cell.
-fn check_codes(rt: &impl Abort, scale: Scale, cells: &[Option<i64>], codes: &[u64]) {
-    for i in 0..cells.len() {
-        let code = shrink(scale, cells[i]);
-        assert!(rt;
-            codes.get(i) == Some(&code) && restore(scale, code) == cells[i],
-            "of {cells:?}"
-        );
-    }
-}
-
-/// That the cells of a case have their scale.
+/// That the cells of a case have their scale, each its code, and the code its cell.
 fn check_case(rt: &impl Abort, case: &Case) {
     let (cells, wanted, codes) = *case;
     let found = scale_of(cells);
     let parts = found.map(|it| (it.exponent, it.base, it.nulls));
     assert!(rt; parts == wanted, "of {cells:?}");
     if let Some(scale) = found {
-        check_codes(rt, scale, cells, codes);
+        for i in 0..cells.len() {
+            let code = shrink(scale, cells[i]);
+            assert!(rt;
+                codes.get(i) == Some(&code) && restore(scale, code) == cells[i],
+                "of {cells:?}"
+            );
+        }
     }
 }
 

@@ -15,40 +15,38 @@ fn schema(alloc: Global) -> Schema {
     }
 }
 
-/// Adds an entry of this number and of the statement at this place.
-fn add(
-    alloc: Global,
-    number: u64,
-    place: u64,
-    entry: Entry,
-    line: &mut Line,
-) -> Result<(), Memory> {
-    print_entry(alloc, &schema(alloc), number, place, &entry, line)
-}
-
-/// The start of a statement.
-fn start(alloc: Global, session: u32) -> Result<Entry, Memory> {
-    Ok(Entry::Start {
-        session,
-        bound: Arc::new(alloc, Bound::Begin)?,
-        short: false,
-    })
-}
-
-/// The end of a statement, with its reply.
-fn finish(session: u32, reply: Reply) -> Entry {
-    Entry::Finish { session, reply }
-}
-
 #[test]
 fn entries_are_added_to_a_line(rt: HostRuntime) -> Result<(), Fail> {
     let alloc = rt.alloc();
-    let refused = Refusal::Reading { number: 102, at: 8 };
+    let schema = schema(alloc);
+    let Ok(bound) = Arc::new(alloc, Bound::Begin) else {
+        return Err(Fail::from(Memory));
+    };
+    let start = Entry::Start {
+        session: 12,
+        bound,
+        short: false,
+    };
+    let affected = Entry::Finish {
+        session: 3,
+        reply: Reply::Affected(2),
+    };
+    let refused = Entry::Finish {
+        session: 12,
+        reply: Reply::Refused(Refusal::Reading { number: 102, at: 8 }),
+    };
     let mut line = Line::new(alloc);
-    add(alloc, 1, 4, start(alloc, 12)?, &mut line)?;
-    add(alloc, 2, 1, finish(3, Reply::Affected(2)), &mut line)?;
-    add(alloc, 3, 4, finish(12, Reply::Refused(refused)), &mut line)?;
-    add(alloc, 10, 0, Entry::End { session: 64 }, &mut line)?;
+    print_entry(alloc, &schema, 1, 4, &start, &mut line)?;
+    print_entry(alloc, &schema, 2, 1, &affected, &mut line)?;
+    print_entry(alloc, &schema, 3, 4, &refused, &mut line)?;
+    print_entry(
+        alloc,
+        &schema,
+        10,
+        0,
+        &Entry::End { session: 64 },
+        &mut line,
+    )?;
     same_text(
         &rt,
         line.as_slice(),
@@ -59,9 +57,17 @@ fn entries_are_added_to_a_line(rt: HostRuntime) -> Result<(), Fail> {
 
 /// The text of these works of an actor, each as the eighth event.
 fn text_of(alloc: Global, actor: Actor, works: &[Work]) -> Result<Line, Memory> {
+    let schema = schema(alloc);
     let mut line = Line::new(alloc);
     for &work in works {
-        add(alloc, 8, 0, Entry::Mover { actor, work }, &mut line)?;
+        print_entry(
+            alloc,
+            &schema,
+            8,
+            0,
+            &Entry::Mover { actor, work },
+            &mut line,
+        )?;
     }
     Ok(line)
 }
@@ -164,27 +170,22 @@ static GROUPS: [(u64, GroupState, u64, u64); 5] = [
     (12, GroupState::Tombstone, 2, 1),
 ];
 
-/// The lines of the groups.
-fn group_lines(alloc: Global) -> Result<Items<GroupLine>, Memory> {
-    let mut lines = Items::new(alloc);
-    for (id, state, total, deleted) in &GROUPS {
-        lines.push(GroupLine {
-            id: *id,
-            state: *state,
-            total: *total,
-            deleted: *deleted,
-        })?;
-    }
-    Ok(lines)
-}
-
 #[test]
 fn a_group_report_has_a_line_for_each_group(rt: HostRuntime) -> Result<(), Fail> {
-    let alloc = rt.alloc();
-    let lines = group_lines(alloc)?;
-    let mut line = Line::new(alloc);
+    let mut lines = Items::new(rt.alloc());
+    for &(id, state, total, deleted) in &GROUPS {
+        lines.push(GroupLine {
+            id,
+            state,
+            total,
+            deleted,
+        })?;
+    }
+    let schema = schema(rt.alloc());
     let reply = Reply::Groups { lines, buffered: 7 };
-    add(alloc, 8, 4, finish(1, reply), &mut line)?;
+    let finish = Entry::Finish { session: 1, reply };
+    let mut line = Line::new(rt.alloc());
+    print_entry(rt.alloc(), &schema, 8, 4, &finish, &mut line)?;
     let text = b"8 s1.4 < ok 5 groups, 7 buffered
   1, 0, INVISIBLE, 0, 0
   2, 1, OPEN, 1, 0
@@ -199,19 +200,21 @@ fn a_group_report_has_a_line_for_each_group(rt: HostRuntime) -> Result<(), Fail>
 #[test]
 fn a_report_without_lines_has_its_counts(rt: HostRuntime) -> Result<(), Fail> {
     let alloc = rt.alloc();
-    let groups = Reply::Groups {
-        lines: Items::new(alloc),
-        buffered: 0,
+    let schema = schema(alloc);
+    let groups = Entry::Finish {
+        session: 1,
+        reply: Reply::Groups {
+            lines: Items::new(alloc),
+            buffered: 0,
+        },
+    };
+    let segments = Entry::Finish {
+        session: 1,
+        reply: Reply::Segments(Items::new(alloc)),
     };
     let mut line = Line::new(alloc);
-    add(alloc, 2, 1, finish(1, groups), &mut line)?;
-    add(
-        alloc,
-        4,
-        2,
-        finish(1, Reply::Segments(Items::new(alloc))),
-        &mut line,
-    )?;
+    print_entry(alloc, &schema, 2, 1, &groups, &mut line)?;
+    print_entry(alloc, &schema, 4, 2, &segments, &mut line)?;
     let text = b"2 s1.1 < ok 0 groups, 0 buffered\n4 s1.2 < ok 0 segments\n";
     same_text(&rt, line.as_slice(), text);
     Ok(())
