@@ -21,8 +21,8 @@ pub fn merged(alloc: Global, parts: Parts<'_>) -> Result<Vec<(Key, u64)>, Memory
     requires { AreParts parts.settled.now parts.recent.now }
     ensures { IfOk result (λ all. all.items ≡ merged parts.entry.settled.now parts.entry.recent.now) }
 {
-    let mut all = Vec::from_slice(alloc, parts.settled)?;
-    all.reserve(parts.recent.len())?;
+    let mut all = Vec::with_capacity(alloc, parts.settled.len() + parts.recent.len())?;
+    all.extend_from_slice(parts.settled)?;
     merge_in(&mut all, Added::Entries(parts.recent));
     Ok(all)
 }

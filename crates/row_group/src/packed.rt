@@ -270,11 +270,12 @@ impl Packed {
     {
         let end = self.places().len();
         let mut low = from;
-        while !self.is_past(low + (low - from), key, tied) {
-            low += low - from + 1;
+        let mut probe = from;
+        while !self.is_past(probe, key, tied) {
+            low = probe + 1;
+            probe += low - from;
         }
-        let high = end.min(low + (low - from));
-        self.first_place(low, high, key, tied)
+        self.first_place(low, end.min(probe), key, tied)
     }
 
     /// Whether a place is past the last, or its key does not come before this one; where it may tie, comes after it.

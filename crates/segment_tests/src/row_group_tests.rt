@@ -436,7 +436,7 @@ fn check_keys(rt: &impl Abort, group: &Packed) {
     assert!(rt; group.width() == 3 && group.stamped().len() == 0);
 }
 
-/// That the keys of a group stand in codes of two bits.
+/// That the group has three columns, and the keys, the first of them, stand in codes of two bits.
 fn check_codes(rt: &impl Abort, group: &Packed) {
     assert!(rt; group.width() == 3);
     match &group.segment(0).body {
