@@ -299,7 +299,7 @@ static COMMENTS: [(usize, usize, u32, u32); 3] = [
     (65, 64, 102, 1),
 ];
 
-/// A name behind such comments is cut, or refused.
+/// A name after such comments is cut, or refused.
 fn fits_comments(rt: &impl Abort, alloc: Global, bytes: &[u8], number: u32, at: u32) -> bool {
     assert!(rt; bytes.len() <= 131_072);
     if number == 0 {
