@@ -27,6 +27,7 @@ abbrev pub chosen_by : Option (CowSlice Bool Global) → Option (List Bool) → 
 chosen_by None shown i = is_shown shown i
 chosen_by (Some kept) shown i = slice_index_or (cow_slice_items kept) i false
 
+-- the same by the list and the set of a group's chosen rows
 abbrev pub is_chosen : Chosen → ℕ → Bool
 is_chosen chosen i = chosen_by chosen.kept (option_copied chosen.shown) i
 

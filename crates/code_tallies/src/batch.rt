@@ -18,7 +18,7 @@ use delete_bitmap::Positions;
 use std::alloc::Global;
 use std::borrow::CowSlice;
 
-/// Which rows are shown and kept by the verdicts. None where these are all that are shown.
+/// Which rows are shown and kept by the verdicts. Where None comes, these are all that are shown.
 pub fn kept_of<'a, V: Verdicts>(
     alloc: Global,
     length: usize,

@@ -14,8 +14,8 @@ pub struct Chosen<'a> {
     pub length: usize,
     /// The rows that are shown. None where each row is.
     pub shown: Option<&'a Positions>,
-    /// Whether each row is chosen: the verdicts of a filter, or where rows are not shown a list of its own. None where each row that
-    /// is shown is.
+    /// Whether each row is chosen: the verdicts as they stand, or, where some rows are hidden, a list of those shown and kept. Where
+    /// it is None, each row that is shown is chosen.
     pub kept: Option<CowSlice<'a, bool, Global>>,
     /// The grouping columns.
     pub keys: Vec<Column<'a>>,

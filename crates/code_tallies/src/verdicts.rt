@@ -5,17 +5,18 @@ ghost use Rattle.code_tallies.specs.Shown.{is_shown};
 
 use batch_filter::Sieve;
 
-/// Which rows of a group a filter keeps.
+/// Which rows of a group are kept.
 pub trait Verdicts {
     /// Whether it keeps the row at a position.
     ghost kept: { Self → ℕ → Bool };
 
-    /// Whether it keeps each row of a group of so many: a bool for each, and false past the last bool. None where it keeps all.
+    /// Whether it keeps each of the first `length` rows: the bool at its place, and false past the last bool. Where None comes, it keeps
+    /// all of them.
     fn flags(&self, length: usize) -> Option<&[bool]>
         ensures { (i : ℕ) → i < length → is_shown (option_copied result) i ≡ kept self.now i };
 }
 
-/// The verdicts of no filter: every row is kept.
+/// Every row is kept: there is no filter, or it is known to keep each row that is shown.
 #[derive(Debug, Clone, Copy, PartialEq, Eq)]
 pub struct EveryRow;
 

@@ -38,9 +38,10 @@ impl Case {
     }
 }
 
-/// Numbers near one another, far apart and without a NULL; many of them; texts; NULLs alone; and few keys, so that both columns stand
+/// Numbers near one another, far apart and without a NULL; many of them; texts; NULLs alone, in a column of numbers and in one of texts,
+/// whose dictionary is one of numbers; and few keys, so that both columns stand
 /// in long runs.
-static CASES: [Case; 9] = [
+static CASES: [Case; 10] = [
     Case {
         kind: ColumnType::Int,
         cells: &[
@@ -99,6 +100,12 @@ static CASES: [Case; 9] = [
         few: true,
     },
     Case {
+        kind: ColumnType::VarChar { n: 2 },
+        cells: &[Cell::Null],
+        keys: 40,
+        few: true,
+    },
+    Case {
         kind: ColumnType::BigInt,
         cells: &[
             Cell::Number(i64::MAX),
@@ -140,8 +147,15 @@ fn packed_of(
     pack_rows(alloc, &schema, versions, 1)
 }
 
-/// The items of a query and its grouping columns, and the least key that its filter keeps, where it has one.
-type Asked = (&'static [Item], &'static [usize], Option<i128>);
+/// What a query keeps: the rows of keys from one on, or those whose v is NULL, or is none.
+#[derive(Clone, Copy, Debug)]
+enum Kept {
+    From(i128),
+    Null(bool),
+}
+
+/// The items of a query and its grouping columns, and what it keeps, where that is not all.
+type Asked = (&'static [Item], &'static [usize], Option<Kept>);
 
 const ALL: &[Item] = &[
     Item::CountAll,
@@ -188,32 +202,40 @@ const BY_BOTH: &[Item] = &[
     Item::Sum(0),
 ];
 
-static QUERIES: [Asked; 8] = [
+static QUERIES: [Asked; 10] = [
     (ALL, &[], None),
-    (ALL, &[], Some(7)),
+    (ALL, &[], Some(Kept::From(7))),
+    (ALL, &[], Some(Kept::Null(true))),
     (BOUNDS, &[], None),
-    (BOUNDS, &[], Some(0)),
+    (BOUNDS, &[], Some(Kept::From(0))),
     (BY_CELL, &[1], None),
-    (BY_CELL, &[1], Some(7)),
+    (BY_CELL, &[1], Some(Kept::From(7))),
     (BY_KEY, &[0], None),
-    (BY_BOTH, &[0, 1], Some(7)),
+    (BY_KEY, &[0], Some(Kept::Null(false))),
+    (BY_BOTH, &[0, 1], Some(Kept::From(7))),
 ];
 
-/// The filter `k >= least`.
-fn filter(least: i128) -> Pred {
-    Pred::Compare {
-        left: Operand::Column(0),
-        sign: Relation::GreaterEqual,
-        right: Operand::Constant(Loose::Number { m: least, s: 0 }),
+/// The filter that keeps so much.
+fn filter(kept: Kept) -> Pred {
+    match kept {
+        Kept::From(least) => Pred::Compare {
+            left: Operand::Column(0),
+            sign: Relation::GreaterEqual,
+            right: Operand::Constant(Loose::Number { m: least, s: 0 }),
+        },
+        Kept::Null(wanted) => Pred::IsNull {
+            column: 1,
+            negated: !wanted,
+        },
     }
 }
 
 /// A query that puts rows together.
 fn query_of(alloc: Global, asked: Asked) -> Result<Query, Memory> {
-    let (items, groups, least) = asked;
+    let (items, groups, kept) = asked;
     Ok(Query {
         items: list(alloc, items)?,
-        filter: least.map(filter),
+        filter: kept.map(filter),
         groups: list(alloc, groups)?,
         grouped: true,
         order: Items::new(alloc),

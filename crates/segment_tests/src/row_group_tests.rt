@@ -455,3 +455,28 @@ fn a_group_finds_its_keys(rt: HostRuntime) -> Result<(), Fail> {
     drop(group);
     Ok(())
 }
+
+/// All fields of the group of these rows: its segments, whose codes stand as those of the tests of segments do, and beside them the key's
+/// column, the number of rows, the base, no stamped begin, and the positions by key.
+const FOUR_SHOWN: &str =
+    "Packed { segments: [Segment { length: 4, body: ValuePacked { scale: Scale { exponent: 0, base: 1, nulls: false }, width: 2, codes: [177] }, least: Number(1), greatest: Number(4), nulls: false }, Segment { length: 4, body: DictPacked { dict: Numbers(NumberDict { entries: [7], nulls: false }), width: 0, codes: [] }, least: Number(7), greatest: Number(7), nulls: false }, Segment { length: 4, body: DictPacked { dict: Texts(TextDict { ends: [1, 2], bytes: [97, 98], nulls: true }), width: 2, codes: [148] }, least: Text([97]), greatest: Text([98]), nulls: true }], key: 0, length: 4, base: 0, late: [], places: [1, 0, 3, 2] }";
+
+/// That a group has these fields, all of them.
+fn check_fields(
+    rt: &impl Abort,
+    alloc: Global,
+    group: &Packed,
+    wanted: &str,
+) -> Result<(), Memory> {
+    let found = format!(in alloc; "{group:?}")?;
+    assert!(rt; found.as_str() == wanted);
+    Ok(())
+}
+
+#[test]
+fn fields_of_a_group(rt: HostRuntime) -> Result<(), Fail> {
+    let group = some_group(&rt, rt.alloc(), &FOUR_ROWS)?;
+    let outcome = check_fields(&rt, rt.alloc(), &group, FOUR_SHOWN);
+    drop(group);
+    Ok(outcome?)
+}
