@@ -2,7 +2,7 @@
 use Rattle.std.specs.Prelude.{◌≡◌, ◌⊎◌, ◌+◌, ◌<◌, ◌≤◌, ℕ, nat_le, Bool, not, ◌&&◌, List, length, slice_index_or, false, if◌then◌else◌}
 use Rattle.batch_kernels.specs.declared.masks.Span.{Span}
 
--- a bool, or turned round
+-- whether two bools are the same
 abbrev pub same_as : Bool → Bool → Bool
 same_as inside b = if inside then b else not b
 

@@ -12,6 +12,7 @@ use Rattle.write_set.specs.declared.write.Write.{Write}
 use Rattle.delete_buffer.specs.Entries.{Entry, merged}
 use Rattle.row_group.specs.Groups.{Group, row_at, key_at_place, AreByKey, ArePlacesOf}
 use Rattle.row_group.specs.Fields.{begin_in, AreStamps}
+use Rattle.row_group.proofs.GroupLemmas.{places_by_key}
 use Rattle.group_book.specs.Book.{Ending}
 use Rattle.group_book.proofs.Keys.{key_here, key_is}
 use Rattle.group_view.specs.Views.{endings_of}
@@ -152,11 +153,11 @@ module _ (group : Group) (end : Option ℕ) (from : ℕ) (old : List ℕ) where
 
     -- the place is none of those before it
     apart : (i : ℕ) → i < n → at i ≢ at n
-    apart i less same = absurd (omega (arith, less, by_key.once i n (omega (arith, less, there)) there same))
+    apart i less same = absurd (omega (arith, less, (places_by_key group by_key).once i n (omega (arith, less, there)) there same))
 
     pub walk_push : (q : ℕ) → q ≡ at n → is_begun_below end (row_at group q).begin ≡ true → IsWalk group end from (n + 1) old (new ++ q ∷ [])
     walk_push q is below = record {
-      within = λ all. All-push (λ p. p < length group.rows) new q (walk.within all) (omega (arith, is, by_key.within n there));
+      within = λ all. All-push (λ p. p < length group.rows) new q (walk.within all) (omega (arith, is, (places_by_key group by_key).within n there));
       done = λ i low high. elim (cases_lt i n) [
         | inl less ↦
             one_more new q (at i) ∙ ap (λ (b : Bool). is_one_of new (at i) || b) (ne_eqb q (at i) (λ e. apart i less (sym e ∙ is)))

@@ -10,7 +10,7 @@ use Rattle.std.proofs.lemmas.Option.{get_or_from_slice_get, same_Some}
 use Rattle.cs_types.specs.declared.Key.{Key}
 use Rattle.cs_types.specs.declared.Schema.{Schema}
 use Rattle.cs_types.specs.declared.Value.{Value}
-use Rattle.cs_types.specs.Rows.{key_in}
+use Rattle.cs_types.specs.Rows.{key_in, padded}
 use Rattle.cs_model.specs.declared.pred.Pred.{Pred}
 use Rattle.cs_model.specs.Answers.{chosen}
 use Rattle.cs_model.specs.Changes.{Table}
@@ -22,7 +22,7 @@ use Rattle.row_group.specs.Rows.{PackedRow}
 use Rattle.batch_kernels.specs.Places.{places}
 use Rattle.batch_kernels.proofs.OneMore.{filter-more}
 use Rattle.group_view.specs.declared.view.Pinned.{Pinned}
-use Rattle.group_view.specs.Parts.{Rowed, packed_version, packed_versions, padded}
+use Rattle.group_view.specs.Parts.{Rowed, packed_version, packed_versions}
 use Rattle.group_view.specs.Views.{version_at}
 use Rattle.group_view.proofs.Versions.{length-packed_versions, packed_read}
 use Rattle.batch_scan.specs.Reads.{is_read, read_flags, read_row, rowed_at}

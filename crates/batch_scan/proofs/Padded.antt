@@ -1,13 +1,12 @@
 -- A predicate says the same of a row in its own cells and in the table's.
-use Rattle.std.proofs.Common.{◌≡◌, ℕ, List, length, refl, sym, ap, ◌∙◌, arith}
+use Rattle.std.proofs.Common.{◌≡◌, ℕ, List, length, refl, sym, ap}
 use Rattle.std.specs.Prelude.{Option, None, Some, slice_get}
-use Rattle.std.proofs.lemmas.List.FromFn.{get_or-map-range_with_len}
 use Rattle.std.proofs.lemmas.Option.{slice_get_within}
 use Rattle.cs_types.specs.declared.Column.{Column}
 use Rattle.cs_types.specs.declared.Schema.{Schema}
 use Rattle.cs_types.specs.declared.Value.{Value}
-use Rattle.cs_types.specs.declared.Value.TheVariants.{Null}
-use Rattle.cs_types.specs.Rows.{cell_at}
+use Rattle.cs_types.specs.Rows.{cell_at, padded}
+use Rattle.cs_types.proofs.PaddedLemmas.{padded_cell}
 use Rattle.cs_model.specs.declared.pred.Operand.{Operand}
 use Rattle.cs_model.specs.declared.pred.Operand.TheVariants as operand
 use Rattle.cs_model.specs.declared.pred.Pred.{Pred}
@@ -17,8 +16,6 @@ use Rattle.cs_model.specs.declared.truth.Truth.{Truth}
 use Rattle.cs_model.specs.Cells.{loose_at, loose_in}
 use Rattle.cs_model.specs.Queries.{is_true, keeps}
 use Rattle.cs_model.specs.Truths.{truth, truth_step, operand_of, compare, not_if, between, among, like, truth_if, is_null}
-use Rattle.row_group.proofs.ShownLemmas.{cell_at-get_or}
-use Rattle.group_view.specs.Parts.{padded}
 
 module _ (schema : Schema) where
   abbrev width : ℕ
@@ -28,7 +25,7 @@ module _ (schema : Schema) where
   at_column row i None is = refl
   at_column row i (Some column) is =
       let within = slice_get_within schema.columns i column is in
-      ap (loose_in (Some column)) (sym (cell_at-get_or (padded width row) i ∙ get_or-map-range_with_len (cell_at row) 0 width i i Null within (omega arith)))
+      ap (loose_in (Some column)) (sym (padded_cell width row i within))
 
   -- in each column a row stands for the same in the table's cells
   pub one_loose : (row : List Value) (i : ℕ) → loose_at schema row i ≡ loose_at schema (padded width row) i

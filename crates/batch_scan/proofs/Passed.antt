@@ -8,7 +8,7 @@ use Rattle.std.proofs.lemmas.List.Elements.{recursion_from_All}
 use Rattle.cs_types.specs.declared.Loose.{Loose}
 use Rattle.cs_types.specs.declared.Schema.{Schema}
 use Rattle.cs_types.specs.declared.Value.{Value}
-use Rattle.cs_types.specs.Rows.{cell_at}
+use Rattle.cs_types.specs.Rows.{cell_at, padded}
 use Rattle.cs_model.specs.declared.pred.Pred.{Pred}
 use Rattle.cs_model.specs.declared.pred.Pred.TheFolds.{fold-Pred}
 use Rattle.cs_model.specs.declared.truth.Truth.{Truth}
@@ -24,7 +24,7 @@ use Rattle.group_view.specs.declared.view.Pinned.{Pinned}
 use Rattle.group_view.specs.declared.parts.GroupPart.{GroupPart}
 use Rattle.group_view.specs.declared.parts.GroupPart.TheVariants.{Packed, Store}
 use Rattle.group_view.specs.declared.parts.GroupRef.TheVariants as lent
-use Rattle.group_view.specs.Parts.{packed_version, packed_versions, padded, rowed_in, IsBorrowed}
+use Rattle.group_view.specs.Parts.{packed_version, packed_versions, rowed_in, IsBorrowed}
 use Rattle.group_view.specs.Laws.{shown_row}
 use Rattle.batch_scan.specs.Reads.{is_read, read_row}
 use Rattle.batch_scan.proofs.Padded.{one_loose}

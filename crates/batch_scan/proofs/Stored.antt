@@ -14,9 +14,10 @@ use Rattle.cs_model.specs.Changes.{Table}
 use Rattle.cs_model.specs.Queries.{keeps}
 use Rattle.delta_store.specs.declared.version.KeyedVersion.{KeyedVersion}
 use Rattle.cs_types.specs.declared.row.Version.{Version as Stored}
+use Rattle.cs_types.specs.Rows.{padded}
 use Rattle.write_set.specs.declared.write.Write.{Write}
 use Rattle.group_view.specs.declared.view.Pinned.{Pinned}
-use Rattle.group_view.specs.Parts.{Rowed, padded, stored_version, stored_versions}
+use Rattle.group_view.specs.Parts.{Rowed, stored_version, stored_versions}
 use Rattle.group_view.specs.Laws.{shown_row}
 use Rattle.batch_scan.specs.Reads.{is_read, own_row, read_key, read_row}
 use Rattle.batch_scan.proofs.Padded.{keeps_padded}

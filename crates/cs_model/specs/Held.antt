@@ -1,29 +1,21 @@
--- Rows that the columns of a table hold, and edits that a table may take.
-use Rattle.std.specs.Prelude.{◌≡◌, ℕ, ◌≤◌, IsTrue, List, length, slice_get, All, IfSome, Option, None, Some}
-use Rattle.cs_types.specs.declared.Column.{Column}
+-- Rows of a table under their keys, and edits that a table may take.
+use Rattle.std.specs.Prelude.{◌≡◌, List, length, All, IfSome, Option}
 use Rattle.cs_types.specs.declared.Key.{Key}
 use Rattle.cs_types.specs.declared.Schema.{Schema}
 use Rattle.cs_types.specs.declared.Value.{Value}
-use Rattle.cs_types.specs.Rows.{cell_at, key_in}
-use Rattle.cs_types.specs.Schemas.{may_hold}
+use Rattle.cs_types.specs.Rows.{key_in}
+use Rattle.cs_types.specs.Schemas.{IsRowOf}
 use Rattle.cs_model.specs.Changes.{Edit, Table, Change}
 use Rattle.cs_model.specs.Text.{IsPrintableKey}
 
--- each column may hold its cell of the row
-abbrev pub IsHeld : Schema → List Value → Type 0
-IsHeld schema row = (i : ℕ) (column : Column) → slice_get schema.columns i ≡ Some column → IsTrue (may_hold column (cell_at row i))
-
--- a row of the table under its key: no more cells than there are columns, each held by its column, and in the key's column
--- the key
-pub record IsRowAt (schema : Schema) (key : Key) (row : List Value) : Type 0 where
-  pub held : IsHeld schema row
-  pub width : length row ≤ length schema.columns
-  pub under : key_in schema.key row ≡ key
+-- a row of the table under its key: one that fits the schema, with the key in the key's column
+pub record IsRowAt (schema : Schema) (key : Key) (cells : List Value) : Type 0 where
+  pub row : IsRowOf schema cells
+  pub under : key_in schema.key cells ≡ key
 
 -- nothing may stand at a key, or a row of that key
 abbrev pub MayStand : Schema → Key → Option (List Value) → Type 0
-MayStand schema key None = Unit {0}
-MayStand schema key (Some row) = IsRowAt schema key row
+MayStand schema key row = IfSome row (IsRowAt schema key)
 
 -- an edit of a key that can be printed, to nothing or to a row of that key
 abbrev pub IsFit : Schema → Edit → Type 0

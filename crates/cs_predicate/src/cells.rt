@@ -13,7 +13,7 @@ pub trait Cells {
     ghost use Rattle.std.specs.Prelude.{List};
     ghost use Rattle.cs_types.specs.declared.Value.{Value as Cell};
 
-    /// The row.
+    /// The row whose cells these are.
     ghost row_of: { Self → List Cell };
 
     /// What the cell of a column of this type lends, NULL past the row's end.

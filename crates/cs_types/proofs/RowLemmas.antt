@@ -11,7 +11,8 @@ use Rattle.cs_types.specs.Kinds.{is_short}
 use Rattle.cs_types.specs.Rows.{cell_at, IsNumber}
 use Rattle.cs_types.specs.Schemas.{is_key_kind, may_hold, IsSchema, IsRowOf}
 
-no_text : (kind : ColumnType) (t : List ℕ) → IsTrue (is_key_kind kind) → IsTrue (is_short kind t) → ⊥
+-- no key is a text
+pub no_text : (kind : ColumnType) (t : List ℕ) → IsTrue (is_key_kind kind) → IsTrue (is_short kind t) → ⊥
 no_text TinyInt t key held = cc
 no_text SmallInt t key held = cc
 no_text Int t key held = cc

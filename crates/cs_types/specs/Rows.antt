@@ -1,5 +1,6 @@
 -- Rows and their keys.
-use Rattle.std.specs.Prelude.{ℕ, ℤ, pos, List, slice_get, unwrap_or, Option, None, Some}
+use Rattle.std.specs.Prelude.{ℕ, ℤ, pos, List, map, slice_get, unwrap_or, Option, None, Some}
+use Rattle.std.specs.List.{range_with_len}
 use Rattle.cs_types.specs.declared.Value.{Value}
 use Rattle.cs_types.specs.declared.Value.TheVariants.{Null, Number, Text}
 use Rattle.cs_types.specs.declared.Key.{Key}
@@ -7,6 +8,10 @@ use Rattle.cs_types.specs.declared.Key.{Key}
 -- the cell of a column, NULL past the row's end
 abbrev pub cell_at : List Value → ℕ → Value
 cell_at cells column = unwrap_or (slice_get cells column) Null
+
+-- a row in so many cells, NULL past its own
+abbrev pub padded : ℕ → List Value → List Value
+padded width cells = map (cell_at cells) (range_with_len 0 width)
 
 -- the value is a number
 abbrev pub IsNumber : Value → Type 0

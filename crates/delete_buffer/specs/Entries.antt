@@ -45,7 +45,7 @@ abbrev pub placed : Entry → List Entry → List Entry
 placed x [] = x ∷ []
 placed x (y ∷ entries) = if is_lt (entry_cmp x y) then x ∷ (y ∷ entries) else y ∷ placed x entries
 
--- the entries of two lists in order, in one order
+-- the entries of two lists, each in order, as one list in order
 abbrev pub merged : List Entry → List Entry → List Entry
 merged settled [] = settled
 merged settled (x ∷ recent) = placed x (merged settled recent)
@@ -66,7 +66,7 @@ abbrev pub IsLeastEnd : List Entry → Key → ℕ → Option ℕ → Type 0
 IsLeastEnd entries key begin None = All (λ x. x.0 ≡ key → x.1 ≤ begin) entries
 IsLeastEnd entries key begin (Some end) = Contains entries (key, end) × (begin < end) × All (λ x. x.0 ≡ key → begin < x.1 → end ≤ x.1) entries
 
--- the lesser of two ends, where both are there
+-- the lesser of two ends; where one is not there, the other
 abbrev pub lesser : Option ℕ → Option ℕ → Option ℕ
 lesser None other = other
 lesser (Some end) None = Some end

@@ -16,8 +16,9 @@ abbrev pub IsSharedOf : List Entry → Option (Arc Ends Global) → Type 0
 IsSharedOf entries None = Unit {0}
 IsSharedOf entries (Some shown) = shown.value ≡ entries
 
--- what is kept true: the entries are in two parts, and what is shared is still the same
-pub record AreKept (settled recent : List Entry) (shared : Option (Arc (Vec Entry Global) Global)) (shown : Option (Arc Ends Global)) : Type 0 where
+-- what is kept true: the entries are in two parts; the copy of the settled ones, where there is one, has exactly them, and what is
+-- shared of all, where something is, has all
+pub record AreUpToDate (settled recent : List Entry) (shared : Option (Arc (Vec Entry Global) Global)) (shown : Option (Arc Ends Global)) : Type 0 where
   pub parts : AreParts settled recent
   pub shared_same : IsCopyOf settled shared
   pub shown_same : IsSharedOf (merged settled recent) shown

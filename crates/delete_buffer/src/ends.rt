@@ -73,7 +73,7 @@ pub(crate) fn least_of(
     )
 }
 
-/// The lesser of two ends, where both are there.
+/// The lesser of two ends; where one is not there, the other.
 fn lesser(first: Option<u64>, second: Option<u64>) -> Option<u64>
     ensures { result ≡ lesser first second }
 {

@@ -38,13 +38,13 @@ pub struct Buffer {
 impl Model for Buffer {
     ghost use Rattle.std.specs.Prelude.{◌-◌, vec_capacity, vec_len};
     ghost use Rattle.delete_buffer.specs.Entries.{Room, merged};
-    ghost use Rattle.delete_buffer.specs.Shared.{AreKept};
+    ghost use Rattle.delete_buffer.specs.Shared.{AreUpToDate};
 
     ghost Value = { Room };
 
     ghost view = { λ b. record { entries = merged b.settled.items b.recent.items; spare = vec_capacity b.recent - vec_len b.recent } };
 
-    ghost invariant = { λ b. AreKept b.settled.items b.recent.items b.shared b.shown };
+    ghost invariant = { λ b. AreUpToDate b.settled.items b.recent.items b.shared b.shown };
 }
 
 impl Buffer {

@@ -112,7 +112,7 @@ abbrev Fits : Rowed → Type 0
 Fits rowed = IsFit number_table (shown_edit 1 rowed)
 
 fits_row : (n : ℕ) → n < 256 → Fits (number_row n)
-fits_row n less = (kept n less, record { held = λ i column at. held n i column less at; width = omega arith; under = refl })
+fits_row n less = (kept n less, record { row = record { short = omega arith; held = λ i column at. held n i column less at }; under = refl })
 
 all_fit : (a n : ℕ) → a + n ≤ 256 → All Fits (map number_row (range_with_len a n))
 all_fit a zero most = All-nil Fits

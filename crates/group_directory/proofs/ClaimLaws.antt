@@ -25,7 +25,7 @@ use Rattle.group_view.specs.declared.claim.Claim.{Claim}
 use Rattle.group_view.specs.declared.groups.Group.{Group}
 use Rattle.group_view.specs.declared.groups.GroupList.{GroupList}
 use Rattle.group_view.specs.declared.parts.GroupPart.{GroupPart}
-use Rattle.group_view.specs.Laws.{IsRowOf}
+use Rattle.group_view.specs.Laws.{IsMadeRow}
 use Rattle.std.proofs.lemmas.Grind.{flat_map-append}
 use Rattle.group_view.specs.Parts.{ArePacked, Rowed, IsFitting}
 use Rattle.group_view.specs.Views.{endings_of, rowed_of}
@@ -277,7 +277,7 @@ module _ (directory : Directory) (cs : List Change) (j : Stands directory cs) wh
           stands_kept after after_is is_book own others = stands_moved directory cs j list
               (record {
                 held = held_kept;
-                rows = subst (λ (groups : List (ℕ × List Rowed)). All (IsRowOf (width_in directory) cs) (rows_in groups)) (sym listed_kept) j.rows;
+                rows = subst (λ (groups : List (ℕ × List Rowed)). All (IsMadeRow (width_in directory) cs) (rows_in groups)) (sym listed_kept) j.rows;
                 packed = subst (ArePacked directory.schema.value) (sym packed_kept) j.packed;
                 loans = subst (All (IsLoanOf directory.schema.value cs)) (sym k.claims) (All-cons (IsLoanOf directory.schema.value cs) (turn.actor, k.kept) directory.list.claims.items loan_kept j.loans);
                 lent = subst (All (StandsAsLent (book_of list))) (sym k.claims) (subst (λ (b : Book). All (StandsAsLent b) ((turn.actor, k.kept) ∷ directory.list.claims.items)) (sym after_is)

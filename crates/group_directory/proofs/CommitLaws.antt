@@ -35,7 +35,7 @@ use Rattle.group_view.specs.declared.groups.Group.{Group}
 use Rattle.group_view.specs.declared.groups.GroupList.{GroupList}
 use Rattle.group_view.specs.Books.{book_of}
 use Rattle.group_view.specs.Lists.{listed, packed_in, IsHeld}
-use Rattle.group_view.specs.Laws.{IsRowOf}
+use Rattle.group_view.specs.Laws.{IsMadeRow}
 use Rattle.group_view.specs.Parts.{Rowed, ArePacked}
 use Rattle.group_directory.specs.declared.directory.Directory.{Directory}
 use Rattle.group_view.specs.Seen.{rooted}
@@ -224,7 +224,7 @@ module _ (directory : Directory) (cs : List Change) (j : Stands directory cs) wh
     floor = j.floor;
     is_floor = j.is_floor;
     book = subst (λ (whole : Book). IsBookOf directory.sizes.group_rows whole cs j.floor) (sym book_is) j.book;
-    rows = subst (λ (groups : List (ℕ × List Rowed)). All (IsRowOf (width_in directory) cs) (rows_in groups)) (sym rows) j.rows;
+    rows = subst (λ (groups : List (ℕ × List Rowed)). All (IsMadeRow (width_in directory) cs) (rows_in groups)) (sym rows) j.rows;
     packed = subst (ArePacked directory.schema.value) (sym packed) j.packed;
     loans = subst (λ (all : List (Actor × Claim)). All (IsLoanOf directory.schema.value cs) all) (sym (ap (λ (some : Vec (Actor × Claim) Global). some.items) claims)) j.loans;
     lent = lent_moved directory.list list (book_of directory.list) book_is (ap (λ (some : Vec (Actor × Claim) Global). some.items) claims) (λ claim in_list. refl) j.lent;

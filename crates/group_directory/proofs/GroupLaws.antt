@@ -36,7 +36,7 @@ use Rattle.group_view.specs.Parts.{Rowed, packed_parts, ArePacked, IsPackedGroup
 use Rattle.group_view.specs.Views.{endings_of, buffer_of, rowed_of}
 use Rattle.group_view.specs.Books.{versions_of, rowed_in_content, choice_of, claim_of, book_of}
 use Rattle.group_view.specs.Lists.{is_listed, listed}
-use Rattle.group_view.specs.Laws.{IsRowOf, IsViewOf}
+use Rattle.group_view.specs.Laws.{IsMadeRow, IsViewOf}
 use Rattle.group_view.specs.Claims.{lent_entries, rowed_of_packed, IsMadeOf}
 use Rattle.group_directory.specs.declared.directory.Directory.{Directory}
 use Rattle.group_view.specs.Seen.{Seen, seen, entry_of, packed_seen, part_entry, rooted, rooted_in}
@@ -119,7 +119,7 @@ rooted_flat : (groups : List (ℕ × List Rowed)) → map rooted (rows_in groups
 rooted_flat [] = refl
 rooted_flat (group ∷ groups) = map-append rooted group.1 (rows_in groups) ∙ ap (λ (l : List Rooted). map rooted group.1 ++ l) (rooted_flat groups)
 
-pub groups_ended : (width : ℕ) (cs : List Change) (before after : List Group) → rooted_in after ≡ rooted_in before → All (IsRowOf width cs) (rows_in (listed before)) → All (IsRowOf width cs) (rows_in (listed after))
+pub groups_ended : (width : ℕ) (cs : List Change) (before after : List Group) → rooted_in after ≡ rooted_in before → All (IsMadeRow width cs) (rows_in (listed before)) → All (IsMadeRow width cs) (rows_in (listed after))
 groups_ended width cs before after same all =
     let roots : map rooted (rows_in (listed before)) ≡ map rooted (rows_in (listed after)) =
     rooted_flat (listed before) ∙ ap (flat_map (λ (group : ℕ × List Rooted). group.1)) (sym same) ∙ sym (rooted_flat (listed after)) in
@@ -129,7 +129,7 @@ groups_ended width cs before after same all =
 
 module _ (directory : Directory) (cs : List Change) (j : Stands directory cs) where
   pub committed_rows : (txn : ℕ) (own : List Edit) (rows : List Rowed) (news : List (Key × List Value)) → IsStrictlySortedBy key_cmp (keys_of own) → All (IsGiven (width_in directory) own) news
-      → IsPermutation (map rooted (listed_rows directory.list) ++ map (rooted_at (directory.clock + 1)) news) (map rooted rows) → All (IsRowOf (width_in directory) (cs ++ numbered (directory.clock + 1) txn own)) rows
+      → IsPermutation (map rooted (listed_rows directory.list) ++ map (rooted_at (directory.clock + 1)) news) (map rooted rows) → All (IsMadeRow (width_in directory) (cs ++ numbered (directory.clock + 1) txn own)) rows
   committed_rows txn own rows news sorted given moved = rows_committed (width_in directory) directory.clock txn cs own sorted (listed_rows directory.list) rows news (listed_low directory cs j) given moved j.rows
 
   pub committed_loans : (txn : ℕ) (own : List Edit) → All (IsLoanOf directory.schema.value (cs ++ numbered (directory.clock + 1) txn own)) directory.list.claims.items
@@ -145,13 +145,13 @@ module _ (directory : Directory) (cs : List Change) (j : Stands directory cs) wh
         entries = loan.entries;
       }
 
-  pub made_rows : (held : Actor × Claim) (group : Arc packed.Packed Global × Arc Marks Global) → Contains directory.list.claims.items held → IsMadeOf held.1 (Some group) → All (IsRowOf (width_in directory) cs) (rowed_of_packed group.0.value group.1.value)
+  pub made_rows : (held : Actor × Claim) (group : Arc packed.Packed Global × Arc Marks Global) → Contains directory.list.claims.items held → IsMadeOf held.1 (Some group) → All (IsMadeRow (width_in directory) cs) (rowed_of_packed group.0.value group.1.value)
   made_rows held group there is =
       let loan = All-contains (IsLoanOf directory.schema.value cs) directory.list.claims.items held j.loans there in
       let same : width_of held.1 ≡ width_in directory = ap (λ (schema : Schema). length schema.columns) loan.of_table in
       let claim = All-contains (λ (other : Actor × Claim). IsClaim directory.sizes.group_rows (book_of directory.list) cs j.floor (claim_of other)) directory.list.claims.items held (each_claim directory cs j) there in
-      subst (λ (width : ℕ). All (IsRowOf width cs) (rowed_of_packed group.0.value group.1.value)) same
-      (rows_packed (book_of directory.list) cs held.0 held.1 group claim.lent (subst (λ (width : ℕ). All (IsRowOf width cs) (rowed_of held.1.view)) (sym same) loan.rows) is)
+      subst (λ (width : ℕ). All (IsMadeRow width cs) (rowed_of_packed group.0.value group.1.value)) same
+      (rows_packed (book_of directory.list) cs held.0 held.1 group claim.lent (subst (λ (width : ℕ). All (IsMadeRow width cs) (rowed_of held.1.view)) (sym same) loan.rows) is)
 
 -- ---- views
 
@@ -174,7 +174,7 @@ module _ (directory : Directory) (view : GroupView) (cs : List Change) (j : Stan
     within = let low = reach directory cs j in let floors = same_floor in let clocks = look.clock in omega (arith, low, floors, clocks);
     versions = subst (λ (rows : List Rowed). IsPermutation (opened (book_of directory.list).groups ++ frozen (book_of directory.list).groups) (versions_of rows)) (sym same_rows) (listed_versions directory.list.groups.items);
     buffer = ap endings_of look.buffer;
-    rows = subst (All (IsRowOf (width_in directory) cs)) (sym same_rows) j.rows;
+    rows = subst (All (IsMadeRow (width_in directory) cs)) (sym same_rows) j.rows;
   }
 
 -- ---- a new claim
@@ -186,7 +186,7 @@ same_lent claim other share = ap (flat_map (λ (part : ℕ × GroupPart). rowed_
 pub loan_shared : (schema : Schema) (cs : List Change) (by : Actor) (claim other : Claim) → IsShareOf claim other → IsLoanOf schema cs (by, claim) → IsLoanOf schema cs (by, other)
 loan_shared schema cs by claim other share loan = record {
   of_table = share.schema ∙ loan.of_table;
-  rows = subst (All (IsRowOf (length schema.columns) cs)) (sym rows) loan.rows;
+  rows = subst (All (IsMadeRow (length schema.columns) cs)) (sym rows) loan.rows;
   ends = subst (λ (entries : List Ending). All (IsEndedBy cs entries) (versions_of (rowed_of other.view))) (sym buffer)
       (subst (λ (l : List Rowed). All (IsEndedBy cs (buffer_of claim.view)) (versions_of l)) (sym rows) loan.ends);
   packed = subst (λ (parts : List (ℕ × GroupPart)). ArePacked schema (packed_parts parts)) (sym share.groups) loan.packed;
@@ -208,7 +208,7 @@ pub loan_made : (directory : Directory) (cs : List Change) (j : Stands directory
     → IsLoanOf directory.schema.value cs (by, claim)
 loan_made directory cs j by claim test sources schema groups shared buffer lent entries = record {
   of_table = schema;
-  rows = view_picked (IsRowOf (width_in directory) cs) test directory.list.groups.items claim.view groups j.rows;
+  rows = view_picked (IsMadeRow (width_in directory) cs) test directory.list.groups.items claim.view groups j.rows;
   packed = subst (ArePacked directory.schema.value) (sym shared)
       (packed_picked (λ (entry : ℕ × packed.Packed). IsPackedGroup directory.schema.value entry.1) test directory.list.groups.items j.packed);
   ends = ends_lent directory.sizes.group_rows j.floor (book_of directory.list) cs sources claim.view j.book (ap endings_of buffer) lent;

@@ -31,7 +31,7 @@ use Rattle.group_view.specs.Parts.{Rowed, ArePacked, IsPackedGroup}
 use Rattle.group_view.specs.Views.{rowed_of}
 use Rattle.group_view.specs.Books.{versions_of, choice_of, claim_of, book_of, StandsAsLent}
 use Rattle.group_view.specs.Lists.{listed, packed_in, IsHeld}
-use Rattle.group_view.specs.Laws.{IsRowOf}
+use Rattle.group_view.specs.Laws.{IsMadeRow}
 use Rattle.group_view.specs.Claims.{padded_rowed, lent_entries, kept_rowed, rowed_of_packed, IsMadeOf, IsProductOf}
 use Rattle.group_directory.specs.declared.directory.Directory.{Directory}
 use Rattle.group_view.specs.Seen.{rooted_in}
@@ -131,7 +131,7 @@ module _ (d : Directory) (cs : List Change) (j : Stands d cs) (actor : Actor) (h
 
   -- where the groups of other actors' claims are the same afterwards
   may_be : (list : GroupList) (after : Book) → book_of list ≡ after → ((other : book.Claim) → Contains (book_of d.list).claims other → is_by (claim_of held).actor other ≡ false → GroupsStay other.sources (book_of d.list) after)
-      → IsHeld list → All (IsRowOf (width_in d) cs) (listed_rows list) → ArePacked d.schema.value (packed_in list.groups.items) → list.claims.items ≡ others → MayBeList d list cs
+      → IsHeld list → All (IsMadeRow (width_in d) cs) (listed_rows list) → ArePacked d.schema.value (packed_in list.groups.items) → list.claims.items ≡ others → MayBeList d list cs
   may_be list after same stay keeps rows packed claims = record {
     held = keeps;
     rows = rows;
@@ -150,8 +150,8 @@ module _ (d : Directory) (cs : List Change) (j : Stands d cs) (actor : Actor) (h
   made_packed None none = tt
   made_packed (Some load) made = subst (λ (schema : Schema). IsPackedGroup schema load.0.value) loan.of_table (let for_claim = made.2 in for_claim.packed)
 
-  made_listed : (load : Option NewGroup) → IsMadeOf held.1 load → All (IsRowOf (width_in d) cs) (new_rows load)
-  made_listed None none = All-nil (IsRowOf (width_in d) cs)
+  made_listed : (load : Option NewGroup) → IsMadeOf held.1 load → All (IsMadeRow (width_in d) cs) (new_rows load)
+  made_listed None none = All-nil (IsMadeRow (width_in d) cs)
   made_listed (Some load) made = made_rows d cs j held load there made
 
   pub stands_installed : (list : GroupList) (load : Option NewGroup) → makes_group (choice_of held.1.choice) ≡ true → IsMadeOf held.1 load → IsHeld list
@@ -160,7 +160,7 @@ module _ (d : Directory) (cs : List Change) (j : Stands d cs) (actor : Actor) (h
   stands_installed list load makes made keeps rows packed claims same =
       stands_moved d cs j list
       (may_be list (installed_with (new_versions load) (claim_of held) (book_of d.list)) same (λ other in_other apart. stay_installed d.sizes.group_rows (book_of d.list) cs j.floor j.book (claim_of held) other (claim_at d held there) in_other apart (new_versions load)) keeps
-      (groups_made (IsRowOf (width_in d) cs) (listed d.list.groups.items) (listed list.groups.items) (new_rows load)
+      (groups_made (IsMadeRow (width_in d) cs) (listed d.list.groups.items) (listed list.groups.items) (new_rows load)
       (All-weaker (IsOldOrNew (listed d.list.groups.items) held.1.fresh load) (λ (group : ℕ × List Rowed). Contains (listed d.list.groups.items) group ⊎ (group.1 ≡ new_rows load)) (λ group old_or_new. elim old_or_new [ inl old ↦ inl old | inr new ↦ inr new.1 ]) (listed list.groups.items) rows)
       j.rows (made_listed load made))
       packed claims)

@@ -15,7 +15,7 @@ use Rattle.group_view.specs.declared.view.GroupView.{GroupView}
 use Rattle.group_view.specs.Parts.{Rowed, ArePacked}
 use Rattle.group_view.specs.Books.{book_of, StandsAsLent}
 use Rattle.group_view.specs.Lists.{listed, packed_in, IsHeld}
-use Rattle.group_view.specs.Laws.{IsRowOf}
+use Rattle.group_view.specs.Laws.{IsMadeRow}
 use Rattle.group_view.specs.Views.{IsView, ShowsTables}
 use Rattle.group_view.proofs.Tables.{is_view, tables_shown}
 use Rattle.group_directory.specs.declared.directory.Directory.{Directory}
@@ -62,7 +62,7 @@ stands_listed d cs j list held rows packed claims lent book =
     stands_moved d cs j list
     (record {
       held = held;
-      rows = subst (λ (groups : List (ℕ × List Rowed)). All (IsRowOf (width_in d) cs) (rows_in groups)) (sym rows) j.rows;
+      rows = subst (λ (groups : List (ℕ × List Rowed)). All (IsMadeRow (width_in d) cs) (rows_in groups)) (sym rows) j.rows;
       packed = subst (ArePacked d.schema.value) (sym packed) j.packed;
       loans = subst (All (IsLoanOf d.schema.value cs)) (sym claims) j.loans;
       lent = lent;

@@ -18,7 +18,7 @@ use Rattle.group_view.specs.declared.groups.GroupList.{GroupList}
 use Rattle.group_view.specs.Parts.{Rowed, ArePacked}
 use Rattle.group_view.specs.Books.{book_of, claim_of, StandsAsLent}
 use Rattle.group_view.specs.Lists.{listed, packed_in, IsHeld}
-use Rattle.group_view.specs.Laws.{IsRowOf}
+use Rattle.group_view.specs.Laws.{IsMadeRow}
 use Rattle.group_directory.specs.declared.directory.Directory.{Directory}
 use Rattle.group_directory.specs.Events.{IsHiddenBy, MakesHidden}
 use Rattle.group_directory.specs.Lent.{GroupsStay}
@@ -79,7 +79,7 @@ module _ (directory : Directory) (cs : List Change) (j : Stands directory cs) (a
       stands_moved directory cs j list
       (record {
         held = held;
-        rows = subst (λ (groups : List (ℕ × List Rowed)). All (IsRowOf (width_in directory) cs) (rows_in groups)) (sym rows) j.rows;
+        rows = subst (λ (groups : List (ℕ × List Rowed)). All (IsMadeRow (width_in directory) cs) (rows_in groups)) (sym rows) j.rows;
         packed = subst (ArePacked directory.schema.value) (sym packed) j.packed;
         loans = subst (All (IsLoanOf directory.schema.value cs)) (sym claims) (All-filter (λ (one : Actor × view.Claim). not (same_actor one.0 actor)) (IsLoanOf directory.schema.value cs) directory.list.claims.items j.loans);
         lent = subst (All (StandsAsLent (book_of list))) (sym claims)

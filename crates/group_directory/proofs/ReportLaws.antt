@@ -8,16 +8,16 @@ use Rattle.std.specs.declared.cmp.Ordering.{Ordering}
 use Rattle.std.specs.Ordering.{nat_cmp, ordering_then}
 use Rattle.std.proofs.lemmas.List.{get_or-map, length-map}
 use Rattle.std.proofs.lemmas.List.Elements.{recursion_from_All}
-use Rattle.std.proofs.lemmas.List.FromFn.{get_or-range_with_len, length-range_with_len, get_or-map-range_with_len}
+use Rattle.std.proofs.lemmas.List.FromFn.{get_or-range_with_len, length-range_with_len}
 use Rattle.std.proofs.lemmas.List.Sorted.{IsPermutation-refl, All-permutation}
 use Rattle.std.proofs.lemmas.Option.{none-some, same_Some, slice_get_within}
 use Rattle.cs_types.specs.declared.Column.{Column}
 use Rattle.cs_types.specs.declared.Loose.{Loose}
 use Rattle.cs_types.specs.declared.Schema.{Schema}
 use Rattle.cs_types.specs.declared.Value.{Value}
-use Rattle.cs_types.specs.declared.Value.TheVariants.{Null}
-use Rattle.cs_types.specs.Rows.{cell_at}
+use Rattle.cs_types.specs.Rows.{cell_at, padded}
 use Rattle.cs_types.specs.Values.{value_cmp}
+use Rattle.cs_types.proofs.PaddedLemmas.{padded_cell}
 use Rattle.cs_model.specs.declared.pred.Pred.{Pred}
 use Rattle.cs_model.specs.declared.pred.Pred.TheFolds.{fold-Pred}
 use Rattle.cs_model.specs.Cells.{loose_in}
@@ -27,8 +27,7 @@ use Rattle.cs_model.specs.Skips.{loose_cells, skips_step}
 use Rattle.cs_model.specs.declared.report.SegmentLine.{SegmentLine}
 use Rattle.delete_bitmap.specs.declared.MarkedEnd.{MarkedEnd}
 use Rattle.row_group.specs.Orders.{by_rank}
-use Rattle.row_group.specs.Rows.{PackedRow, padded, column_of, column_cmp, row_cmp, distinct_cells, AreInOrder}
-use Rattle.row_group.proofs.ShownLemmas.{cell_at-get_or}
+use Rattle.row_group.specs.Rows.{PackedRow, padded_row, column_of, column_cmp, row_cmp, distinct_cells, AreInOrder}
 use Rattle.group_book.specs.Book as book
 use Rattle.group_book.specs.Book.{is_compressed}
 use Rattle.group_book.proofs.Lists.{all-left, all-right}
@@ -38,11 +37,10 @@ use Rattle.group_view.specs.declared.groups.Group.{Group}
 use Rattle.group_view.specs.declared.groups.GroupContent.{GroupContent}
 use Rattle.group_view.specs.declared.groups.GroupContent.TheVariants.{Opened, Closed, Compressed, Invisible, Tombstone}
 use Rattle.group_view.specs.declared.view.GroupView.{GroupView}
-use Rattle.group_view.specs.Parts.{Rowed, packed_versions, packed_parts, rows_by_id}
-use Rattle.group_view.specs.Parts as part
+use Rattle.group_view.specs.Parts.{Rowed, packed_version, packed_versions, packed_parts, rows_by_id}
 use Rattle.group_view.specs.Books.{versions_of, rowed_in_content, group_of, book_of}
 use Rattle.group_view.specs.Lists.{IsFittingContent, packed_in}
-use Rattle.group_view.specs.Laws.{IsRowOf}
+use Rattle.group_view.specs.Laws.{IsMadeRow}
 use Rattle.group_view.specs.Scanned.{counts_in}
 use Rattle.group_directory.specs.declared.directory.Directory.{Directory}
 use Rattle.group_directory.specs.Laws.{IsLookAt}
@@ -53,24 +51,21 @@ module _ (width : ℕ) where
   -- ---- rows in so many cells
 
   abbrev filled : PackedRow → PackedRow
-  filled row = padded width row.cells row.begin
+  filled row = padded_row width row.cells row.begin
 
   abbrev filled_rows : ℕ × List PackedRow → ℕ × List PackedRow
   filled_rows group = (group.0, map filled group.1)
 
-  cell_kept : (row : PackedRow) (c : ℕ) → c < width → cell_at (filled row).cells c ≡ cell_at row.cells c
-  cell_kept row c l = cell_at-get_or (filled row).cells c ∙ get_or-map-range_with_len (cell_at row.cells) 0 width c c Null l (omega arith)
-
   column_kept : (rows : List PackedRow) (c : ℕ) → c < width → column_of (map filled rows) c ≡ column_of rows c
   column_kept [] c l = refl
-  column_kept (row ∷ rows) c l = ap (λ (cell : Value). cell ∷ column_of (map filled rows) c) (cell_kept row c l) ∙ ap (λ (cells : List Value). cell_at row.cells c ∷ cells) (column_kept rows c l)
+  column_kept (row ∷ rows) c l = ap (λ (cell : Value). cell ∷ column_of (map filled rows) c) (padded_cell width row.cells c l) ∙ ap (λ (cells : List Value). cell_at row.cells c ∷ cells) (column_kept rows c l)
 
   rank_kept : (x y : PackedRow) (rank : List ℕ) → AllByRecursion (λ c. c < width) rank
       → by_rank (λ c. value_cmp (cell_at (filled x).cells c) (cell_at (filled y).cells c)) rank ≡ by_rank (λ c. value_cmp (cell_at x.cells c) (cell_at y.cells c)) rank
   rank_kept x y [] low = refl
   rank_kept x y (c ∷ rank) low =
-      ap (λ (cell : Value). ordering_then (value_cmp cell (cell_at (filled y).cells c)) (by_rank (λ k. value_cmp (cell_at (filled x).cells k) (cell_at (filled y).cells k)) rank)) (cell_kept x c low.0)
-      ∙ ap (λ (cell : Value). ordering_then (value_cmp (cell_at x.cells c) cell) (by_rank (λ k. value_cmp (cell_at (filled x).cells k) (cell_at (filled y).cells k)) rank)) (cell_kept y c low.0)
+      ap (λ (cell : Value). ordering_then (value_cmp cell (cell_at (filled y).cells c)) (by_rank (λ k. value_cmp (cell_at (filled x).cells k) (cell_at (filled y).cells k)) rank)) (padded_cell width x.cells c low.0)
+      ∙ ap (λ (cell : Value). ordering_then (value_cmp (cell_at x.cells c) cell) (by_rank (λ k. value_cmp (cell_at (filled x).cells k) (cell_at (filled y).cells k)) rank)) (padded_cell width y.cells c low.0)
       ∙ ap (λ (rest : Ordering). ordering_then (value_cmp (cell_at x.cells c) (cell_at y.cells c)) rest) (rank_kept x y rank low.1)
 
   columns_kept : (rows : List PackedRow) (a b : ℕ) → a < width → b < width → column_cmp (map filled rows) a b ≡ column_cmp rows a b
@@ -129,16 +124,16 @@ module _ (width : ℕ) where
   -- ---- the rows of the book's groups
 
   module _ (changes : List Change) where
-    cells_are : (row : List Value) (o : Option (List Value)) → option_map (part.padded width) o ≡ Some (part.padded width row) → part.padded width (unwrap_or o []) ≡ part.padded width row
-    cells_are row None is = absurd (none-some (part.padded width row) is)
-    cells_are row (Some other) is = same_Some (part.padded width other) (part.padded width row) is
+    cells_are : (row : List Value) (o : Option (List Value)) → option_map (padded width) o ≡ Some (padded width row) → padded width (unwrap_or o []) ≡ padded width row
+    cells_are row None is = absurd (none-some (padded width row) is)
+    cells_are row (Some other) is = same_Some (padded width other) (padded width row) is
 
-    rows_are : (key : ℕ) (rows : List PackedRow) (marks : List (Option MarkedEnd)) → length marks ≡ length rows → AllByRecursion (IsRowOf width changes) (packed_versions key rows marks)
+    rows_are : (key : ℕ) (rows : List PackedRow) (marks : List (Option MarkedEnd)) → length marks ≡ length rows → AllByRecursion (IsMadeRow width changes) (packed_versions key rows marks)
         → map (packed_row width changes) (versions_of (packed_versions key rows marks)) ≡ map filled rows
     rows_are key [] marks long all = refl
     rows_are key (row ∷ rows) [] long all = absurd (omega (arith, long))
     rows_are key (row ∷ rows) (mark ∷ marks) long all =
-        let version = (part.packed_version key row mark).version in
+        let version = (packed_version key row mark).version in
         ap (λ (cells : List Value). (let first : PackedRow = record { cells = cells; begin = row.begin } in first) ∷ map (packed_row width changes) (versions_of (packed_versions key rows marks)))
         (cells_are row.cells (made (last_change version.key version.begin changes)) all.0)
         ∙ ap (λ (more : List PackedRow). filled row ∷ more) (rows_are key rows marks (omega (arith, long)) all.1)
@@ -149,14 +144,14 @@ module _ (width : ℕ) where
     abbrev rows_in_all : List Group → List Rowed
     rows_in_all groups = flat_map (λ (group : Group). rowed_in_content group.content) groups
 
-    of_book : (groups : List Group) → AllByRecursion (λ (group : Group). IsFittingContent group.content) groups → AllByRecursion (IsRowOf width changes) (rows_in_all groups)
+    of_book : (groups : List Group) → AllByRecursion (λ (group : Group). IsFittingContent group.content) groups → AllByRecursion (IsMadeRow width changes) (rows_in_all groups)
         → AllZip (AreRowsOf width changes) (compressed groups) (map filled_rows (rows_by_id (packed_in groups)))
     of_book [] fits all = tt
     of_book (group ∷ groups) fits all =
-        step group.content fits.0 (all-left (IsRowOf width changes) (rowed_in_content group.content) (rows_in_all groups) all)
-        (of_book groups fits.1 (all-right (IsRowOf width changes) (rowed_in_content group.content) (rows_in_all groups) all))
+        step group.content fits.0 (all-left (IsMadeRow width changes) (rowed_in_content group.content) (rows_in_all groups) all)
+        (of_book groups fits.1 (all-right (IsMadeRow width changes) (rowed_in_content group.content) (rows_in_all groups) all))
       where
-        step : (content : GroupContent) → IsFittingContent content → AllByRecursion (IsRowOf width changes) (rowed_in_content content) → AllZip (AreRowsOf width changes) (compressed groups) (map filled_rows (rows_by_id (packed_in groups)))
+        step : (content : GroupContent) → IsFittingContent content → AllByRecursion (IsMadeRow width changes) (rowed_in_content content) → AllZip (AreRowsOf width changes) (compressed groups) (map filled_rows (rows_by_id (packed_in groups)))
             → AllZip (AreRowsOf width changes) (compressed (record group { content = content } ∷ groups)) (map filled_rows (rows_by_id (packed_in (record group { content = content } ∷ groups))))
         step (Opened store) fit here rest = rest
         step (Closed store) fit here rest = rest
@@ -178,7 +173,7 @@ module _ (schema : Schema) (condition : Option Pred) where
 
   loose_kept : (row : PackedRow) (i : ℕ) (o : Option Column) → slice_get schema.columns i ≡ o → loose_in o (cell_at (filled width_of row).cells i) ≡ loose_in o (cell_at row.cells i)
   loose_kept row i None is = refl
-  loose_kept row i (Some column) is = ap (loose_in (Some column)) (cell_kept width_of row i (slice_get_within schema.columns i column is))
+  loose_kept row i (Some column) is = ap (loose_in (Some column)) (padded_cell width_of row.cells i (slice_get_within schema.columns i column is))
 
   column_loose : (i : ℕ) (rows : List PackedRow) → loose_cells schema (column_of (map (filled width_of) rows)) i ≡ loose_cells schema (column_of rows) i
   column_loose i [] = refl
@@ -223,7 +218,7 @@ book_rows : (directory : Directory) (changes : List Change) → Stands directory
 book_rows directory changes j =
     let groups = directory.list.groups.items in
     of_book (width_in directory) changes groups (recursion_from_All (λ (group : Group). IsFittingContent group.content) groups j.held.fitting)
-    (subst (AllByRecursion (IsRowOf (width_in directory) changes)) (listed_whole groups) (recursion_from_All (IsRowOf (width_in directory) changes) _ j.rows))
+    (subst (AllByRecursion (IsMadeRow (width_in directory) changes)) (listed_whole groups) (recursion_from_All (IsMadeRow (width_in directory) changes) _ j.rows))
 
 pub counts_shown : (directory : Directory) (view : GroupView) (changes : List Change) (condition : Option Pred) → Stands directory changes → IsLookAt directory view
     → AreCounts directory.schema.value changes (book_of directory.list) condition (counts_in directory.schema.value view condition)

@@ -1,20 +1,18 @@
 -- Rows stay those of the changes that their versions stem from.
-use Rattle.std.proofs.Common.{◌≡◌, ℕ, zero, suc, ◌<◌, ◌≤◌, ◌+◌, Bool, true, false, ◌&&◌, cond, leb, ltb, List, [], ◌∷◌, ◌++◌, map, filter, get_or, not, Option, Some, None, refl, sym, ap, ◌∙◌, arith}
-use Rattle.std.specs.List.{All, AllByRecursion, Contains, range_with_len}
+use Rattle.std.proofs.Common.{◌≡◌, ℕ, ◌+◌, Bool, true, false, ◌&&◌, cond, leb, ltb, List, [], ◌∷◌, ◌++◌, map, filter, get_or, not, Option, Some, None, refl, sym, ap, ◌∙◌, arith}
+use Rattle.std.specs.List.{All, AllByRecursion, Contains}
 use Rattle.std.specs.List.Sorted.{IsPermutation, IsStrictlySortedBy}
 use Rattle.std.specs.Option.{option_map}
 use Rattle.std.proofs.lemmas.Bool.Decides.{nat_tests}
 use Rattle.std.proofs.lemmas.List.Elements.{All-map, All-append, All-weaker, All-contains, All-from_recursion, recursion_from_All}
-use Rattle.std.proofs.lemmas.List.FromFn.{get_or-map-range_with_len}
 use Rattle.std.proofs.lemmas.List.Sorted.{All-permutation}
-use Rattle.std.proofs.lemmas.Option.{unwrap_or-slice_get}
 use Rattle.std.specs.declared.alloc.Global.{Global}
 use Rattle.std.specs.declared.sync.Arc.{Arc}
 use Rattle.cs_types.specs.declared.Key.{Key}
 use Rattle.cs_types.specs.declared.Value.{Value}
-use Rattle.cs_types.specs.declared.Value.TheVariants.{Null}
 use Rattle.cs_types.specs.Keys.{key_cmp, same_key}
-use Rattle.cs_types.specs.Rows.{cell_at}
+use Rattle.cs_types.specs.Rows.{padded}
+use Rattle.cs_types.proofs.PaddedLemmas.{padded_again}
 use Rattle.cs_model.specs.declared.work.Actor.{Actor}
 use Rattle.cs_model.specs.Changes.{Edit, Change, last_change, made}
 use Rattle.cs_model.specs.Obstacles.{keys_of}
@@ -30,11 +28,11 @@ use Rattle.group_book.proofs.Lists.{all-kept, all-both, weaker}
 use Rattle.group_book.proofs.Changes.{last_at, later, last_step, last-append, last-later, last-max}
 use Rattle.group_book.proofs.Made.{is_written, HasEachKeyOnce, next-made, last-commit, once_sorted}
 use Rattle.group_view.specs.declared.claim.Claim.{Claim}
-use Rattle.group_view.specs.Parts.{Rowed, padded}
+use Rattle.group_view.specs.Parts.{Rowed}
 use Rattle.group_view.specs.Views.{rowed_of}
 use Rattle.group_view.specs.Books.{claim_of}
 use Rattle.group_view.specs.Claims.{padded_rowed, lent_entries, kept_rowed, rowed_of_packed, IsMadeOf}
-use Rattle.group_view.specs.Laws.{IsRowOf}
+use Rattle.group_view.specs.Laws.{IsMadeRow}
 use Rattle.group_view.specs.Seen.{rooted}
 use Rattle.group_view.specs.Parcels.{IsGiven}
 use Rattle.group_directory.specs.Laws.{rooted_at, AreAmong, BeginsBy, width_of}
@@ -54,17 +52,17 @@ All-unmapped P f xs all = All-from_recursion (λ x. P (f x)) xs (all-unmapped P 
 abbrev IsRootOf : ℕ → List Change → Key × ℕ × List Value → Type 0
 IsRootOf width cs root = option_map (padded width) (made (last_change root.0 root.1 cs)) ≡ Some (padded width root.2)
 
-roots : (width : ℕ) (cs : List Change) (rows : List Rowed) → All (IsRowOf width cs) rows → All (IsRootOf width cs) (map rooted rows)
+roots : (width : ℕ) (cs : List Change) (rows : List Rowed) → All (IsMadeRow width cs) rows → All (IsRootOf width cs) (map rooted rows)
 roots width cs rows all = All-map (IsRootOf width cs) rooted rows all
 
-rows_of : (width : ℕ) (cs : List Change) (rows : List Rowed) → All (IsRootOf width cs) (map rooted rows) → All (IsRowOf width cs) rows
+rows_of : (width : ℕ) (cs : List Change) (rows : List Rowed) → All (IsRootOf width cs) (map rooted rows) → All (IsMadeRow width cs) rows
 rows_of width cs rows all = All-unmapped (IsRootOf width cs) rooted rows all
 
-pub rows_among : (width : ℕ) (cs : List Change) (old rows : List Rowed) → AreAmong old rows → All (IsRowOf width cs) old → All (IsRowOf width cs) rows
+pub rows_among : (width : ℕ) (cs : List Change) (old rows : List Rowed) → AreAmong old rows → All (IsMadeRow width cs) old → All (IsMadeRow width cs) rows
 rows_among width cs old rows among all =
     rows_of width cs rows (All-weaker (Contains (map rooted old)) (IsRootOf width cs) (λ root there. All-contains (IsRootOf width cs) (map rooted old) root (roots width cs old all) there) (map rooted rows) among)
 
-pub rows_moved : (width : ℕ) (cs : List Change) (old rows : List Rowed) → IsPermutation (map rooted old) (map rooted rows) → All (IsRowOf width cs) old → All (IsRowOf width cs) rows
+pub rows_moved : (width : ℕ) (cs : List Change) (old rows : List Rowed) → IsPermutation (map rooted old) (map rooted rows) → All (IsMadeRow width cs) old → All (IsMadeRow width cs) rows
 rows_moved width cs old rows moved all = rows_of width cs rows (All-permutation (IsRootOf width cs) (map rooted old) (map rooted rows) moved (roots width cs old all))
 
 -- ---- a commit
@@ -76,7 +74,7 @@ module _ (width clock txn : ℕ) (cs : List Change) (own : List Edit) where
   abbrev now : List Change
   now = cs ++ numbered (clock + 1) txn own
 
-  pub rows_later : (rows : List Rowed) → All (BeginsBy clock) rows → All (IsRowOf width cs) rows → All (IsRowOf width now) rows
+  pub rows_later : (rows : List Rowed) → All (BeginsBy clock) rows → All (IsMadeRow width cs) rows → All (IsMadeRow width now) rows
   rows_later rows low all k d inside =
       let rowed = get_or rows k d in
       ap (λ (o : Option Change). option_map (padded width) (made o)) (last-commit cs clock txn own rowed.version.key rowed.version.begin (low k d inside)) ∙ all k d inside
@@ -116,7 +114,7 @@ module _ (width clock txn : ℕ) (cs : List Change) (own : List Edit) (sorted : 
       ∙ is.1
 
   pub rows_committed : (old rows : List Rowed) (news : List (Key × List Value)) → All (BeginsBy clock) old → All (IsGiven width own) news → IsPermutation (map rooted old ++ map (rooted_at (clock + 1)) news) (map rooted rows)
-      → All (IsRowOf width cs) old → All (IsRowOf width after) rows
+      → All (IsMadeRow width cs) old → All (IsMadeRow width after) rows
   rows_committed old rows news low given moved all =
       rows_of width after rows (All-permutation (IsRootOf width after) (map rooted old ++ map (rooted_at (clock + 1)) news) (map rooted rows) moved
       (All-append (IsRootOf width after) (map rooted old) (map (rooted_at (clock + 1)) news)
@@ -135,38 +133,28 @@ IsGoneBy f cs entries rowed = is_gone f entries rowed.version ≡ not (is_after 
 
 -- where nothing of the key changes up to the number, a begin raised to it has the same last change
 rows_raised : (width f : ℕ) (cs : List Change) (entries : List Ending) (rows : List Rowed)
-    → AllByRecursion (IsGoneBy f cs entries) rows → AllByRecursion (IsRowOf width cs) rows
-    → AllByRecursion (IsRowOf width cs) (map (λ (rowed : Rowed). record rowed { version = raised f rowed.version }) (filter (λ (rowed : Rowed). not (is_gone f entries rowed.version)) rows))
+    → AllByRecursion (IsGoneBy f cs entries) rows → AllByRecursion (IsMadeRow width cs) rows
+    → AllByRecursion (IsMadeRow width cs) (map (λ (rowed : Rowed). record rowed { version = raised f rowed.version }) (filter (λ (rowed : Rowed). not (is_gone f entries rowed.version)) rows))
 rows_raised width f cs entries rows gone all =
-    all-kept (λ (rowed : Rowed). IsGoneBy f cs entries rowed × IsRowOf width cs rowed) (IsRowOf width cs) (λ (rowed : Rowed). not (is_gone f entries rowed.version)) (λ (rowed : Rowed). record rowed { version = raised f rowed.version }) rows
+    all-kept (λ (rowed : Rowed). IsGoneBy f cs entries rowed × IsMadeRow width cs rowed) (IsMadeRow width cs) (λ (rowed : Rowed). not (is_gone f entries rowed.version)) (λ (rowed : Rowed). record rowed { version = raised f rowed.version }) rows
     (λ rowed both stays.
     ap (λ (o : Option Change). option_map (padded width) (made o)) (last-max cs rowed.version.key rowed.version.begin f (not_not (is_after f (next_change cs rowed.version.key rowed.version.begin)) (ap not (sym both.0) ∙ stays))) ∙ both.1)
-    (all-both (IsGoneBy f cs entries) (IsRowOf width cs) (λ (rowed : Rowed). IsGoneBy f cs entries rowed × IsRowOf width cs rowed) rows (λ rowed g r. (g, r)) gone all)
+    (all-both (IsGoneBy f cs entries) (IsMadeRow width cs) (λ (rowed : Rowed). IsGoneBy f cs entries rowed × IsMadeRow width cs rowed) rows (λ rowed g r. (g, r)) gone all)
 
--- ---- rows in so many cells
+-- ---- what a claim keeps
 
-map_range : (f g : ℕ → Value) (a n : ℕ) → ((j : ℕ) → a ≤ j → j < a + n → f j ≡ g j) → map f (range_with_len a n) ≡ map g (range_with_len a n)
-map_range f g a zero h = refl
-map_range f g a (suc n) h =
-    ap (λ (x : Value). x ∷ map f (range_with_len (a + 1) n)) (h a (omega arith) (omega arith))
-    ∙ ap (λ (l : List Value). g a ∷ l) (map_range f g (a + 1) n (λ j le lt. h j (omega arith) (omega arith)))
-
-padded_twice : (width : ℕ) (row : List Value) → padded width (padded width row) ≡ padded width row
-padded_twice width row = map_range (λ column. cell_at (padded width row) column) (λ column. cell_at row column) 0 width (λ j le lt.
-    unwrap_or-slice_get (padded width row) j Null ∙ get_or-map-range_with_len (λ column. cell_at row column) 0 width j j Null (omega arith) (omega arith))
-
-module _ (width : ℕ) (book : Book) (cs : List Change) (by : Actor) (claim : Claim) (lent : IsLent book cs (claim_of (by, claim))) (all : All (IsRowOf width cs) (rowed_of claim.view)) where
-  pub rows_kept : All (IsRowOf width cs) (kept_rowed claim)
-  rows_kept = All-from_recursion (IsRowOf width cs) (kept_rowed claim) (rows_raised width claim.floor cs (lent_entries claim) (rowed_of claim.view)
+module _ (width : ℕ) (book : Book) (cs : List Change) (by : Actor) (claim : Claim) (lent : IsLent book cs (claim_of (by, claim))) (all : All (IsMadeRow width cs) (rowed_of claim.view)) where
+  pub rows_kept : All (IsMadeRow width cs) (kept_rowed claim)
+  rows_kept = All-from_recursion (IsMadeRow width cs) (kept_rowed claim) (rows_raised width claim.floor cs (lent_entries claim) (rowed_of claim.view)
       (recursion_from_All (IsGoneBy claim.floor cs (lent_entries claim)) (rowed_of claim.view)
       (All-unmapped (λ (version : Version). is_gone claim.floor (lent_entries claim) version ≡ not (is_after claim.floor (next_change cs version.key version.begin))) (λ (rowed : Rowed). rowed.version) (rowed_of claim.view) lent.gone))
-      (recursion_from_All (IsRowOf width cs) (rowed_of claim.view) all))
+      (recursion_from_All (IsMadeRow width cs) (rowed_of claim.view) all))
 
-  pub rows_padded : All (IsRowOf width cs) (map (padded_rowed width) (kept_rowed claim))
-  rows_padded = All-map (IsRowOf width cs) (padded_rowed width) (kept_rowed claim) (All-weaker (IsRowOf width cs) (λ rowed. IsRowOf width cs (padded_rowed width rowed)) (λ rowed is. is ∙ ap Some (sym (padded_twice width rowed.row))) (kept_rowed claim) rows_kept)
+  pub rows_padded : All (IsMadeRow width cs) (map (padded_rowed width) (kept_rowed claim))
+  rows_padded = All-map (IsMadeRow width cs) (padded_rowed width) (kept_rowed claim) (All-weaker (IsMadeRow width cs) (λ rowed. IsMadeRow width cs (padded_rowed width rowed)) (λ rowed is. is ∙ ap Some (sym (padded_again width rowed.row))) (kept_rowed claim) rows_kept)
 
 -- the new group has the kept versions
-pub rows_packed : (book : Book) (cs : List Change) (by : Actor) (claim : Claim) (group : Arc Packed Global × Arc Marks Global) → IsLent book cs (claim_of (by, claim)) → All (IsRowOf (width_of claim) cs) (rowed_of claim.view)
-    → IsMadeOf claim (Some group) → All (IsRowOf (width_of claim) cs) (rowed_of_packed group.0.value group.1.value)
+pub rows_packed : (book : Book) (cs : List Change) (by : Actor) (claim : Claim) (group : Arc Packed Global × Arc Marks Global) → IsLent book cs (claim_of (by, claim)) → All (IsMadeRow (width_of claim) cs) (rowed_of claim.view)
+    → IsMadeOf claim (Some group) → All (IsMadeRow (width_of claim) cs) (rowed_of_packed group.0.value group.1.value)
 rows_packed book cs by claim group lent all is =
-    All-permutation (IsRowOf (width_of claim) cs) (map (padded_rowed (width_of claim)) (kept_rowed claim)) (rowed_of_packed group.0.value group.1.value) is.0 (rows_padded (width_of claim) book cs by claim lent all)
+    All-permutation (IsMadeRow (width_of claim) cs) (map (padded_rowed (width_of claim)) (kept_rowed claim)) (rowed_of_packed group.0.value group.1.value) is.0 (rows_padded (width_of claim) book cs by claim lent all)

@@ -27,7 +27,7 @@ use Rattle.group_view.specs.declared.groups.GroupList.{GroupList}
 use Rattle.group_view.specs.Books.{book_of, StandsAsLent}
 use Rattle.group_view.specs.Parts.{ArePacked, IsPackedGroup}
 use Rattle.group_view.specs.Lists.{listed, packed_in}
-use Rattle.group_view.specs.Laws.{IsRowOf}
+use Rattle.group_view.specs.Laws.{IsMadeRow}
 use Rattle.group_directory.specs.declared.directory.Directory.{Directory}
 use Rattle.group_directory.specs.Stands.{width_in, rows_in, IsLoanOf, IsRecent, AreTxns, Stands}
 use Rattle.group_directory.specs.Laws.{noted_by, MayStage, MayCommit, MayBeList, IsNew}
@@ -240,7 +240,7 @@ stands_new directory n = record {
   floor = directory.clock;
   is_floor = record { least = λ session s is. absurd (none_some s (sym (none session) ∙ is)); one_of = inr (refl, none) };
   book = subst (λ (b : Book). IsBookOf directory.sizes.group_rows b [] directory.clock) (sym n.book) (empty_is directory.sizes.group_rows directory.clock);
-  rows = subst (λ (groups : List Group). All (IsRowOf (width_in directory) []) (rows_in (listed groups))) (sym n.groups) (All-nil (IsRowOf (width_in directory) []));
+  rows = subst (λ (groups : List Group). All (IsMadeRow (width_in directory) []) (rows_in (listed groups))) (sym n.groups) (All-nil (IsMadeRow (width_in directory) []));
   packed = subst (λ (groups : List Group). ArePacked directory.schema.value (packed_in groups)) (sym n.groups) (All-nil (λ (entry : ℕ × Packed). IsPackedGroup directory.schema.value entry.1));
   loans = subst (All (IsLoanOf directory.schema.value [])) (sym n.claims) (All-nil (IsLoanOf directory.schema.value []));
   lent = subst (All (StandsAsLent (book_of directory.list))) (sym n.claims) (All-nil (StandsAsLent (book_of directory.list)));

@@ -17,7 +17,7 @@ use Rattle.version_store.specs.Newest.{Changes}
 use Rattle.version_store.proofs.Laid.{get-noted}
 use Rattle.group_book.specs.Stocks.{AreChanges}
 use Rattle.group_view.specs.Parts.{Rowed}
-use Rattle.group_view.specs.Laws.{IsRowOf}
+use Rattle.group_view.specs.Laws.{IsMadeRow}
 use Rattle.group_directory.specs.Stands.{IsRecent, AreTxns}
 use Rattle.group_directory.specs.Laws.{noted_by, MayStage}
 use Rattle.group_directory.proofs.RecentLaws.{named, recent_none, recent_new}
@@ -47,17 +47,17 @@ two = one ++ numbered 2 5 second
 abbrev version : ℕ → List Value → Rowed
 version begin cells = record { version = record { key = seven; begin = begin; end = None }; row = cells }
 
-old_row : IsRowOf 3 two (version 1 (row 1))
+old_row : IsMadeRow 3 two (version 1 (row 1))
 old_row = refl
 
-new_row : IsRowOf 3 two (version 2 (row 2))
+new_row : IsMadeRow 3 two (version 2 (row 2))
 new_row = refl
 
 -- NULL stands past a row's end
-short_row : IsRowOf 3 two (version 2 (Number (pos 7) ∷ Number (pos 2) ∷ Null ∷ []))
+short_row : IsMadeRow 3 two (version 2 (Number (pos 7) ∷ Number (pos 2) ∷ Null ∷ []))
 short_row = refl
 
-not_row : IsRowOf 3 two (version 2 (row 1)) → ⊥
+not_row : IsMadeRow 3 two (version 2 (row 1)) → ⊥
 not_row is = cc
 
 -- ---- newest changes

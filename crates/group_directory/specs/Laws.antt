@@ -19,7 +19,7 @@ use Rattle.group_view.specs.declared.view.GroupView.{GroupView}
 use Rattle.group_view.specs.Parts.{Rowed, packed_parts, ArePacked, IsFitting}
 use Rattle.group_view.specs.Books.{book_of, StandsAsLent}
 use Rattle.group_view.specs.Lists.{listed, packed_in, IsHeld}
-use Rattle.group_view.specs.Laws.{IsRowOf}
+use Rattle.group_view.specs.Laws.{IsMadeRow}
 use Rattle.group_directory.specs.declared.directory.Directory.{Directory}
 use Rattle.group_view.specs.Seen.{part_entry, rooted}
 use Rattle.group_directory.specs.Stands.{width_in, listed_rows, IsLoanOf, AreSizes}
@@ -66,7 +66,7 @@ sizes_of directory = record { group_rows = directory.sizes.group_rows; direct_ro
 -- the list of groups may stand in the directory's place for these changes, where its book is one of them at the floor
 pub record MayBeList (directory : Directory) (list : GroupList) (changes : List Change) : Type 0 where
   pub held : IsHeld list
-  pub rows : All (IsRowOf (width_in directory) changes) (listed_rows list)
+  pub rows : All (IsMadeRow (width_in directory) changes) (listed_rows list)
   pub packed : ArePacked directory.schema.value (packed_in list.groups.items)
   pub loans : All (IsLoanOf directory.schema.value changes) list.claims.items
   pub lent : All (StandsAsLent (book_of list)) list.claims.items

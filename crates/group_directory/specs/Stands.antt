@@ -27,7 +27,7 @@ use Rattle.group_view.specs.Views.{endings_of, buffer_of, rowed_of}
 use Rattle.group_view.specs.Books.{versions_of, choice_of, book_of, StandsAsLent}
 use Rattle.group_view.specs.Claims.{lent_entries}
 use Rattle.group_view.specs.Lists.{listed, packed_in, IsHeld}
-use Rattle.group_view.specs.Laws.{IsRowOf}
+use Rattle.group_view.specs.Laws.{IsMadeRow}
 use Rattle.group_directory.specs.declared.directory.Directory.{Directory}
 use Rattle.group_directory.specs.declared.directory.Sizes.{Sizes}
 
@@ -52,7 +52,7 @@ IsEndedBy changes buffer version = IfSome (buffered_end buffer version) (λ e. n
 -- change next, whatever came later; packed groups of the table; and of a flush the entries that end the versions
 pub record IsLoanOf (schema : Schema) (changes : List Change) (held : Actor × Claim) : Type 0 where
   pub of_table : held.1.schema.value ≡ schema
-  pub rows : All (IsRowOf (length schema.columns) changes) (rowed_of held.1.view)
+  pub rows : All (IsMadeRow (length schema.columns) changes) (rowed_of held.1.view)
   pub ends : All (IsEndedBy changes (buffer_of held.1.view)) (versions_of (rowed_of held.1.view))
   pub packed : ArePacked schema (packed_parts held.1.view.groups)
   pub entries : choice_of held.1.choice ≡ Flush → endings_of held.1.entries ≡ lent_entries held.1
@@ -105,7 +105,7 @@ pub record Stands (directory : Directory) (changes : List Change) : Type 0 where
   pub floor : ℕ
   pub is_floor : IsFloor (snapshots_in (txn_of directory.txns)) directory.clock floor
   pub book : IsBookOf directory.sizes.group_rows (book_of directory.list) changes floor
-  pub rows : All (IsRowOf (width_in directory) changes) (listed_rows directory.list)
+  pub rows : All (IsMadeRow (width_in directory) changes) (listed_rows directory.list)
   pub packed : ArePacked directory.schema.value (packed_in directory.list.groups.items)
   pub loans : All (IsLoanOf directory.schema.value changes) directory.list.claims.items
   pub lent : All (StandsAsLent (book_of directory.list)) directory.list.claims.items

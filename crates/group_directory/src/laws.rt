@@ -36,7 +36,7 @@ ghost use Rattle.group_book.specs.Invariant.{IsLent, IsBookOf};
 ghost use Rattle.group_view.specs.declared.claim.Claim.{Claim};
 ghost use Rattle.group_view.specs.declared.groups.Group.{Group};
 ghost use Rattle.group_view.specs.declared.view.GroupView.{GroupView};
-ghost use Rattle.group_view.specs.Laws.{IsRowOf, IsViewOf};
+ghost use Rattle.group_view.specs.Laws.{IsMadeRow, IsViewOf};
 ghost use Rattle.group_view.specs.Lists.{listed};
 ghost use Rattle.group_view.specs.Parts.{Rowed, packed_parts};
 ghost use Rattle.group_view.specs.Views.{endings_of, buffer_of, rowed_of};
@@ -53,24 +53,24 @@ ghost use Rattle.group_directory.specs.Laws.{rooted_at, AreAmong, BeginsBy, widt
 /// same ones in another order; where changes come that are numbered above all begins; and of the versions of a commit, the old
 /// ones and one of its number for each of these rows that its edits give.
 pub fn rows_stay()
-    ensures among { (width : ℕ) (changes : List Change) (old rows : List Rowed) → AreAmong old rows → All (IsRowOf width changes) old → All (IsRowOf width changes) rows }
-    ensures moved { (width : ℕ) (changes : List Change) (old rows : List Rowed) → IsPermutation (map rooted old) (map rooted rows) → All (IsRowOf width changes) old → All (IsRowOf width changes) rows }
-    ensures later { (width clock txn : ℕ) (changes : List Change) (own : List Edit) (rows : List Rowed) → All (BeginsBy clock) rows → All (IsRowOf width changes) rows
-        → All (IsRowOf width (changes ++ numbered (clock + 1) txn own)) rows }
+    ensures among { (width : ℕ) (changes : List Change) (old rows : List Rowed) → AreAmong old rows → All (IsMadeRow width changes) old → All (IsMadeRow width changes) rows }
+    ensures moved { (width : ℕ) (changes : List Change) (old rows : List Rowed) → IsPermutation (map rooted old) (map rooted rows) → All (IsMadeRow width changes) old → All (IsMadeRow width changes) rows }
+    ensures later { (width clock txn : ℕ) (changes : List Change) (own : List Edit) (rows : List Rowed) → All (BeginsBy clock) rows → All (IsMadeRow width changes) rows
+        → All (IsMadeRow width (changes ++ numbered (clock + 1) txn own)) rows }
     ensures commit { (width clock txn : ℕ) (changes : List Change) (own : List Edit) (old rows : List Rowed) (news : List (Key × List Value)) → IsStrictlySortedBy key_cmp (keys_of own) → All (BeginsBy clock) old
-        → All (IsGiven width own) news → IsPermutation (map rooted old ++ map (rooted_at (clock + 1)) news) (map rooted rows) → All (IsRowOf width changes) old
-        → All (IsRowOf width (changes ++ numbered (clock + 1) txn own)) rows }
+        → All (IsGiven width own) news → IsPermutation (map rooted old ++ map (rooted_at (clock + 1)) news) (map rooted rows) → All (IsMadeRow width changes) old
+        → All (IsMadeRow width (changes ++ numbered (clock + 1) txn own)) rows }
 {}
 
 /// What a claim's work keeps of the lent versions has the rows of its changes, as lent ones have: no change of the key lies
 /// between a kept version's begin and the number that it is raised to. So have the versions of the new group.
 pub fn work_keeps_rows()
-    ensures kept { (width : ℕ) (book : Book) (changes : List Change) (actor : Actor) (claim : Claim) → IsLent book changes (claim_of (actor, claim)) → All (IsRowOf width changes) (rowed_of claim.view)
-        → All (IsRowOf width changes) (kept_rowed claim) }
-    ensures padded { (width : ℕ) (book : Book) (changes : List Change) (actor : Actor) (claim : Claim) → IsLent book changes (claim_of (actor, claim)) → All (IsRowOf width changes) (rowed_of claim.view)
-        → All (IsRowOf width changes) (map (padded_rowed width) (kept_rowed claim)) }
+    ensures kept { (width : ℕ) (book : Book) (changes : List Change) (actor : Actor) (claim : Claim) → IsLent book changes (claim_of (actor, claim)) → All (IsMadeRow width changes) (rowed_of claim.view)
+        → All (IsMadeRow width changes) (kept_rowed claim) }
+    ensures padded { (width : ℕ) (book : Book) (changes : List Change) (actor : Actor) (claim : Claim) → IsLent book changes (claim_of (actor, claim)) → All (IsMadeRow width changes) (rowed_of claim.view)
+        → All (IsMadeRow width changes) (map (padded_rowed width) (kept_rowed claim)) }
     ensures made { (book : Book) (changes : List Change) (actor : Actor) (claim : Claim) (group : Arc Packed Global × Arc Marks Global) → IsLent book changes (claim_of (actor, claim))
-        → All (IsRowOf (width_of claim) changes) (rowed_of claim.view) → IsMadeOf claim (Some group) → All (IsRowOf (width_of claim) changes) (rowed_of_packed group.0.value group.1.value) }
+        → All (IsMadeRow (width_of claim) changes) (rowed_of claim.view) → IsMadeOf claim (Some group) → All (IsMadeRow (width_of claim) changes) (rowed_of_packed group.0.value group.1.value) }
 {}
 
 /// Rows stay those of the changes group by group: where each group is an old one, or the new one has such rows; where versions
@@ -78,13 +78,13 @@ pub fn work_keeps_rows()
 pub fn groups_keep_rows()
     ensures all { (groups : List Group) → rows_in (listed groups) ≡ flat_map (λ (group : Group). rowed_in_content group.content) groups }
     ensures made { (width : ℕ) (changes : List Change) (old groups : List (ℕ × List Rowed)) (fresh : Option ℕ) (made : List Rowed)
-        → All (λ (group : ℕ × List Rowed). Contains old group ⊎ ((fresh ≡ Some group.0) × (group.1 ≡ made))) groups → All (IsRowOf width changes) (rows_in old) → All (IsRowOf width changes) made
-        → All (IsRowOf width changes) (rows_in groups) }
-    ensures fewer { (width : ℕ) (changes : List Change) (old groups : List (ℕ × List Rowed)) → All (Contains old) groups → All (IsRowOf width changes) (rows_in old) → All (IsRowOf width changes) (rows_in groups) }
-    ensures ended { (width : ℕ) (changes : List Change) (before after : List Group) → rooted_in after ≡ rooted_in before → All (IsRowOf width changes) (rows_in (listed before))
-        → All (IsRowOf width changes) (rows_in (listed after)) }
+        → All (λ (group : ℕ × List Rowed). Contains old group ⊎ ((fresh ≡ Some group.0) × (group.1 ≡ made))) groups → All (IsMadeRow width changes) (rows_in old) → All (IsMadeRow width changes) made
+        → All (IsMadeRow width changes) (rows_in groups) }
+    ensures fewer { (width : ℕ) (changes : List Change) (old groups : List (ℕ × List Rowed)) → All (Contains old) groups → All (IsMadeRow width changes) (rows_in old) → All (IsMadeRow width changes) (rows_in groups) }
+    ensures ended { (width : ℕ) (changes : List Change) (before after : List Group) → rooted_in after ≡ rooted_in before → All (IsMadeRow width changes) (rows_in (listed before))
+        → All (IsMadeRow width changes) (rows_in (listed after)) }
     ensures picked { (width : ℕ) (changes : List Change) (test : Seen → Bool) (groups : List Group) (view : GroupView) → map part_entry view.groups ≡ map entry_of (filter test (map seen groups))
-        → All (IsRowOf width changes) (rows_in (listed groups)) → All (IsRowOf width changes) (rowed_of view) }
+        → All (IsMadeRow width changes) (rows_in (listed groups)) → All (IsMadeRow width changes) (rowed_of view) }
 {}
 
 /// The rows of a directory that stands for some changes, after a commit of these edits: of the listed versions, and with the
@@ -92,11 +92,11 @@ pub fn groups_keep_rows()
 pub fn directory_keeps_rows()
     ensures commit { (directory : Directory) (changes : List Change) (txn : ℕ) (own : List Edit) (rows : List Rowed) (news : List (Key × List Value)) → Stands directory changes → IsStrictlySortedBy key_cmp (keys_of own)
         → All (IsGiven (width_in directory) own) news → IsPermutation (map rooted (listed_rows directory.list) ++ map (rooted_at (directory.clock + 1)) news) (map rooted rows)
-        → All (IsRowOf (width_in directory) (changes ++ numbered (directory.clock + 1) txn own)) rows }
+        → All (IsMadeRow (width_in directory) (changes ++ numbered (directory.clock + 1) txn own)) rows }
     ensures loans { (directory : Directory) (changes : List Change) (txn : ℕ) (own : List Edit) → Stands directory changes
         → All (IsLoanOf directory.schema.value (changes ++ numbered (directory.clock + 1) txn own)) directory.list.claims.items }
     ensures made { (directory : Directory) (changes : List Change) (held : Actor × Claim) (group : Arc Packed Global × Arc Marks Global) → Stands directory changes → Contains directory.list.claims.items held
-        → IsMadeOf held.1 (Some group) → All (IsRowOf (width_in directory) changes) (rowed_of_packed group.0.value group.1.value) }
+        → IsMadeOf held.1 (Some group) → All (IsMadeRow (width_in directory) changes) (rowed_of_packed group.0.value group.1.value) }
 {}
 
 /// A new claim keeps what a claim of the directory must: it has some of its groups, with its buffer, its schema and, where it is

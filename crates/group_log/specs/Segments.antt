@@ -8,7 +8,7 @@ use Rattle.cs_model.specs.Changes.{Change, last_change, made}
 use Rattle.column_segment.specs.declared.body.SegmentBody.{SegmentBody}
 use Rattle.column_segment.specs.Bodies.{encoding_of, words_in}
 use Rattle.column_segment.specs.Segments.{IsSegmentOf}
-use Rattle.row_group.specs.Rows.{PackedRow, padded, column_of, AreInOrder}
+use Rattle.row_group.specs.Rows.{PackedRow, padded_row, column_of, AreInOrder}
 use Rattle.group_book.specs.Book.{Version, Group, Book, frozen_in, is_compressed}
 
 -- ---- the lines
@@ -37,7 +37,7 @@ pub record AreSegmentLines (schema : Schema) (groups : List (ℕ × List PackedR
 
 -- a version as a group has it: the row of its key's last change at its begin, NULL past its end, with that begin
 abbrev pub packed_row : ℕ → List Change → Version → PackedRow
-packed_row width changes version = padded width (unwrap_or (made (last_change version.key version.begin changes)) []) version.begin
+packed_row width changes version = padded_row width (unwrap_or (made (last_change version.key version.begin changes)) []) version.begin
 
 -- the rows are those of the group's versions, those of ended ones too
 pub record AreRowsOf (width : ℕ) (changes : List Change) (group : Group) (rows : ℕ × List PackedRow) : Type 0 where

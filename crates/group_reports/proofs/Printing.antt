@@ -2,6 +2,7 @@
 use Rattle.std.proofs.Common.{◌≡◌, ◌≢◌, ℕ, ◌+◌, ◌-◌, List, [], ◌∷◌, length, slice_get, refl, sym, ap, subst, arith, IsTrue, Option, None, Some, All, Contains, ℤ}
 use Rattle.std.specs.List.{range_with_len, flat_map, AllZip, AllByRecursion}
 use Rattle.std.proofs.lemmas.List.Elements.{All-nil, All-cons, All-append, All-map, All-weaker, All-contains, recursion_from_All}
+use Rattle.std.proofs.lemmas.Option.{slice_get_within}
 use Rattle.cs_types.specs.declared.Column.{Column}
 use Rattle.cs_types.specs.declared.ColumnType.{ColumnType}
 use Rattle.cs_types.specs.declared.ColumnType.TheVariants as kinds
@@ -9,11 +10,11 @@ use Rattle.cs_types.specs.declared.Schema.{Schema}
 use Rattle.cs_types.specs.declared.Value.{Value}
 use Rattle.cs_types.specs.declared.Value.TheVariants.{Null, Number, Text}
 use Rattle.cs_types.specs.Kinds.{keeps_number}
-use Rattle.cs_types.specs.Rows.{cell_at}
+use Rattle.cs_types.specs.Rows.{cell_at, padded}
 use Rattle.cs_types.specs.Text.{loose_number, IsPrintable}
-use Rattle.cs_types.specs.Schemas.{may_hold}
+use Rattle.cs_types.specs.Schemas.{may_hold, IsRowOf}
+use Rattle.cs_types.proofs.PaddedLemmas.{padded_cell}
 use Rattle.cs_model.specs.declared.report.SegmentLine.{SegmentLine}
-use Rattle.cs_model.specs.Held.{IsHeld}
 use Rattle.cs_model.specs.Text.{kind_or, column_kind, IsPrintableCell, IsPrintableSegment}
 use Rattle.row_group.specs.Rows.{PackedRow, column_of}
 use Rattle.group_log.specs.Segments.{AreGroupLines, AreSegmentLines, IsSegmentLine}
@@ -42,9 +43,15 @@ any_prints (Number z) = tt
 any_prints (Text t) = tt
 
 module _ (schema : Schema) where
-  row_prints : (found : Option Column) (column : ℕ) (row : List Value) → slice_get schema.columns column ≡ found → IsHeld schema row → IsPrintableCell (kind_or found) (cell_at row column)
-  row_prints None column row is held = any_prints (cell_at row column)
-  row_prints (Some c) column row is held = cell_prints c (cell_at row column) (held column c is)
+  -- in the table's cells the row fits the table
+  abbrev IsRowHeld : PackedRow → Type 0
+  IsRowHeld row = IsRowOf schema (padded (length schema.columns) row.cells)
+
+  row_prints : (found : Option Column) (column : ℕ) (row : PackedRow) → slice_get schema.columns column ≡ found → IsRowHeld row → IsPrintableCell (kind_or found) (cell_at row.cells column)
+  row_prints None column row is held = any_prints (cell_at row.cells column)
+  row_prints (Some c) column row is held =
+      let same = padded_cell (length schema.columns) row.cells column (slice_get_within schema.columns column c is) in
+      cell_prints c (cell_at row.cells column) (subst (λ (cell : Value). IsTrue (may_hold c cell)) same (held.held column c is))
 
   -- the column that is counted from 1 in reports
   kind_is : (line : SegmentLine) (column : ℕ) → line.column ≡ column + 1 → column_kind schema line.column ≡ kind_or (slice_get schema.columns column)
@@ -56,18 +63,18 @@ module _ (schema : Schema) where
   bound_prints kind cells (Number z) all there = All-contains (IsPrintableCell kind) cells (Number z) all (there (λ e. absurd (cc e)))
   bound_prints kind cells (Text t) all there = tt
 
-  line_prints : (id column : ℕ) (rows : List PackedRow) (line : SegmentLine) → All (λ (row : PackedRow). IsHeld schema row.cells) rows → IsSegmentLine id column (column_of rows column) line → IsPrintableSegment schema line
+  line_prints : (id column : ℕ) (rows : List PackedRow) (line : SegmentLine) → All IsRowHeld rows → IsSegmentLine id column (column_of rows column) line → IsPrintableSegment schema line
   line_prints id column rows line held is =
       let kind = column_kind schema line.column in
-      let prints : (row : PackedRow) → IsHeld schema row.cells → IsPrintableCell kind (cell_at row.cells column) =
-      λ row whole. subst (λ t. IsPrintableCell t (cell_at row.cells column)) (sym (kind_is line column is.of_column)) (row_prints (slice_get schema.columns column) column row.cells refl whole) in
+      let prints : (row : PackedRow) → IsRowHeld row → IsPrintableCell kind (cell_at row.cells column) =
+      λ row whole. subst (λ t. IsPrintableCell t (cell_at row.cells column)) (sym (kind_is line column is.of_column)) (row_prints (slice_get schema.columns column) column row refl whole) in
       let all : All (IsPrintableCell kind) (column_of rows column) = All-map (IsPrintableCell kind) (λ (row : PackedRow). cell_at row.cells column) rows
-      (All-weaker (λ (row : PackedRow). IsHeld schema row.cells) (λ (row : PackedRow). IsPrintableCell kind (cell_at row.cells column)) prints rows held) in
+      (All-weaker IsRowHeld (λ (row : PackedRow). IsPrintableCell kind (cell_at row.cells column)) prints rows held) in
       (bound_prints kind (column_of rows column) line.least all (λ some. (is.of_cells.least_is.1 some).0), bound_prints kind (column_of rows column) line.greatest all (λ some. (is.of_cells.greatest_is.1 some).0))
 
   -- ---- lines
 
-  columns_print : (id : ℕ) (rows : List PackedRow) (columns : List ℕ) (lines : List SegmentLine) → All (λ (row : PackedRow). IsHeld schema row.cells) rows
+  columns_print : (id : ℕ) (rows : List PackedRow) (columns : List ℕ) (lines : List SegmentLine) → All IsRowHeld rows
       → AllZip (λ column line. IsSegmentLine id column (column_of rows column) line) columns lines → All (IsPrintableSegment schema) lines
   columns_print id rows [] [] held h = All-nil (IsPrintableSegment schema)
   columns_print id rows [] (line ∷ lines) held h = absurd h
@@ -76,7 +83,7 @@ module _ (schema : Schema) where
 
   -- each group's rows are held
   abbrev IsGroupHeld : ℕ × List PackedRow → Type 0
-  IsGroupHeld group = All (λ (row : PackedRow). IsHeld schema row.cells) group.1
+  IsGroupHeld group = All IsRowHeld group.1
 
   groups_print : (groups : List (ℕ × List PackedRow)) (parts : List (List SegmentLine)) → AllByRecursion IsGroupHeld groups → AllZip (AreGroupLines (length schema.columns)) groups parts → All (IsPrintableSegment schema) (flat_map (λ part. part) parts)
   groups_print [] [] held h = All-nil (IsPrintableSegment schema)

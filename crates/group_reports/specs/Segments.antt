@@ -1,10 +1,11 @@
 -- The report on segments: what each column of each COMPRESSED group of a view is, as the layout of the group's rows has it.
-use Rattle.std.specs.Prelude.{◌≡◌, ℕ, List, [], All}
+use Rattle.std.specs.Prelude.{◌≡◌, ℕ, List, [], length, All}
 use Rattle.cs_types.specs.declared.Schema.{Schema}
+use Rattle.cs_types.specs.Rows.{padded}
+use Rattle.cs_types.specs.Schemas.{IsRowOf}
 use Rattle.cs_model.specs.declared.entry.Reply.{Reply}
 use Rattle.cs_model.specs.declared.entry.Reply.TheVariants.{Done, Affected, Rows, Groups, Segments, Left, Refused}
 use Rattle.cs_model.specs.declared.report.SegmentLine.{SegmentLine}
-use Rattle.cs_model.specs.Held.{IsHeld}
 use Rattle.row_group.specs.Rows.{PackedRow}
 use Rattle.group_log.specs.Segments.{AreGroupLines, AreSegmentLines}
 use Rattle.group_view.specs.declared.parts.GroupPart.{GroupPart}
@@ -40,6 +41,6 @@ IsPackedPart schema (Store store) = Unit {0}
 abbrev pub ArePackedParts : Schema → List (ℕ × GroupPart) → Type 0
 ArePackedParts schema groups = All (λ (group : ℕ × GroupPart). IsPackedPart schema group.1) groups
 
--- each column holds its cells in the rows of the groups
+-- in the table's cells each row of the groups fits the table
 abbrev pub AreHeld : Schema → List (ℕ × List PackedRow) → Type 0
-AreHeld schema groups = All (λ (group : ℕ × List PackedRow). All (λ (row : PackedRow). IsHeld schema row.cells) group.1) groups
+AreHeld schema groups = All (λ (group : ℕ × List PackedRow). All (λ (row : PackedRow). IsRowOf schema (padded (length schema.columns) row.cells)) group.1) groups

@@ -16,7 +16,7 @@ use Rattle.group_view.specs.Parts.{Rowed, rowed_in, IsFitting}
 use Rattle.group_view.specs.Views.{rowed_of}
 use Rattle.group_view.specs.Books.{versions_of, rowed_in_content, content_of, group_of, book_of}
 use Rattle.group_view.specs.Lists.{is_listed, listed}
-use Rattle.group_view.specs.Laws.{IsRowOf, IsTakenOf, IsViewOf}
+use Rattle.group_view.specs.Laws.{IsMadeRow, IsTakenOf, IsViewOf}
 
 first_in : (more xs ys zs : List Version) → IsPermutation (xs ++ ys) zs → IsPermutation ((more ++ xs) ++ ys) (more ++ zs)
 first_in more xs ys zs moved = subst (λ (list : List Version). IsPermutation list (more ++ zs)) (sym (append_assoc more xs ys)) (IsPermutation-append_right more (xs ++ ys) zs moved)
@@ -58,7 +58,7 @@ pub rows_of_groups : (groups : List (ℕ × GroupPart)) → flat_map rows_in (ma
 rows_of_groups [] = refl
 rows_of_groups (group ∷ groups) = ap (λ (rows : List Rowed). rowed_in group.1 ++ rows) (rows_of_groups groups)
 
-module _ (width : ℕ) (list : GroupList) (view : GroupView) (changes : List Change) (within : view.floor ≤ view.clock) (fitting : All (λ (group : ℕ × GroupPart). IsFitting group.1) view.groups) (taken : IsTakenOf list view) (rows : All (IsRowOf width changes) (flat_map rows_in (listed list.groups.items))) where
+module _ (width : ℕ) (list : GroupList) (view : GroupView) (changes : List Change) (within : view.floor ≤ view.clock) (fitting : All (λ (group : ℕ × GroupPart). IsFitting group.1) view.groups) (taken : IsTakenOf list view) (rows : All (IsMadeRow width changes) (flat_map rows_in (listed list.groups.items))) where
   rows_are : flat_map rows_in (listed list.groups.items) ≡ rowed_of view
   rows_are = ap (flat_map rows_in) (sym taken.groups) ∙ rows_of_groups view.groups
 
@@ -68,5 +68,5 @@ module _ (width : ℕ) (list : GroupList) (view : GroupView) (changes : List Cha
     within = within;
     versions = subst (λ (versions : List Rowed). IsPermutation (opened (map group_of list.groups.items) ++ frozen (map group_of list.groups.items)) (versions_of versions)) rows_are (listed_versions list.groups.items);
     buffer = taken.buffer;
-    rows = subst (λ (versions : List Rowed). All (IsRowOf width changes) versions) rows_are rows;
+    rows = subst (λ (versions : List Rowed). All (IsMadeRow width changes) versions) rows_are rows;
   }

@@ -19,6 +19,7 @@ use Rattle.cs_types.specs.declared.Key.{Key}
 use Rattle.cs_types.specs.declared.Value.{Value}
 use Rattle.cs_types.specs.Keys.{key_cmp, same_key}
 use Rattle.cs_types.proofs.KeyLemmas.{key_total, one_key}
+use Rattle.cs_types.specs.Rows.{padded}
 use Rattle.cs_model.specs.Changes.{Table, Change, table}
 use Rattle.edit_laws.proofs.Tables.{laid_ascends}
 use Rattle.group_book.specs.Book.{is_visible, shows}
@@ -26,7 +27,7 @@ use Rattle.group_book.proofs.Keys.{key_here, key_is}
 use Rattle.group_view.specs.declared.parts.GroupPart.{GroupPart}
 use Rattle.group_view.specs.declared.view.GroupView.{GroupView}
 use Rattle.group_view.specs.declared.view.Place.{Place}
-use Rattle.group_view.specs.Parts.{Rowed, padded, rowed_in}
+use Rattle.group_view.specs.Parts.{Rowed, rowed_in}
 use Rattle.group_view.specs.Views.{buffer_of, rowed_of, version_at, is_shown, shown, shown_edit, shown_table, padded_table, HidesEach, IsView, Shows, ShowsTables}
 use Rattle.group_view.specs.Laws.{shown_row}
 use Rattle.group_view.proofs.Tables.{shown_permuted}

@@ -12,6 +12,7 @@ use Rattle.cs_types.specs.declared.Key.{Key}
 use Rattle.cs_types.specs.Keys.{key_cmp}
 use Rattle.delete_buffer.specs.Entries.{Entry, AreInOrder}
 use Rattle.row_group.specs.Groups.{Group, key_at_place, AreByKey}
+use Rattle.row_group.proofs.GroupLemmas.{places_by_key}
 use Rattle.group_view.specs.Spans.{key_at, AreKeysBetween, HasNoRowOf}
 
 -- ---- what the tests of two numbers tell
@@ -107,12 +108,12 @@ module _ (group : Group) (by_key : AreByKey group) where
   keys_rise : (i j : ℕ) → i ≤ j → j < length group.places → (key_at_place group i).0 ≤ℤ (key_at_place group j).0
   keys_rise i j up there =
       up_to_itself (λ n. (key_at_place group n).0) i j up (λ less.
-      key_up_to (key_at_place group i) (key_at_place group j) (not_after (key_cmp (key_at_place group i) (key_at_place group j)) (nat_cmp (slice_index group.places i) (slice_index group.places j)) (by_key.sorted i j less there)))
+      key_up_to (key_at_place group i) (key_at_place group j) (not_after (key_cmp (key_at_place group i) (key_at_place group j)) (nat_cmp (slice_index group.places i) (slice_index group.places j)) ((places_by_key group by_key).sorted i j less there)))
 
   -- they lie from the key at the first place to that at the last
   pub keys_between : (last : ℕ) → last + 1 ≡ length group.places → AreKeysBetween (key_at_place group 0) (key_at_place group last) group
   keys_between last count p there =
-      let found = by_key.each p there in
+      let found = (places_by_key group by_key).each p there in
       let at = ap (λ (q : ℕ). (key_at group q).0) found.2 in (
         subst (λ (k : ℤ). (key_at_place group 0).0 ≤ℤ k) at (keys_rise 0 found.0 (omega arith) found.1),
         subst (λ (k : ℤ). k ≤ℤ (key_at_place group last).0) at (keys_rise found.0 last (omega (arith, found.1, count)) (omega (arith, count))),

@@ -13,6 +13,7 @@ use Rattle.std.proofs.lemmas.Map.Made.{keys_of-map_values, lookup-map_values}
 use Rattle.cs_types.specs.declared.Key.{Key}
 use Rattle.cs_types.specs.declared.Value.{Value}
 use Rattle.cs_types.specs.Keys.{key_cmp, same_key}
+use Rattle.cs_types.specs.Rows.{padded}
 use Rattle.cs_model.specs.Changes.{Edit, Table, Change, laid, until, table, newest, last_change, made}
 use Rattle.cs_model.proofs.Tables.{row_is, table_ascends}
 use Rattle.edit_laws.proofs.Tables.{Ascends, at, rows_of, rows_whole}
@@ -24,10 +25,10 @@ use Rattle.group_book.proofs.Lists.{all-both, all-filter, how_many-append, how_m
 use Rattle.group_book.proofs.Move.{how_many-permutation}
 use Rattle.group_book.proofs.Visible.{each_shown, frozen_seen, opened_seen}
 use Rattle.group_view.specs.declared.view.GroupView.{GroupView}
-use Rattle.group_view.specs.Parts.{Rowed, padded}
+use Rattle.group_view.specs.Parts.{Rowed}
 use Rattle.group_view.specs.Views.{buffer_of, rowed_of, is_shown, shown, shown_edit, shown_table, padded_table, IsView, ShowsTables}
 use Rattle.group_view.specs.Books.{versions_of}
-use Rattle.group_view.specs.Laws.{shown_row, IsRowOf, IsViewOf}
+use Rattle.group_view.specs.Laws.{shown_row, IsMadeRow, IsViewOf}
 use Rattle.group_view.proofs.Counts.{how_many-filter, recursion-map, in_versions, laid_in}
 
 -- ---- rows of a table
@@ -98,14 +99,14 @@ module _ (group_rows width : ℕ) (view : GroupView) (book : Book) (changes : Li
       all-filter (λ (rowed : Rowed). Seen rowed.version) (λ (rowed : Rowed). IsSeenAt changes view.floor s rowed.version) (is_shown view s) (rowed_of view)
       (λ rowed seen is. seen (ap (λ (buffer : List Ending). is_visible buffer s rowed.version) (sym v.buffer) ∙ is)) seen_versions
 
-  row_of_seen : (rowed : Rowed) → IsRowOf width changes rowed → IsSeenAt changes view.floor s rowed.version → at rowed.version.key (padded_table width (table changes s)) ≡ Some (padded width rowed.row)
+  row_of_seen : (rowed : Rowed) → IsMadeRow width changes rowed → IsSeenAt changes view.floor s rowed.version → at rowed.version.key (padded_table width (table changes s)) ≡ Some (padded width rowed.row)
   row_of_seen rowed own seen =
       padded_at width changes s rowed.version.key ∙ ap (λ (o : Option Change). option_map (padded width) (made o)) (seen.is_last ∙ sym seen.stems) ∙ own
 
   shown_rows_are : AllByRecursion (λ (rowed : Rowed). at rowed.version.key (padded_table width (table changes s)) ≡ Some (padded width rowed.row)) (shown view s)
   shown_rows_are =
-      all-both (IsRowOf width changes) (λ (rowed : Rowed). IsSeenAt changes view.floor s rowed.version) (λ (rowed : Rowed). at rowed.version.key (padded_table width (table changes s)) ≡ Some (padded width rowed.row)) (shown view s) row_of_seen
-      (all-filter (IsRowOf width changes) (IsRowOf width changes) (is_shown view s) (rowed_of view) (λ rowed own is. own) (recursion_from_All (IsRowOf width changes) (rowed_of view) v.rows)) seen_shown
+      all-both (IsMadeRow width changes) (λ (rowed : Rowed). IsSeenAt changes view.floor s rowed.version) (λ (rowed : Rowed). at rowed.version.key (padded_table width (table changes s)) ≡ Some (padded width rowed.row)) (shown view s) row_of_seen
+      (all-filter (IsMadeRow width changes) (IsMadeRow width changes) (is_shown view s) (rowed_of view) (λ rowed own is. own) (recursion_from_All (IsMadeRow width changes) (rowed_of view) v.rows)) seen_shown
 
   others_none : (key : Key) → list_any (same_key key) (map (λ (rowed : Rowed). rowed.version.key) (shown view s)) ≡ false → at key (padded_table width (table changes s)) ≡ None
   others_none key none = step (has_row (table changes s) key) refl

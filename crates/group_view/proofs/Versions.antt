@@ -1,14 +1,11 @@
 -- The versions of groups by position.
-use Rattle.std.proofs.Common.{◌≡◌, ℕ, zero, suc, ◌<◌, ◌+◌, List, [], ◌∷◌, ◌++◌, length, refl, sym, ap, ◌∙◌, arith}
+use Rattle.std.proofs.Common.{◌≡◌, ℕ, zero, suc, ◌<◌, List, [], ◌∷◌, length, refl, sym, ap, ◌∙◌, arith}
 use Rattle.std.specs.Prelude.{Option, None, Some, slice_get}
 use Rattle.std.specs.Option.{option_map}
-use Rattle.std.proofs.lemmas.List.FromFn.{fill_by_all, map-range_with_len_more}
 use Rattle.std.proofs.lemmas.Option.{same_Some, slice_get-get_or, slice_get-map, unwrap_or-slice_get}
 use Rattle.cs_types.specs.declared.Key.{Key}
 use Rattle.cs_types.specs.declared.row.Version.{Version as Stored}
-use Rattle.cs_types.specs.declared.Value.{Value}
-use Rattle.cs_types.specs.declared.Value.TheVariants.{Null}
-use Rattle.cs_types.specs.Rows.{cell_at, key_in}
+use Rattle.cs_types.specs.Rows.{key_in, padded}
 use Rattle.delete_bitmap.specs.declared.MarkedEnd.{MarkedEnd}
 use Rattle.delete_bitmap.specs.Marks.{end_at}
 use Rattle.delta_store.specs.declared.version.KeyedVersion.{KeyedVersion}
@@ -16,7 +13,7 @@ use Rattle.row_group.specs.Groups.{Group, row_at}
 use Rattle.row_group.specs.Rows.{PackedRow}
 use Rattle.group_book.specs.Book.{Version}
 use Rattle.group_book.specs.Book.End.{At}
-use Rattle.group_view.specs.Parts.{Rowed, padded, end_of_mark, packed_version, packed_versions, stored_version, stored_versions}
+use Rattle.group_view.specs.Parts.{Rowed, end_of_mark, packed_version, packed_versions, stored_version, stored_versions}
 
 -- the version at a position, if there is one
 abbrev pub version_in : List Rowed → ℕ → Option Version
@@ -93,12 +90,3 @@ pub stored_row : (width : ℕ) (stored : Stored) (versions : List KeyedVersion) 
     → option_map (λ (rowed : Rowed). padded width rowed.row) (slice_get (stored_versions versions) position) ≡ Some (padded width stored.row)
 stored_row width stored versions position at_version =
     ap (option_map (λ (rowed : Rowed). padded width rowed.row)) (slice_get-map stored_version versions position) ∙ row_step width stored (slice_get versions position) at_version
-
--- ---- rows
-
--- a row of so many cells is itself
-pub padded_itself : (width : ℕ) (row : List Value) → length row ≡ width → row ≡ padded width row
-padded_itself width row same = fill_by_all (λ column. cell_at row column) row width Null same (λ k below. sym (unwrap_or-slice_get row k Null))
-
-pub padded_more : (row : List Value) (n : ℕ) → padded (n + 1) row ≡ padded n row ++ cell_at row n ∷ []
-padded_more row n = map-range_with_len_more (λ column. cell_at row column) 0 n n (omega arith)

@@ -4,8 +4,9 @@ use Rattle.std.specs.List.{AllZip}
 use Rattle.std.specs.declared.alloc.Global.{Global}
 use Rattle.std.specs.declared.sync.Arc.{Arc}
 use Rattle.cs_types.specs.declared.Schema.{Schema}
-use Rattle.cs_types.specs.Rows.{key_in}
-use Rattle.cs_types.specs.Schemas.{IsSchema, IsRowOf}
+use Rattle.cs_types.specs.Rows.{padded}
+use Rattle.cs_types.specs.Schemas.{IsSchema}
+use Rattle.cs_model.specs.Held.{IsRowAt}
 use Rattle.delete_bitmap.specs.declared.Marks.{Marks}
 use Rattle.row_group.specs.declared.packed.Packed.{Packed}
 use Rattle.group_book.specs.Book as book
@@ -18,7 +19,7 @@ use Rattle.group_view.specs.declared.claim.Product.{Product}
 use Rattle.group_view.specs.declared.claim.Product.TheVariants.{Group, Marked}
 use Rattle.group_view.specs.declared.parts.GroupPart.{GroupPart}
 use Rattle.group_view.specs.declared.parts.GroupPart.TheVariants as part
-use Rattle.group_view.specs.Parts.{Rowed, padded, packed_versions, IsFitting, IsPackedGroup}
+use Rattle.group_view.specs.Parts.{Rowed, packed_versions, IsFitting, IsPackedGroup}
 use Rattle.group_view.specs.Views.{endings_of, buffer_of, rowed_of}
 use Rattle.group_view.specs.Books.{versions_of, choice_of}
 
@@ -71,10 +72,9 @@ IsProductOf claim (Marked marks) = (choice_of claim.choice ≡ Flush) × AllZip 
 
 -- ---- which claims may be worked on
 
--- in the table's cells the version has a row of the table, whose key is the version's
-pub record IsLentRow (schema : Schema) (rowed : Rowed) : Type 0 where
-  pub row : IsRowOf schema (padded (length schema.columns) rowed.row)
-  pub key : key_in schema.key rowed.row ≡ rowed.version.key
+-- in the table's cells the version has a row of the table under its key
+abbrev pub IsLentRow : Schema → Rowed → Type 0
+IsLentRow schema rowed = IsRowAt schema rowed.version.key (padded (length schema.columns) rowed.row)
 
 -- a packed group has the table's columns and its key
 abbrev pub IsTablePart : Schema → GroupPart → Type 0

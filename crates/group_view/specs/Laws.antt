@@ -4,18 +4,19 @@ use Rattle.std.specs.List.Sorted.{IsPermutation}
 use Rattle.std.specs.Option.{option_map}
 use Rattle.cs_types.specs.declared.Key.{Key}
 use Rattle.cs_types.specs.declared.Value.{Value}
+use Rattle.cs_types.specs.Rows.{padded}
 use Rattle.cs_model.specs.Changes.{Change, last_change, made}
 use Rattle.group_book.specs.Book.{Book, opened, frozen}
 use Rattle.group_view.specs.declared.view.GroupView.{GroupView}
 use Rattle.group_view.specs.declared.groups.GroupList.{GroupList}
-use Rattle.group_view.specs.Parts.{Rowed, padded, rowed_in, IsFitting}
+use Rattle.group_view.specs.Parts.{Rowed, rowed_in, IsFitting}
 use Rattle.group_view.specs.Views.{endings_of, buffer_of, rowed_of}
 use Rattle.group_view.specs.Books.{versions_of}
 use Rattle.group_view.specs.Lists.{listed}
 
--- in so many cells the version's row is that of the change that it stems from
-abbrev pub IsRowOf : ℕ → List Change → Rowed → Type 0
-IsRowOf width changes rowed = option_map (padded width) (made (last_change rowed.version.key rowed.version.begin changes)) ≡ Some (padded width rowed.row)
+-- in so many cells the version's row is the one that the last change of its key at its begin made
+abbrev pub IsMadeRow : ℕ → List Change → Rowed → Type 0
+IsMadeRow width changes rowed = option_map (padded width) (made (last_change rowed.version.key rowed.version.begin changes)) ≡ Some (padded width rowed.row)
 
 -- the view has the versions of the book's OPEN, CLOSED and COMPRESSED groups, in whatever order, with their rows, and its
 -- buffer; bitmaps fit their groups
@@ -24,7 +25,7 @@ pub record IsViewOf (width : ℕ) (view : GroupView) (book : Book) (changes : Li
   pub within : view.floor ≤ view.clock
   pub versions : IsPermutation (opened book.groups ++ frozen book.groups) (versions_of (rowed_of view))
   pub buffer : buffer_of view ≡ book.buffer
-  pub rows : All (IsRowOf width changes) (rowed_of view)
+  pub rows : All (IsMadeRow width changes) (rowed_of view)
 
 -- a version's row in so many cells, by its key
 abbrev pub shown_row : ℕ → Rowed → Key × List Value

@@ -5,13 +5,13 @@ use Rattle.std.specs.Option.{option_map}
 use Rattle.cs_types.specs.declared.Key.{Key}
 use Rattle.cs_types.specs.declared.Schema.{Schema}
 use Rattle.cs_types.specs.declared.Value.{Value}
-use Rattle.cs_types.specs.Rows.{key_in}
+use Rattle.cs_types.specs.Rows.{key_in, padded}
 use Rattle.cs_model.specs.Changes.{Edit}
 use Rattle.row_group.specs.declared.packed.Packed.{Packed}
 use Rattle.row_group.specs.Rows.{PackedRow}
 use Rattle.group_book.specs.Commits.{Sizes, inserted_by, direct_parts}
 use Rattle.group_view.specs.declared.claim.Parcel.{Parcel}
-use Rattle.group_view.specs.Parts.{padded, IsPackedGroup}
+use Rattle.group_view.specs.Parts.{IsPackedGroup}
 
 abbrev pub keys_in : List (Key × List Value) → List Key
 keys_in rows = map (λ (entry : Key × List Value). entry.0) rows

@@ -1,10 +1,10 @@
 -- The versions of a group with their rows.
 use Rattle.std.specs.Prelude.{◌≡◌, ℕ, List, [], ◌∷◌, map, length, All, Option, None, Some}
-use Rattle.std.specs.List.{range_with_len, flat_map}
+use Rattle.std.specs.List.{flat_map}
 use Rattle.std.specs.Option.{option_map}
 use Rattle.cs_types.specs.declared.Schema.{Schema}
 use Rattle.cs_types.specs.declared.Value.{Value}
-use Rattle.cs_types.specs.Rows.{cell_at, key_in}
+use Rattle.cs_types.specs.Rows.{key_in}
 use Rattle.delete_bitmap.specs.declared.MarkedEnd.{MarkedEnd}
 use Rattle.delete_bitmap.specs.declared.MarkedEnd.TheVariants as marked
 use Rattle.delta_store.specs.declared.version.KeyedVersion.{KeyedVersion}
@@ -22,10 +22,6 @@ use Rattle.group_view.specs.declared.lived.Lived.{Lived}
 pub record Rowed : Type 0 where
   pub version : Version
   pub row : List Value
-
--- the row with so many cells, NULL past its end
-abbrev pub padded : ℕ → List Value → List Value
-padded width row = map (λ column. cell_at row column) (range_with_len 0 width)
 
 -- the end that a bitmap records
 abbrev pub end_of_mark : Option MarkedEnd → Option End

@@ -4,12 +4,13 @@ use Rattle.std.specs.List.{flat_map}
 use Rattle.std.specs.Option.{option_map, option_and_then}
 use Rattle.cs_types.specs.declared.Key.{Key}
 use Rattle.cs_types.specs.declared.Value.{Value}
+use Rattle.cs_types.specs.Rows.{padded}
 use Rattle.cs_model.specs.Changes.{Edit, Table, Change, laid, table}
 use Rattle.group_book.specs.Book.{Ending, how_many, is_visible, shows}
 use Rattle.group_book.specs.Invariant.{IsSeenAt}
 use Rattle.group_view.specs.declared.view.GroupView.{GroupView}
 use Rattle.group_view.specs.declared.view.Place.{Place}
-use Rattle.group_view.specs.Parts.{Rowed, padded, rowed_in, IsFitting}
+use Rattle.group_view.specs.Parts.{Rowed, rowed_in, IsFitting}
 
 -- the entries of the delete buffer
 abbrev pub endings_of : List (Key × ℕ) → List Ending

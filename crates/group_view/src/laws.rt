@@ -7,6 +7,7 @@ ghost use Rattle.std.specs.Map.{lookup};
 ghost use Rattle.std.specs.Option.{option_map};
 ghost use Rattle.cs_types.specs.declared.Key.{Key};
 ghost use Rattle.cs_types.specs.Keys.{key_cmp};
+ghost use Rattle.cs_types.specs.Rows.{padded};
 ghost use Rattle.cs_model.specs.Changes.{Change, table};
 ghost use Rattle.group_book.specs.Book.{Book};
 ghost use Rattle.group_book.specs.Stocks.{AreChanges};
@@ -15,11 +16,11 @@ ghost use Rattle.group_view.specs.declared.groups.GroupList.{GroupList};
 ghost use Rattle.group_view.specs.declared.parts.GroupPart.{GroupPart};
 ghost use Rattle.group_view.specs.declared.view.GroupView.{GroupView};
 ghost use Rattle.group_view.specs.declared.view.Place.{Place};
-ghost use Rattle.group_view.specs.Parts.{Rowed, padded, IsFitting};
+ghost use Rattle.group_view.specs.Parts.{Rowed, IsFitting};
 ghost use Rattle.group_view.specs.Views.{padded_table, shown, version_at, HidesEach, IsView, Shows, ShowsTables};
 ghost use Rattle.group_view.specs.Books.{book_of};
 ghost use Rattle.group_view.specs.Lists.{listed};
-ghost use Rattle.group_view.specs.Laws.{shown_row, IsRowOf, IsTakenOf, IsViewOf};
+ghost use Rattle.group_view.specs.Laws.{shown_row, IsMadeRow, IsTakenOf, IsViewOf};
 
 /// A view of the book of some changes shows their tables, for each snapshot from its floor to its clock: the visible versions
 /// are the table's rows, each key's once. Each stems from its key's last change in the table, with that change's number as its
@@ -35,7 +36,7 @@ pub fn shows_tables()
 /// for, with these changes.
 pub fn taken_views()
     ensures { (width : ℕ) (list : GroupList) (view : GroupView) (changes : List Change) → view.floor ≤ view.clock → All (λ (group : ℕ × GroupPart). IsFitting group.1) view.groups → IsTakenOf list view
-        → All (IsRowOf width changes) (flat_map (λ (group : ℕ × List Rowed). group.1) (listed list.groups.items)) → IsViewOf width view (book_of list) changes }
+        → All (IsMadeRow width changes) (flat_map (λ (group : ℕ × List Rowed). group.1) (listed list.groups.items)) → IsViewOf width view (book_of list) changes }
 {}
 
 /// What a view shows stays the tables' whatever is committed later, and whatever movers install meanwhile.

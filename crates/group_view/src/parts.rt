@@ -1,7 +1,8 @@
 // The groups of a view.
 ghost use Rattle.std.specs.Prelude.{◌≡◌, ◌<◌, length, slice_get, IfOk, Some};
 ghost use Rattle.std.specs.Option.{option_map};
-ghost use Rattle.group_view.specs.Parts.{lived_version, packed_versions, padded, rowed_in, stored_versions, IsBorrowed, IsFitting};
+ghost use Rattle.cs_types.specs.Rows.{padded};
+ghost use Rattle.group_view.specs.Parts.{lived_version, packed_versions, rowed_in, stored_versions, IsBorrowed, IsFitting};
 
 use crate::lived::{Lived, stamp_of};
 use crate::rows::{widened, with_width};

@@ -1,6 +1,6 @@
 // Rows in a given number of cells.
 ghost use Rattle.std.specs.Prelude.{◌≡◌, IfOk};
-ghost use Rattle.group_view.specs.Parts.{padded};
+ghost use Rattle.cs_types.specs.Rows.{padded};
 
 use cs_base::Memory;
 use cs_types::Row;

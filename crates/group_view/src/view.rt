@@ -2,7 +2,8 @@
 ghost use Rattle.std.specs.Prelude.{◌≡◌, ◌==◌, ◌<◌, ℕ, ◌↔◌, [], length, slice_get, All, IfNone, IfOk, IfSome, IsSome, IsTrue, Some};
 ghost use Rattle.std.specs.List.{list_any};
 ghost use Rattle.std.specs.Option.{option_map};
-ghost use Rattle.group_view.specs.Parts.{lived_version, padded, IsBorrowed, IsFitting};
+ghost use Rattle.cs_types.specs.Rows.{padded};
+ghost use Rattle.group_view.specs.Parts.{lived_version, IsBorrowed, IsFitting};
 ghost use Rattle.group_view.specs.Views.{is_shown, version_at, HidesEach, Shows};
 
 use crate::lived::Lived;

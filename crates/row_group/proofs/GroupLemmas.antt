@@ -1,5 +1,6 @@
 -- The positions of a group by key.
 use Rattle.std.proofs.Common.{◌≡◌, ◌≢◌, ℕ, ◌<◌, ◌≤◌, inl, inr, [], length, get_or, refl, sym, ◌∙◌, ap, arith, Bool, true, false, true≢false}
+use Rattle.std.specs.Prelude.{slice_index}
 use Rattle.std.specs.declared.cmp.Ordering.{Ordering}
 use Rattle.std.specs.declared.cmp.Ordering.TheVariants.{Less, Equal, Greater}
 use Rattle.std.specs.Ordering.{nat_cmp, ordering_then}
@@ -8,11 +9,10 @@ use Rattle.std.proofs.lemmas.Cmp.{alike_right, tied_itself}
 use Rattle.std.proofs.lemmas.List.{get_or-map, length-map}
 use Rattle.cs_types.specs.declared.Key.{Key}
 use Rattle.cs_types.specs.Rows.{key_in}
-use Rattle.row_group.specs.Orders.{IsOrderOf}
 use Rattle.row_group.specs.Rows.{PackedRow}
 use Rattle.cs_types.specs.Keys.{key_cmp}
 use Rattle.cs_types.proofs.KeyLemmas.{key_total, exact_key}
-use Rattle.row_group.specs.Groups.{Group, row_at, keys_of, key_at_place, precedes, AreByKey, ArePlacesOf, IsFirstPlace, IsSide, HasEachPosition}
+use Rattle.row_group.specs.Groups.{Group, row_at, keys_of, key_at_place, precedes, AreByKey, ArePlacesOf, IsFirstPlace, IsSide}
 use Rattle.row_group.proofs.OrderLemmas.{range-apart}
 use Rattle.row_group.proofs.RankLemmas.{length-order, within-order, in-order}
 
@@ -27,7 +27,20 @@ precedes-before tied a b key no_later before = go (key_cmp b a) (key_cmp a key) 
     go Equal s e f = ap (precedes tied) (key_total.congr b a key e) ∙ before
     go Greater s e f = absurd (no_later e)
 
-module _ (group : Group) (is : IsOrderOf key_cmp (keys_of group.key group.rows) group.places) where
+-- each position stands at a place
+abbrev pub HasEachPosition : Group → Type 0
+HasEachPosition group =
+    (position : ℕ) → position < length group.rows → (i : ℕ) × (i < length group.places) × (slice_index group.places i ≡ position)
+
+-- what the order by key says of places
+pub record ArePlacesByKey (group : Group) : Type 0 where
+  pub counted : length group.places ≡ length group.rows
+  pub within : (i : ℕ) → i < length group.places → slice_index group.places i < length group.rows
+  pub each : HasEachPosition group
+  pub once : (i j : ℕ) → i < length group.places → j < length group.places → slice_index group.places i ≡ slice_index group.places j → i ≡ j
+  pub sorted : (i j : ℕ) → i < j → j < length group.places → ordering_then (key_cmp (key_at_place group i) (key_at_place group j)) (nat_cmp (slice_index group.places i) (slice_index group.places j)) ≡ Less
+
+module _ (group : Group) (is : AreByKey group) where
   length-keys : length (keys_of group.key group.rows) ≡ length group.rows
   length-keys = length-map group.rows (λ row. key_in group.key row.cells)
 
@@ -43,8 +56,8 @@ module _ (group : Group) (is : IsOrderOf key_cmp (keys_of group.key group.rows) 
   key-at : (d : Key) (p : ℕ) → p < length group.places → get_or (keys_of group.key group.rows) (get_or group.places p 0) d ≡ key_at_place group p
   key-at d p l = get_or-map (λ (row : PackedRow). key_in group.key row.cells) group.rows (get_or group.places p 0) (record { cells = []; begin = 0 }) d (place-within p l)
 
-  pub by_key : AreByKey group
-  by_key = record {
+  pub places_by_key : ArePlacesByKey group
+  places_by_key = record {
     counted = length-places;
     within = place-within;
     each = each_position;
@@ -64,12 +77,12 @@ module _ (group : Group) (is : IsOrderOf key_cmp (keys_of group.key group.rows) 
         ∙ is.ascending d i j 0 less l;
   }
 
-module _ (group : Group) (are : AreByKey group) where
+module _ (group : Group) (by_key : AreByKey group) where
   -- keys do not fall along the places
   pub no_later : (p q : ℕ) → p ≤ q → q < length group.places → key_cmp (key_at_place group p) (key_at_place group q) ≢ Greater
   no_later p q le l greater = elim (cases_lt p q) [
     | inl less ↦
-        later (sym (ap (λ r. ordering_then r (nat_cmp (get_or group.places p 0) (get_or group.places q 0))) greater) ∙ are.sorted p q less l)
+        later (sym (ap (λ r. ordering_then r (nat_cmp (get_or group.places p 0) (get_or group.places q 0))) greater) ∙ (places_by_key group by_key).sorted p q less l)
     | inr n ↦
         let e : p ≡ q = omega arith in
         differ (sym (tied_itself key_total (key_at_place group q)) ∙ ap (λ i. key_cmp (key_at_place group i) (key_at_place group q)) (sym e) ∙ greater)
@@ -145,7 +158,6 @@ places_below group key each side = places_found group key 0 0 each (beside false
   where
     beside : (tied : Bool) → IsFirstPlace group key tied 0
     beside tied = record {
-      ordered = omega arith;
       within = omega arith;
       before = λ i l. absurd (omega arith);
       after = λ i l m. ap (precedes tied) (side i m);
@@ -156,7 +168,6 @@ places_above group key each side = places_found group key (length group.places) 
   where
     beside : (tied : Bool) → IsFirstPlace group key tied (length group.places)
     beside tied = record {
-      ordered = omega arith;
       within = omega arith;
       before = λ i l. ap (precedes tied) (side i l);
       after = λ i l m. absurd (omega arith);

@@ -1,32 +1,17 @@
 -- Rows that fit, and where they stand in a group.
-use Rattle.std.proofs.Common.{◌≡◌, ℕ, ◌+◌, ◌<◌, List, [], ◌∷◌, ◌++◌, length, map, get_or, take, refl, sym, ◌∙◌, ap, subst, arith, IsTrue, Bool, true, false, not, cond}
-use Rattle.std.specs.List.{All, range_with_len, filter}
+use Rattle.std.proofs.Common.{◌≡◌, ℕ, ◌+◌, ◌<◌, List, [], ◌∷◌, ◌++◌, length, map, get_or, take, refl, sym, ◌∙◌, ap, arith, Bool, true, false, not, cond}
+use Rattle.std.specs.List.{All, filter}
 use Rattle.std.proofs.lemmas.List.{length-map, get_or-map, get_or_default, same_lists, map-append, take_more}
 use Rattle.std.proofs.lemmas.List.Elements.{All-map, All-filter, filter-append}
-use Rattle.std.proofs.lemmas.List.FromFn.{length-map-range_with_len, get_or-map-range_with_len}
-use Rattle.std.proofs.lemmas.Option.{slice_get_within}
 use Rattle.cs_types.specs.declared.Schema.{Schema}
-use Rattle.cs_types.specs.declared.Value.{Value}
-use Rattle.cs_types.specs.declared.Value.TheVariants.{Null}
 use Rattle.cs_types.specs.declared.row.Version.{Version}
-use Rattle.cs_types.specs.Rows.{cell_at}
-use Rattle.cs_types.specs.Schemas.{may_hold, IsRowOf}
-use Rattle.row_group.specs.Rows.{PackedRow, padded, row_of, ended_by, raised, repacked, begun_above}
+use Rattle.cs_types.specs.Schemas.{IsRowOf}
+use Rattle.cs_types.proofs.PaddedLemmas.{padded_fits}
+use Rattle.row_group.specs.Rows.{PackedRow, row_of, ended_by, raised, repacked, begun_above}
 use Rattle.row_group.specs.Groups.{Group, row_at}
 use Rattle.row_group.specs.Packings.{IsOrderedBy, ArePlacesIn, StandAt}
 use Rattle.row_group.proofs.OrderLemmas.{length-range}
-use Rattle.row_group.proofs.ShownLemmas.{cell_at-get_or, map-map}
-
--- a row that fits does with NULL past its end
-pub padded-fits : (schema : Schema) (cells : List Value) (begin : ℕ) → IsRowOf schema cells → IsRowOf schema (padded (length schema.columns) cells begin).cells
-padded-fits schema cells begin fit = record {
-  short = omega (arith, length-map-range_with_len (cell_at cells) 0 (length schema.columns));
-  held = λ i column found.
-      let l = slice_get_within schema.columns i column found in
-      subst (λ (cell : Value). IsTrue (may_hold column cell))
-      (sym (cell_at-get_or (map (cell_at cells) (range_with_len 0 (length schema.columns))) i ∙ get_or-map-range_with_len (cell_at cells) 0 (length schema.columns) i i Null l (omega arith)))
-      (fit.held i column found);
-}
+use Rattle.row_group.proofs.ShownLemmas.{map-map}
 
 -- each row stands where the order has its place
 module _ (rows : List PackedRow) (order positions : List ℕ) (group : Group) (ordered : IsOrderedBy rows order group) (are : ArePlacesIn order positions) where
@@ -81,7 +66,7 @@ pub kept-fits : (schema : Schema) (versions : List Version) (floor : ℕ) → Al
 kept-fits schema versions floor fit =
     let test = λ (v : Version). not (ended_by floor v.end) in
     All-map (λ (row : PackedRow). IsRowOf schema row.cells) (row_of (length schema.columns)) (filter test versions)
-    (λ k d l. padded-fits schema (get_or (filter test versions) k d).row (get_or (filter test versions) k d).begin (All-filter test (λ (version : Version). IsRowOf schema version.row) versions fit k d l))
+    (λ k d l. padded_fits schema (get_or (filter test versions) k d).row (All-filter test (λ (version : Version). IsRowOf schema version.row) versions fit k d l))
 
 -- begins are raised in rows as in versions
 pub kept-raised : (width floor : ℕ) (versions : List Version) → map (begun_above floor) (map (row_of width) (filter (λ (v : Version). not (ended_by floor v.end)) versions)) ≡ map (row_of width) (repacked versions floor)

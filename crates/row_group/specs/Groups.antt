@@ -2,7 +2,6 @@
 use Rattle.std.specs.Prelude.{◌≡◌, ◌<◌, ◌≤◌, ℕ, ◌==◌, List, [], length, map, slice_index, slice_index_or, Option, None, Some, Bool, true, false, if◌then◌else◌, IsPermutation}
 use Rattle.std.specs.declared.cmp.Ordering.{Ordering}
 use Rattle.std.specs.declared.cmp.Ordering.TheVariants.{Less, Equal, Greater}
-use Rattle.std.specs.Ordering.{nat_cmp, ordering_then}
 use Rattle.cs_types.specs.declared.Key.{Key}
 use Rattle.cs_types.specs.declared.Schema.{Schema}
 use Rattle.cs_types.specs.declared.row.Version.{Version}
@@ -56,7 +55,7 @@ abbrev pub IsGroupOf : Schema → List Version → ℕ → Group → Type 0
 IsGroupOf schema versions floor group =
     HoldsRows schema (map (row_of (length schema.columns)) (repacked versions floor)) floor group
 
--- what stands first comes before; what ties may
+-- what is less comes before, and what is equal where ties are to
 abbrev pub precedes : Bool → Ordering → Bool
 precedes tied Less = true
 precedes tied Equal = tied
@@ -73,30 +72,24 @@ pub record ArePlacesOf (group : Group) (key : Key) (from to : ℕ) : Type 0 wher
   pub of_key : (i : ℕ) → from ≤ i → i < to → key_at_place group i ≡ key
   pub every : (position : ℕ) → position < length group.rows → key_in group.key (row_at group position).cells ≡ key → (i : ℕ) × (from ≤ i) × (i < to) × (slice_index group.places i ≡ position)
 
--- each position stands at a place
-abbrev pub HasEachPosition : Group → Type 0
-HasEachPosition group =
-    (position : ℕ) → position < length group.rows → (i : ℕ) × (i < length group.places) × (slice_index group.places i ≡ position)
-
 -- the places hold each position once, by the keys of the rows there, those of one key in their own order
-pub record AreByKey (group : Group) : Type 0 where
-  pub counted : length group.places ≡ length group.rows
-  pub within : (i : ℕ) → i < length group.places → slice_index group.places i < length group.rows
-  pub each : HasEachPosition group
-  pub once : (i j : ℕ) → i < length group.places → j < length group.places → slice_index group.places i ≡ slice_index group.places j → i ≡ j
-  pub sorted : (i j : ℕ) → i < j → j < length group.places → ordering_then (key_cmp (key_at_place group i) (key_at_place group j)) (nat_cmp (slice_index group.places i) (slice_index group.places j)) ≡ Less
+abbrev pub AreByKey : Group → Type 0
+AreByKey group = IsOrderOf key_cmp (keys_of group.key group.rows) group.places
 
--- the first place whose key does not come before this one, or, where those of this key are passed over, comes after it,
--- lies from one place up to another
+-- the keys at all places below `low` come before this one, or tie with it where those of this key are passed over, and none from
+-- `high` on does: the first place that does not is `low`, `high` or one between them
 pub record IsFirstBetween (group : Group) (key : Key) (tied : Bool) (low high : ℕ) : Type 0 where
   pub ordered : low ≤ high
   pub within : high ≤ length group.places
   pub before : (i : ℕ) → i < low → precedes tied (key_cmp (key_at_place group i) key) ≡ true
   pub after : (i : ℕ) → high ≤ i → i < length group.places → precedes tied (key_cmp (key_at_place group i) key) ≡ false
 
--- it is this place
-abbrev pub IsFirstPlace : Group → Key → Bool → ℕ → Type 0
-IsFirstPlace group key tied place = IsFirstBetween group key tied place place
+-- the first place whose key does not come before this one, or, where those of this key are passed over, comes after it; the
+-- number of places where there is none
+pub record IsFirstPlace (group : Group) (key : Key) (tied : Bool) (place : ℕ) : Type 0 where
+  pub within : place ≤ length group.places
+  pub before : (i : ℕ) → i < place → precedes tied (key_cmp (key_at_place group i) key) ≡ true
+  pub after : (i : ℕ) → place ≤ i → i < length group.places → precedes tied (key_cmp (key_at_place group i) key) ≡ false
 
 -- where a key lies to those of a group: below all of them, above all of them, or anywhere
 abbrev pub IsSide : Group → Key → Ordering → Type 0

@@ -5,7 +5,7 @@ use Rattle.std.specs.declared.alloc.Global.{Global}
 use Rattle.std.specs.declared.vec.Vec.{Vec}
 use Rattle.cs_types.specs.declared.Value.{Value}
 use Rattle.cs_types.specs.Rows.{cell_at, number_cell}
-use Rattle.row_group.specs.Rows.{PackedRow, padded}
+use Rattle.row_group.specs.Rows.{PackedRow, padded_row}
 use Rattle.row_group.specs.Groups.{Group, row_at}
 
 -- so many columns, and the rows in the order in which they were added
@@ -50,7 +50,7 @@ cells_at group positions column = map (λ position. cell_at (row_at group positi
 
 -- the row at a position of a group in so many columns, NULL in those that the group has not
 abbrev pub padded_at : ℕ → Group → ℕ → PackedRow
-padded_at width group position = padded width (row_at group position).cells (row_at group position).begin
+padded_at width group position = padded_row width (row_at group position).cells (row_at group position).begin
 
 -- where each number up to a count stands in an order of them
 abbrev pub ArePlacesIn : List ℕ → List ℕ → Type 0

@@ -7,7 +7,7 @@ use Rattle.std.specs.Ordering.{nat_cmp, ordering_then, eq_by_cmp}
 use Rattle.std.specs.Set.{distinct_count}
 use Rattle.cs_types.specs.declared.Value.{Value}
 use Rattle.cs_types.specs.declared.row.Version.{Version}
-use Rattle.cs_types.specs.Rows.{cell_at}
+use Rattle.cs_types.specs.Rows.{cell_at, padded}
 use Rattle.cs_types.specs.Values.{value_cmp}
 use Rattle.row_group.specs.Orders.{by_rank}
 
@@ -34,12 +34,12 @@ abbrev pub repacked : List Version → ℕ → List Version
 repacked versions floor = map (raised floor) (filter (λ v. not (ended_by floor v.end)) versions)
 
 -- cells in so many columns, NULL past their end, with a begin
-abbrev pub padded : ℕ → List Value → ℕ → PackedRow
-padded width cells begin = record { cells = map (cell_at cells) (range_with_len 0 width); begin = begin }
+abbrev pub padded_row : ℕ → List Value → ℕ → PackedRow
+padded_row width cells begin = record { cells = padded width cells; begin = begin }
 
 -- a version's cells in so many columns, with its begin
 abbrev pub row_of : ℕ → Version → PackedRow
-row_of width v = padded width v.row v.begin
+row_of width v = padded_row width v.row v.begin
 
 -- the row whose begin is the floor where it is at most that
 abbrev pub begun_above : ℕ → PackedRow → PackedRow

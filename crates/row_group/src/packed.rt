@@ -149,7 +149,7 @@ impl Packed {
     }
 
     /// The first place, among the positions by key, of a key that does not come before this one; where it may tie, of one that comes
-    /// after it. At once for a key below the least or above the greatest.
+    /// after it; their number where there is none. At once for a key below the least or above the greatest.
     pub fn first_of(&self, key: Key, tied: bool) -> usize
         ensures { IsFirstPlace self.now key tied result }
     {
@@ -244,7 +244,7 @@ impl Packed {
     }
 
     /// The first place, from one up to another, of a key that does not come before this one; where it may tie, of one
-    /// that comes after it.
+    /// that comes after it; that other place where there is none.
     fn first_place(&self, from: usize, to: usize, key: Key, tied: bool) -> usize
         requires { IsFirstBetween self.now key tied from to }
         ensures { IsFirstPlace self.now key tied result }
@@ -263,7 +263,7 @@ impl Packed {
     }
 
     /// The first place, at `from` or after it, of a key that does not come before this one; where it may tie, of one that
-    /// comes after it.
+    /// comes after it; the number of places where there is none.
     fn place_from(&self, from: usize, key: Key, tied: bool) -> usize
         requires { IsFirstBetween self.now key tied from (length self.now.places) }
         ensures { IsFirstPlace self.now key tied result }

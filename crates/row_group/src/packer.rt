@@ -33,7 +33,7 @@ impl Model for Packer {
 impl Packer {
     ghost use Rattle.std.specs.Prelude.{◌≡◌, ◌<◌, ◌++◌, ◌∷◌, ◌↔◌, [], All, length, map, replicate, IfOk, IfSome, IsNone, OnOk, OnErr};
     ghost use Rattle.cs_types.specs.Schemas.{IsSchema, IsRowOf};
-    ghost use Rattle.row_group.specs.Rows.{padded, begun_above};
+    ghost use Rattle.row_group.specs.Rows.{padded_row, begun_above};
     ghost use Rattle.row_group.specs.Groups.{HoldsRows};
     ghost use Rattle.row_group.specs.Packings.{StandAt, IsOrderedBy, padded_at, source_rows, numbered};
 
@@ -80,7 +80,7 @@ impl Packer {
 
     /// Adds a row with its begin, NULL in the columns past its end. After `Memory` nothing has changed.
     pub fn add(&mut self, row: &Row, begin: u64) -> Result<(), Memory>
-        ensures ok { OnOk result (self.new ≡ record self.old { rows = self.old.rows ++ padded self.old.width row.now begin ∷ [] }) }
+        ensures ok { OnOk result (self.new ≡ record self.old { rows = self.old.rows ++ padded_row self.old.width row.now begin ∷ [] }) }
         ensures err { OnErr result (self.new ≡ self.old) }
     {
         let count = self.begins.len();

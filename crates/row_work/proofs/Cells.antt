@@ -1,4 +1,4 @@
--- Answers can be printed, where the columns hold the rows.
+-- Answers can be printed, where the rows fit the table.
 use Rattle.std.proofs.Common.{◌≡◌, ℕ, suc, ◌+◌, ◌==◌, ℤ, pos, IsTrue, Bool, true, false, not, cond, subst, refl, List, [], ◌∷◌, ◌++◌, map, filter, fold, length, arith, All}
 use Rattle.std.specs.Prelude.{int_div, Option, Some, None, slice_get, IfOk, Result, Ok, Err}
 use Rattle.std.specs.List.{list_any}
@@ -15,7 +15,7 @@ use Rattle.cs_types.specs.declared.Value.TheVariants.{Null, Number, Text}
 use Rattle.cs_types.specs.Kinds.{keeps_number}
 use Rattle.cs_types.specs.Rows.{cell_at}
 use Rattle.cs_types.specs.Text.{loose_of, IsPrintable}
-use Rattle.cs_types.specs.Schemas.{may_hold}
+use Rattle.cs_types.specs.Schemas.{may_hold, IsRowOf}
 use Rattle.cs_model.specs.declared.plan.Item.{Item}
 use Rattle.cs_model.specs.declared.plan.Item.TheVariants as item
 use Rattle.cs_model.specs.declared.plan.Query.{Query}
@@ -26,7 +26,6 @@ use Rattle.cs_model.specs.Queries.{keeps, kept, row_order, group_order, before, 
 use Rattle.cs_model.specs.Groups.{cells_of, same_cells, each_once, Group, groups_of, place_of}
 use Rattle.cs_model.specs.Items.{is_null, present, lesser, greater, least_of, greatest_of, shown_if, of_sum, of_sum_in, sum_of, group_item, row_item}
 use Rattle.cs_model.specs.Order.{comes_before, put, in_order}
-use Rattle.cs_model.specs.Held.{IsHeld}
 
 -- ---- cells
 
@@ -119,13 +118,13 @@ module _ (schema : Schema) where
   abbrev Prints : ℕ → Value → Type 0
   Prints i v = IsPrintable (loose_in (slice_get schema.columns i) v)
 
-  cell_printable : (row : List Value) (i : ℕ) → IsHeld schema row → Prints i (cell_at row i)
-  cell_printable row i held = in_printable (slice_get schema.columns i) (cell_at row i) (held i)
+  cell_printable : (row : List Value) (i : ℕ) → IsRowOf schema row → Prints i (cell_at row i)
+  cell_printable row i fits = in_printable (slice_get schema.columns i) (cell_at row i) (fits.held i)
 
-  present_printable : (i : ℕ) (rows : List (List Value)) → All (IsHeld schema) rows → All (Prints i) (present i rows)
+  present_printable : (i : ℕ) (rows : List (List Value)) → All (IsRowOf schema) rows → All (Prints i) (present i rows)
   present_printable i rows held =
       All-filter (λ cell. not (is_null cell)) (Prints i) (map (λ row. cell_at row i) rows)
-      (map_all (IsHeld schema) (Prints i) (λ row. cell_at row i) rows (λ row. cell_printable row i) held)
+      (map_all (IsRowOf schema) (Prints i) (λ row. cell_at row i) rows (λ row. cell_printable row i) held)
 
   least_printable : (i : ℕ) (cells : List Value) → All (Prints i) cells → Prints i (least_of cells)
   least_printable i cells all = fold_keeps (Prints i) lesser (λ a b. either_is (Prints i) _ a b) cells Null (null_printable (slice_get schema.columns i)) all
@@ -138,7 +137,7 @@ module _ (schema : Schema) where
   CellsPrint columns cells = (i : ℕ) → Prints i (cell_at cells (place_of columns i))
 
   abbrev GroupPrints : List ℕ → Group → Type 0
-  GroupPrints columns group = CellsPrint columns group.0 × All (IsHeld schema) group.1
+  GroupPrints columns group = CellsPrint columns group.0 × All (IsRowOf schema) group.1
 
   item_printable : (columns : List ℕ) (group : Group) (kind : Item) → GroupPrints columns group → MayPrint (group_item schema columns group kind)
   item_printable columns group (item.Column i) g = g.0 i
@@ -149,7 +148,7 @@ module _ (schema : Schema) where
   item_printable columns group (item.Max i) g = greatest_printable i (present i group.1) (present_printable i group.1 g.1)
   item_printable columns group (item.Avg i) g = sum_printable (slice_get schema.columns i) (length (present i group.1) == 0) (sum_of (present i group.1)) (int_div (sum_of (present i group.1)) (pos (length (present i group.1))))
 
-  row_item_printable : (row : List Value) (kind : Item) → IsHeld schema row → IsPrintable (row_item schema row kind)
+  row_item_printable : (row : List Value) (kind : Item) → IsRowOf schema row → IsPrintable (row_item schema row kind)
   row_item_printable row (item.Column i) held = cell_printable row i held
   row_item_printable row item.CountAll held = tt
   row_item_printable row (item.Count i) held = tt
@@ -180,14 +179,14 @@ module _ (schema : Schema) where
       at true = some
       at false = All-push R found cells some (all 0 cells (omega arith))
 
-  groups_print : (columns : List ℕ) (rows : List (List Value)) → All (IsHeld schema) rows → All (GroupPrints columns) (groups_of columns rows)
+  groups_print : (columns : List ℕ) (rows : List (List Value)) → All (IsRowOf schema) rows → All (GroupPrints columns) (groups_of columns rows)
   groups_print [] rows held = All-cons (GroupPrints []) ([], rows) [] (λ i. null_printable (slice_get schema.columns i), held) (All-nil (GroupPrints []))
   groups_print (c ∷ rest) rows held =
       let columns = c ∷ rest in
       map_all (CellsPrint columns) (GroupPrints columns) (λ cells. (cells, filter (λ row. same_cells (cells_of columns row) cells) rows)) (each_once (map (cells_of columns) rows))
-      (λ cells print. (print, All-filter (λ row. same_cells (cells_of columns row) cells) (IsHeld schema) rows held))
+      (λ cells print. (print, All-filter (λ row. same_cells (cells_of columns row) cells) (IsRowOf schema) rows held))
       (each_keeps (CellsPrint columns) (map (cells_of columns) rows) []
-      (map_all (IsHeld schema) (CellsPrint columns) (cells_of columns) rows (λ row h i. placed row i columns (cell_printable row i h)) held) (All-nil (CellsPrint columns)))
+      (map_all (IsRowOf schema) (CellsPrint columns) (cells_of columns) rows (λ row h i. placed row i columns (cell_printable row i h)) held) (All-nil (CellsPrint columns)))
 
   -- ---- rows of the answer
 
@@ -214,25 +213,25 @@ module _ (schema : Schema) where
     group_prints : (group : Group) → GroupPrints query.groups group → RowPrints (group_row schema query group)
     group_prints group g = λ values. values_print 1 (map (group_item schema query.groups group) query.items) values (every MayPrint (group_item schema query.groups group) query.items (λ kind. item_printable query.groups group kind g))
 
-    grouped_print : (rows : List (List Value)) (found : List (List Loose)) → All (IsHeld schema) rows → grouped_answer schema query rows ≡ Ok found → All IsPrintableRow found
+    grouped_print : (rows : List (List Value)) (found : List (List Loose)) → All (IsRowOf schema) rows → grouped_answer schema query rows ≡ Ok found → All IsPrintableRow found
     grouped_print rows found held is =
         rows_print 1 _ found
         (map_all (GroupPrints query.groups) RowPrints (group_row schema query) _ group_prints
         (in_order_all (GroupPrints query.groups) (λ a b. comes_before (group_order query) a.0 b.0) (groups_of query.groups rows) (groups_print query.groups rows held))) is
 
-    plain_print : (rows : List (List Value)) → All (IsHeld schema) rows → All IsPrintableRow (plain_answer schema query rows)
+    plain_print : (rows : List (List Value)) → All (IsRowOf schema) rows → All IsPrintableRow (plain_answer schema query rows)
     plain_print rows held =
-        map_all (IsHeld schema) IsPrintableRow (λ row. map (row_item schema row) query.items) _
+        map_all (IsRowOf schema) IsPrintableRow (λ row. map (row_item schema row) query.items) _
         (λ row h. every IsPrintable (row_item schema row) query.items (λ kind. row_item_printable row kind h))
-        (in_order_all (IsHeld schema) (comes_before (row_order schema query)) rows held)
+        (in_order_all (IsRowOf schema) (comes_before (row_order schema query)) rows held)
 
-    answer_print : (grouped : Bool) (rows : List (List Value)) (found : List (List Loose)) → All (IsHeld schema) rows → cond grouped (grouped_answer schema query rows) (Ok (plain_answer schema query rows)) ≡ Ok found → All IsPrintableRow found
+    answer_print : (grouped : Bool) (rows : List (List Value)) (found : List (List Loose)) → All (IsRowOf schema) rows → cond grouped (grouped_answer schema query rows) (Ok (plain_answer schema query rows)) ≡ Ok found → All IsPrintableRow found
     answer_print true rows found held is = grouped_print rows found held is
     answer_print false rows found held is = let same : plain_answer schema query rows ≡ found = cc in subst (All IsPrintableRow) same (plain_print rows held)
 
-    pub answer_printable : (rows : List (List Value)) (r : Result (List (List Loose)) AnswerRefusal) → All (IsHeld schema) rows → Gives r (answer schema query rows) → IfOk r (λ found. All IsPrintableRow found)
+    pub answer_printable : (rows : List (List Value)) (r : Result (List (List Loose)) AnswerRefusal) → All (IsRowOf schema) rows → Gives r (answer schema query rows) → IfOk r (λ found. All IsPrintableRow found)
     answer_printable rows (Ok found) held is =
-        answer_print query.grouped (kept schema query rows) found (All-filter (keeps schema query.filter) (IsHeld schema) rows held) is
+        answer_print query.grouped (kept schema query rows) found (All-filter (keeps schema query.filter) (IsRowOf schema) rows held) is
     answer_printable rows (Err e) held is = tt
 
 pub answered : (schema asked : Schema) (query put_to : Query) (rows added : List (List Value)) (r : Result (List (List Loose)) AnswerRefusal) → asked ≡ schema → put_to ≡ query → added ≡ rows

@@ -163,7 +163,7 @@ module _ (schema : Schema) (key : Key) (row : List Value) (table : IsSchema sche
 
   -- a key is a number of 64 bits
   pub key_small : FitsSigned w64 key.0
-  key_small = let column = column_at schema.columns schema.key table.key_there in small_in column.0 (cell_at row schema.key) column.1 refl (stands.held schema.key column.0 column.1)
+  key_small = let column = column_at schema.columns schema.key table.key_there in small_in column.0 (cell_at row schema.key) column.1 refl (stands.row.held schema.key column.0 column.1)
 
   module _ (sign : Relation) (constant : Loose) where
     in_column : (column : Column) (v : Value) → slice_get schema.columns schema.key ≡ Some column → cell_at row schema.key ≡ v → IsTrue (may_hold column v) → compare sign (loose_of column.kind v) constant ≡ True → StandsToKey sign constant key
@@ -181,7 +181,7 @@ module _ (schema : Schema) (key : Key) (row : List Value) (table : IsSchema sche
       where
         step : (o : Option Column) → slice_get schema.columns schema.key ≡ o → compare sign (loose_in o (cell_at row schema.key)) constant ≡ True → StandsToKey sign constant key
         step None there is = absurd (null_never sign constant is)
-        step (Some column) there is = in_column column (cell_at row schema.key) there refl (stands.held schema.key column there) is
+        step (Some column) there is = in_column column (cell_at row schema.key) there refl (stands.row.held schema.key column there) is
 
   pub equals_key : (constant : Loose) → compare relation.Equal (loose_at schema row schema.key) constant ≡ True → EqualsKey constant key
   equals_key constant equal = stands_to_key relation.Equal constant equal

@@ -59,7 +59,7 @@ module _ (schema : Schema) (is : IsSchema schema) where
   edits_wide : (rows : List (List Value)) → AllByRecursion IsWide rows → All (Fits schema) (edits_of schema rows)
   edits_wide [] all = All-nil (Fits schema)
   edits_wide (row ∷ rows) all =
-      All-cons (Fits schema) (key_in schema.key row, Some row) (edits_of schema rows) (((held_key schema row is all.0.0.held).1, all.0.0), all.0.1) (edits_wide rows all.1)
+      All-cons (Fits schema) (key_in schema.key row, Some row) (edits_of schema rows) ((held_key schema row is all.0.0.row, all.0.0), all.0.1) (edits_wide rows all.1)
 
   row_wide : (source : Schema) (columns : List ℕ) (read : List Value) (exprs : List Expr) (cells : List Value) → inserted_row schema source columns read exprs ≡ Ok cells → IsWide cells
   row_wide source columns read exprs cells written =

@@ -13,15 +13,17 @@ use Rattle.edit_laws.proofs.Tables.{at, laid_is}
 use Rattle.edit_laws.proofs.Writes.{ascends, found_at, none_at}
 use Rattle.delta_store.specs.declared.version.KeyedVersion.{KeyedVersion}
 use Rattle.cs_types.specs.declared.row.Version.{Version as Stored}
+use Rattle.cs_types.specs.Rows.{padded}
+use Rattle.cs_types.proofs.PaddedLemmas.{padded_itself}
 use Rattle.row_group.specs.Groups.{Group, row_at}
 use Rattle.group_view.specs.declared.view.Pinned.{Pinned}
 use Rattle.group_view.specs.declared.view.Place.{Place}
 use Rattle.group_view.specs.declared.parts.GroupPart.{GroupPart}
 use Rattle.group_view.specs.declared.parts.GroupPart.TheVariants.{Packed, Store}
 use Rattle.group_view.specs.declared.parts.GroupRef.TheVariants as lent
-use Rattle.group_view.specs.Parts.{Rowed, packed_versions, padded, rowed_in, IsBorrowed}
+use Rattle.group_view.specs.Parts.{Rowed, packed_versions, rowed_in, IsBorrowed}
 use Rattle.group_view.specs.Views.{version_at, HidesEach, Shows}
-use Rattle.group_view.proofs.Versions.{packed_row, packed_within, padded_itself, stored_row}
+use Rattle.group_view.proofs.Versions.{packed_row, packed_within, stored_row}
 use Rattle.group_view.proofs.Looked.{found_shown, none_shown}
 use Rattle.row_work.specs.Reads.{read_by, shown_by, HasSnapshot}
 use Rattle.row_work.specs.declared.choose.Source.TheVariants.{Shown, Own}

@@ -169,7 +169,7 @@ module _ (schema : Schema) (key : Key) (row : List Value) (table : IsSchema sche
   -- what the key's cell of a row stands for
   pub key_cell : (column : Column) → slice_get schema.columns schema.key ≡ Some column → loose_at schema row schema.key ≡ loose_number column.kind key.0
   key_cell column there =
-      ap (λ (o : Option Column). loose_in o (cell_at row schema.key)) there ∙ in_column column (cell_at row schema.key) there refl (stands.held schema.key column there)
+      ap (λ (o : Option Column). loose_in o (cell_at row schema.key)) there ∙ in_column column (cell_at row schema.key) there refl (stands.row.held schema.key column there)
 
 -- ---- constants beside a key
 

@@ -1,22 +1,20 @@
 -- Rows in no more cells than items read.
-use Rattle.std.proofs.Common.{◌≡◌, ◌∙◌, ℕ, suc, ◌<◌, inl, inr, Bool, true, false, not, cond, List, [], ◌∷◌, filter, length, map, refl, sym, ap, arith}
+use Rattle.std.proofs.Common.{◌≡◌, ◌∙◌, ℕ, suc, ◌<◌, inl, inr, Bool, true, false, not, cond, List, [], ◌∷◌, filter, length, map, refl, sym, ap}
 use Rattle.std.specs.Prelude.{◌⊎◌, Option, None, Some, slice_get}
 use Rattle.std.specs.List.{All, cons_option, filter_map}
 use Rattle.std.specs.Map.{values_of}
 use Rattle.std.specs.Option.{option_and_then}
-use Rattle.std.proofs.lemmas.List.FromFn.{get_or-map-range_with_len}
 use Rattle.std.proofs.lemmas.List.Elements.{All-head, All-tail}
 use Rattle.cs_types.specs.declared.Value.{Value}
-use Rattle.cs_types.specs.declared.Value.TheVariants.{Null}
-use Rattle.cs_types.specs.Rows.{cell_at}
+use Rattle.cs_types.specs.Rows.{cell_at, padded}
+use Rattle.cs_types.proofs.PaddedLemmas.{padded_cell}
 use Rattle.cs_model.specs.declared.plan.Item.{Item}
 use Rattle.cs_model.specs.declared.plan.Item.TheVariants as item
 use Rattle.cs_model.specs.Items.{greatest_of, is_null, least_of, present, sum_of}
 use Rattle.batch_aggregate.specs.declared.tally.Tally.TheVariants.{Count, Sum, Least, Greatest}
 use Rattle.batch_aggregate.specs.Tallies.{tally_of}
-use Rattle.row_group.proofs.ShownLemmas.{cell_at-get_or}
 use Rattle.group_view.specs.declared.view.Pinned.{Pinned}
-use Rattle.group_view.specs.Parts.{Rowed, padded}
+use Rattle.group_view.specs.Parts.{Rowed}
 use Rattle.group_view.specs.Laws.{shown_row}
 use Rattle.batch_scan.specs.Reads.{is_read}
 use Rattle.row_work.specs.Reads.{read_row}
@@ -24,13 +22,10 @@ use Rattle.row_work.specs.Stores.{read_at_position}
 
 -- ---- the cells of a column
 
-cell_among : (n column : ℕ) (row : List Value) → column < n → cell_at (padded n row) column ≡ cell_at row column
-cell_among n column row within = cell_at-get_or (padded n row) column ∙ get_or-map-range_with_len (cell_at row) 0 n column column Null within (omega arith)
-
 cells_among : (n m column : ℕ) → column < n → column < m → (rows : List (List Value)) → map (λ row. cell_at row column) (map (padded n) rows) ≡ map (λ row. cell_at row column) (map (padded m) rows)
 cells_among n m column in_n in_m [] = refl
 cells_among n m column in_n in_m (row ∷ rows) =
-    λ k. (cell_among n column row in_n ∙ sym (cell_among m column row in_m)) k ∷ cells_among n m column in_n in_m rows k
+    λ k. (padded_cell n row column in_n ∙ sym (padded_cell m row column in_m)) k ∷ cells_among n m column in_n in_m rows k
 
 present_among : (n m column : ℕ) → column < n → column < m → (rows : List (List Value)) → present column (map (padded n) rows) ≡ present column (map (padded m) rows)
 present_among n m column in_n in_m rows = ap (filter (λ cell. not (is_null cell))) (cells_among n m column in_n in_m rows)

@@ -18,6 +18,7 @@ use Rattle.cs_types.proofs.KeyLemmas.{key_total}
 use Rattle.delta_store.specs.Index.{is_between}
 use Rattle.row_group.specs.Groups.{Group, row_at, key_at_place, keys_of, precedes, AreByKey, IsFirstPlace}
 use Rattle.row_group.specs.Rows.{PackedRow}
+use Rattle.row_group.proofs.GroupLemmas.{places_by_key}
 use Rattle.group_view.specs.declared.view.Pinned.{Pinned}
 use Rattle.group_view.specs.Parts.{Rowed}
 use Rattle.group_view.specs.Views.{version_at}
@@ -178,7 +179,7 @@ module _ (pinned : Pinned) (place : ℕ) (group : Group) (keys : HasKeysOf pinne
       once = all_pairs_push (λ a b. a ≢ b) positions p are.once (λ k d within same.
           let old = are.each k d within in
           let less = old.high in
-          let equal = by_key.once old.at n (omega (arith, less, inside)) inside (old.here ∙ same ∙ is) in
+          let equal = (places_by_key group by_key).once old.at n (omega (arith, less, inside)) inside (old.here ∙ same ∙ is) in
           absurd (omega (arith, less, equal)));
     }
 
@@ -216,7 +217,7 @@ module _ (pinned : Pinned) (place : ℕ) (group : Group) (keys : HasKeysOf pinne
     listed p is =
         let (x, at, both) = passing (is_read_within pinned bounds) versions p is in
         let parts = and_parts (is_read pinned x) (is_between bounds.least bounds.greatest x.version.key) both in
-        let (i, inside, here) = by_key.each p (let within = slice_get_within versions p x at in omega (arith, within, long)) in
+        let (i, inside, here) = (places_by_key group by_key).each p (let within = slice_get_within versions p x at in omega (arith, within, long)) in
         let own : x.version.key ≡ key_at_place group i = version_key p x at ∙ ap key_at (sym here) in
         let stands = places.every i inside (subst (IsWithin bounds) own parts.1) in
         are.every p (record { at = i; low = stands.0; high = stands.1; here = here; read = ap (option_map (is_read pinned)) at ∙ ap Some parts.0 })

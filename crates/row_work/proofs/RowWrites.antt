@@ -5,6 +5,7 @@ use Rattle.cs_types.specs.declared.Schema.{Schema}
 use Rattle.cs_types.specs.declared.Value.{Value}
 use Rattle.cs_types.specs.Rows.{cell_at, key_in, IsNumber}
 use Rattle.cs_types.specs.Schemas.{IsSchema}
+use Rattle.cs_types.proofs.RowLemmas.{row_has_key}
 use Rattle.cs_model.specs.declared.entry.Refusal.{Refusal}
 use Rattle.cs_model.specs.declared.entry.Refusal.TheVariants.{Valued}
 use Rattle.cs_model.specs.declared.expr.Expr.{Expr}
@@ -17,7 +18,6 @@ use Rattle.row_work.specs.declared.refusal.WriteRefusal.{WriteRefusal}
 use Rattle.row_work.specs.declared.refusal.WriteRefusal.TheVariants as refusal
 use Rattle.row_work.specs.Gives.{GivesEdits, GivesRows, RefusesRow}
 use Rattle.row_work.specs.Inserts.{as_write, write_of}
-use Rattle.row_work.proofs.Fitting.{held_key}
 use Rattle.row_work.proofs.Written.{inserted_is_row}
 
 module _ (schema : Schema) where
@@ -58,4 +58,4 @@ refused_as schema n wanted refusal.Memory h = tt
 
 -- a row that is written has a key
 pub has_number : (schema source : Schema) (columns : List ℕ) (read : List Value) (exprs : List Expr) (cells : List Value) → IsSchema schema → inserted_row schema source columns read exprs ≡ Ok cells → IsNumber (cell_at cells schema.key)
-has_number schema source columns read exprs cells is written = (held_key schema cells is (inserted_is_row schema source columns read exprs cells written).held).0
+has_number schema source columns read exprs cells is written = row_has_key schema cells is (inserted_is_row schema source columns read exprs cells written).row

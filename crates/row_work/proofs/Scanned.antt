@@ -16,6 +16,7 @@ use Rattle.cs_model.specs.Queries.{keeps}
 use Rattle.cs_model.specs.Answers.{chosen}
 use Rattle.cs_model.specs.Changes.{Edit, Table}
 use Rattle.cs_types.specs.Keys.{same_key}
+use Rattle.cs_types.specs.Rows.{padded}
 use Rattle.edit_laws.specs.Edits.{writes_key}
 use Rattle.group_book.specs.Book.{is_visible, shows}
 use Rattle.group_book.proofs.Keys.{key_here}
@@ -23,7 +24,7 @@ use Rattle.group_view.specs.declared.parts.GroupPart.{GroupPart}
 use Rattle.group_view.specs.declared.view.GroupView.{GroupView}
 use Rattle.group_view.specs.declared.view.Pinned.{Pinned}
 use Rattle.group_view.specs.declared.view.Place.{Place}
-use Rattle.group_view.specs.Parts.{Rowed, padded, rowed_in}
+use Rattle.group_view.specs.Parts.{Rowed, rowed_in}
 use Rattle.group_view.specs.Views.{buffer_of, is_shown, version_at, Shows}
 use Rattle.group_view.specs.Laws.{shown_row}
 use Rattle.row_work.specs.declared.choose.Chosen.{Chosen}

@@ -10,7 +10,8 @@ use Rattle.std.proofs.lemmas.Option.{same_Some, slice_get-get_or}
 use Rattle.cs_types.specs.declared.Key.{Key}
 use Rattle.cs_types.specs.declared.Schema.{Schema}
 use Rattle.cs_types.specs.declared.Value.{Value}
-use Rattle.cs_types.specs.Rows.{key_in}
+use Rattle.cs_types.specs.Rows.{key_in, padded}
+use Rattle.cs_types.proofs.PaddedLemmas.{padded_itself}
 use Rattle.cs_model.specs.declared.pred.Pred.{Pred}
 use Rattle.cs_model.specs.declared.plan.Query.{Query}
 use Rattle.cs_model.specs.Answers.{chosen}
@@ -19,14 +20,14 @@ use Rattle.delete_bitmap.specs.declared.MarkedEnd.{MarkedEnd}
 use Rattle.delta_store.specs.Index.{is_between}
 use Rattle.row_group.specs.Groups.{Group, row_at, AreByKey}
 use Rattle.row_group.specs.Rows.{PackedRow}
+use Rattle.row_group.proofs.GroupLemmas.{places_by_key}
 use Rattle.batch_aggregate.specs.declared.partial.Partial.{Partial}
 use Rattle.batch_aggregate.specs.Standing.{StandsFor}
 use Rattle.code_tallies.specs.Shown.{cells_at, shown_rows}
 use Rattle.group_book.proofs.Lists.{list_any-some}
 use Rattle.group_view.specs.declared.view.Pinned.{Pinned}
-use Rattle.group_view.specs.Parts.{Rowed, packed_versions, padded}
+use Rattle.group_view.specs.Parts.{Rowed, packed_versions}
 use Rattle.group_view.specs.Laws.{shown_row}
-use Rattle.group_view.proofs.Versions.{padded_itself}
 use Rattle.batch_scan.specs.Hidden.{is_one_of}
 use Rattle.batch_scan.specs.declared.shown.Shown.{Shown}
 use Rattle.batch_scan.specs.declared.shown.Shown.TheVariants as shown
@@ -77,7 +78,7 @@ module _ (group : Group) (by_key : AreByKey group) (bounds : Bounds) (from to : 
       let count = part_long in
       let there : from + k < length group.places = let most = places.within in omega (arith, within, count, most) in
       let here = part_at k d within ∙ get_or_default group.places (from + k) d 0 there in
-      let low = by_key.within (from + k) there in
+      let low = (places_by_key group by_key).within (from + k) there in
       omega (arith, here, low)
 
   -- those at these places are of rows of these keys
@@ -86,7 +87,7 @@ module _ (group : Group) (by_key : AreByKey group) (bounds : Bounds) (from to : 
     where
       step : (t : Bool) → is_between bounds.least bounds.greatest (key_at p) ≡ t → is_one_of part p ≡ t
       step true is =
-          let (i, inside, here) = by_key.each p below in
+          let (i, inside, here) = (places_by_key group by_key).each p below in
           let stands = places.every i inside (subst (λ (q : ℕ). IsWithin bounds (key_at q)) (sym here) is) in
           let low = stands.0 in
           let count = part_long in

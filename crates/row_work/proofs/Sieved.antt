@@ -10,7 +10,8 @@ use Rattle.std.proofs.lemmas.Option.{same_Some, slice_get-get_or, slice_get-map,
 use Rattle.cs_types.specs.declared.Key.{Key}
 use Rattle.cs_types.specs.declared.Schema.{Schema}
 use Rattle.cs_types.specs.declared.Value.{Value}
-use Rattle.cs_types.specs.Rows.{key_in}
+use Rattle.cs_types.specs.Rows.{key_in, padded}
+use Rattle.cs_types.proofs.PaddedLemmas.{padded_itself}
 use Rattle.cs_model.specs.declared.plan.Query.{Query}
 use Rattle.cs_model.specs.declared.pred.Pred.{Pred}
 use Rattle.cs_model.specs.Queries.{keeps}
@@ -24,8 +25,7 @@ use Rattle.code_tallies.specs.Shown.{cells_at, is_shown, rows_at, shown_rows}
 use Rattle.code_tallies.proofs.Buckets.{rows-more, same-below}
 use Rattle.group_view.specs.declared.view.Pinned.{Pinned}
 use Rattle.group_view.specs.Laws.{shown_row}
-use Rattle.group_view.specs.Parts.{Rowed, packed_versions, padded}
-use Rattle.group_view.proofs.Versions.{padded_itself}
+use Rattle.group_view.specs.Parts.{Rowed, packed_versions}
 use Rattle.batch_scan.specs.Reads.{is_read}
 use Rattle.batch_scan.specs.Scans.{verdicts_of}
 use Rattle.row_work.specs.Reads.{read_row}

@@ -19,6 +19,7 @@ use Rattle.cs_types.specs.declared.Schema.{Schema}
 use Rattle.cs_types.specs.declared.Value.{Value}
 use Rattle.cs_types.specs.Keys.{key_cmp, same_key}
 use Rattle.cs_types.proofs.KeyLemmas.{one_key}
+use Rattle.cs_types.specs.Rows.{padded}
 use Rattle.cs_model.specs.declared.pred.Pred.{Pred}
 use Rattle.cs_model.specs.Answers.{chosen}
 use Rattle.cs_model.specs.Changes.{Table}
@@ -41,7 +42,7 @@ use Rattle.group_view.specs.declared.parts.GroupPart.TheVariants.{Packed, Store}
 use Rattle.group_view.specs.declared.parts.GroupRef.TheVariants as lent
 use Rattle.group_view.specs.declared.view.Pinned.{Pinned}
 use Rattle.group_view.specs.declared.view.Place.{Place}
-use Rattle.group_view.specs.Parts.{Rowed, padded, rowed_in, stored_version, stored_versions, IsBorrowed}
+use Rattle.group_view.specs.Parts.{Rowed, rowed_in, stored_version, stored_versions, IsBorrowed}
 use Rattle.group_view.specs.Views.{buffer_of, is_shown, version_at, HidesAll, Shows, ShowsAt}
 use Rattle.group_view.specs.Laws.{shown_row}
 use Rattle.group_view.proofs.Looked.{found_shown}

@@ -17,7 +17,7 @@ use Rattle.cs_types.specs.declared.refusal.ValueRefusal.TheVariants.{NullHere, T
 use Rattle.cs_types.specs.Fit.{rounded, range_refusal}
 use Rattle.cs_types.specs.Kinds.{scale_of, is_short, keeps}
 use Rattle.cs_types.specs.Rows.{cell_at, number_in, key_in}
-use Rattle.cs_types.specs.Schemas.{IsSchema, may_hold}
+use Rattle.cs_types.specs.Schemas.{IsSchema, IsRowOf, may_hold}
 use Rattle.cs_model.specs.declared.expr.Expr.{Expr}
 use Rattle.cs_model.specs.declared.entry.Refusal.{Refusal}
 use Rattle.cs_model.specs.declared.entry.Refusal.TheVariants.{Valued}
@@ -25,7 +25,7 @@ use Rattle.cs_model.specs.Expressions.{Computed, compute}
 use Rattle.cs_model.specs.Answers.{with_number, kept, computed_of, given, cell_onto, cells_from, row_onto, rows_from, inserted_cell, series_len, series, updated_by, updated_cell, updated_row}
 use Rattle.row_work.specs.declared.refusal.WriteRefusal.{WriteRefusal}
 use Rattle.row_work.specs.declared.refusal.WriteRefusal.TheVariants as refusal
-use Rattle.cs_model.specs.Held.{IsHeld, IsRowAt}
+use Rattle.cs_model.specs.Held.{IsRowAt}
 use Rattle.row_work.specs.Gives.{RefusesCell, RefusesRow, RefusesRows}
 
 -- what stands after a prefix, or its refusal
@@ -153,10 +153,12 @@ cells_wide cell i (c ∷ list) cells is = onto_wide i (length list) (cell i c) (
 
 -- ---- rows of the table under their keys
 
-inserted_held : (schema source : Schema) (columns : List ℕ) (read : List Value) (exprs : List Expr) (cells : List Value)
-    → cells_from (inserted_cell source read columns exprs) 0 schema.columns ≡ Ok cells → IsHeld schema cells
-inserted_held schema source columns read exprs cells is =
-    cells_held (inserted_cell source read columns exprs) 0 schema.columns cells (λ k column e j at v. kept_holds column (computed_of source read (given columns exprs j)) v) is
+-- a row whose columns hold what is written to them fits
+written_fits : (schema : Schema) (cell : ℕ → Column → Result Value ℕ) (cells : List Value) → CellsHeld cell 0 schema.columns → cells_from cell 0 schema.columns ≡ Ok cells → IsRowOf schema cells
+written_fits schema cell cells all is = record {
+  short = (let wide = cells_wide cell 0 schema.columns cells is in omega (arith, wide));
+  held = cells_held cell 0 schema.columns cells all is;
+}
 
 set_held : (schema : Schema) (row : List Value) (k : ℕ) (column : Column) (set : Option (ℕ × Expr)) (v : Value) → IsTrue (may_hold column (cell_at row k)) → updated_by schema row k column set ≡ Ok v → IsTrue (may_hold column v)
 set_held schema row k column None v was is = let same : cell_at row k ≡ v = cc in subst (λ x. IsTrue (may_hold column x)) same was
@@ -165,16 +167,15 @@ set_held schema row k column (Some set) v was is = kept_holds column (compute se
 pub inserted_is_row : (schema source : Schema) (columns : List ℕ) (read : List Value) (exprs : List Expr) (cells : List Value)
     → cells_from (inserted_cell source read columns exprs) 0 schema.columns ≡ Ok cells → IsRowAt schema (key_in schema.key cells) cells
 inserted_is_row schema source columns read exprs cells is = record {
-  held = inserted_held schema source columns read exprs cells is;
-  width = (let wide = cells_wide (inserted_cell source read columns exprs) 0 schema.columns cells is in omega (arith, wide));
+  row = written_fits schema (inserted_cell source read columns exprs) cells (λ k column e j at v. kept_holds column (computed_of source read (given columns exprs j)) v) is;
   under = refl;
 }
 
-updated_held : (schema : Schema) (sets : List (ℕ × Expr)) (row cells : List Value) → IsHeld schema row → updated_row schema sets row ≡ Ok cells → IsHeld schema cells
-updated_held schema sets row cells held is =
-    cells_held (updated_cell schema sets row) 0 schema.columns cells
+updated_fits : (schema : Schema) (sets : List (ℕ × Expr)) (row cells : List Value) → IsRowOf schema row → updated_row schema sets row ≡ Ok cells → IsRowOf schema cells
+updated_fits schema sets row cells fits is =
+    written_fits schema (updated_cell schema sets row) cells
     (λ k column e j at v. set_held schema row j column (find (λ (set : ℕ × Expr). set.0 == j) sets) v
-    (let same : k ≡ j = omega (arith, at) in subst (λ n. IsTrue (may_hold column (cell_at row n))) same (held k column e))) is
+    (let same : k ≡ j = omega (arith, at) in subst (λ n. IsTrue (may_hold column (cell_at row n))) same (fits.held k column e))) is
 
 -- the cell that is written at a place
 abbrev IsWritten : (ℕ → Column → Result Value ℕ) → ℕ → ℕ → List Value → Type 0
@@ -213,8 +214,7 @@ updated_row_at schema sets key row cells is others at written =
     let stays : Ok (cell_at row schema.key) ≡ Ok (cell_at cells schema.key) = sym (ap (updated_by schema row schema.key there.0) (none_sets sets schema.key others)) ∙ there.1 in
     let same : cell_at cells schema.key ≡ cell_at row schema.key = cc in
     record {
-      held = updated_held schema sets row cells at.held written;
-      width = (let wide = cells_wide (updated_cell schema sets row) 0 schema.columns cells written in omega (arith, wide));
+      row = updated_fits schema sets row cells at.row written;
       under = ap (λ v. record { 0 = number_in v }) same ∙ at.under;
     }
 

@@ -4,11 +4,12 @@ use Rattle.std.specs.List.{filter_map}
 use Rattle.std.specs.Map.{values_of}
 use Rattle.cs_types.specs.declared.Schema.{Schema}
 use Rattle.cs_types.specs.declared.Value.{Value}
+use Rattle.cs_types.specs.Rows.{padded}
 use Rattle.cs_model.specs.declared.pred.Pred.{Pred}
 use Rattle.cs_model.specs.Queries.{keeps}
 use Rattle.code_tallies.specs.Shown.{is_shown}
 use Rattle.group_view.specs.declared.view.Pinned.{Pinned}
-use Rattle.group_view.specs.Parts.{Rowed, padded}
+use Rattle.group_view.specs.Parts.{Rowed}
 use Rattle.row_work.specs.Reads.{read_row}
 
 -- a sieve of verdicts passes over no version whose row, in so many cells, the condition keeps

@@ -3,12 +3,12 @@ use Rattle.std.specs.Prelude.{ℕ, List, map, Option, Some, slice_get}
 use Rattle.std.specs.Option.{option_map, option_and_then}
 use Rattle.cs_types.specs.declared.Key.{Key}
 use Rattle.cs_types.specs.declared.Value.{Value}
-use Rattle.cs_types.specs.Rows.{key_in}
+use Rattle.cs_types.specs.Rows.{key_in, padded}
 use Rattle.cs_model.specs.Changes.{Edit, Table}
 use Rattle.write_set.specs.declared.write.Write.{Write}
 use Rattle.row_group.specs.Groups.{Group, row_at}
 use Rattle.group_view.specs.declared.view.Pinned.{Pinned}
-use Rattle.group_view.specs.Parts.{Rowed, padded}
+use Rattle.group_view.specs.Parts.{Rowed}
 use Rattle.group_view.specs.Views.{version_at, Shows}
 use Rattle.row_work.specs.declared.choose.Chosen.{Chosen}
 use Rattle.row_work.specs.declared.choose.Source.{Source}

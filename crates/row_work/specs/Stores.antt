@@ -5,11 +5,12 @@ use Rattle.cs_types.specs.declared.Key.{Key}
 use Rattle.cs_types.specs.declared.Schema.{Schema}
 use Rattle.cs_types.specs.declared.Value.{Value}
 use Rattle.cs_types.specs.Keys.{same_key}
+use Rattle.cs_types.specs.Rows.{padded}
 use Rattle.cs_model.specs.Held.{IsRowAt}
 use Rattle.delta_store.specs.Index.{is_between}
 use Rattle.group_book.specs.Book.{how_many, shows}
 use Rattle.group_view.specs.declared.view.Pinned.{Pinned}
-use Rattle.group_view.specs.Parts.{Rowed, padded}
+use Rattle.group_view.specs.Parts.{Rowed}
 use Rattle.group_view.specs.Views.{buffer_of}
 use Rattle.batch_scan.specs.Reads.{is_read}
 use Rattle.row_work.specs.declared.bounds.Bounds.{Bounds}

@@ -3,11 +3,11 @@ ghost use Rattle.std.specs.Prelude.{◌≡◌, ◌++◌, ◌≤◌, ℕ, Bool, f
 ghost use Rattle.std.specs.List.{filter_map};
 ghost use Rattle.std.specs.Map.{values_of};
 ghost use Rattle.cs_types.specs.declared.Value.{Value};
+ghost use Rattle.cs_types.specs.Rows.{padded};
 ghost use Rattle.cs_model.specs.Queries.{keeps};
 ghost use Rattle.batch_aggregate.specs.Standing.{StandsFor};
 ghost use Rattle.batch_aggregate.specs.Tallies.{tally_of};
 ghost use Rattle.batch_scan.specs.Reads.{is_read};
-ghost use Rattle.group_view.specs.Parts.{padded};
 ghost use Rattle.row_work.specs.Bounds.{IsKeyRange};
 ghost use Rattle.row_work.specs.Reads.{rowed_at, MayRead};
 ghost use Rattle.row_work.specs.Sieved.{read_in};

@@ -1,24 +1,19 @@
 -- A claim that is lent can be worked on, and the work on a share of a claim is that on the claim.
-use Rattle.std.proofs.Common.{◌≡◌, ◌⊎◌, ℕ, ◌<◌, Bool, true, ◌||◌, not, leb, nat_le, IsTrue, List, [], ◌∷◌, map, filter, length, is_some, Option, None, Some, refl, sym, ap, subst, ◌∙◌, inl, inr, arith}
+use Rattle.std.proofs.Common.{◌≡◌, ◌⊎◌, ℕ, ◌<◌, Bool, true, ◌||◌, not, leb, nat_le, List, [], ◌∷◌, map, filter, length, is_some, Option, None, Some, refl, sym, ap, subst, ◌∙◌, inl, inr, arith}
 use Rattle.std.specs.List.{All, AllZip, Contains}
 use Rattle.std.specs.declared.alloc.Global.{Global}
 use Rattle.std.specs.declared.sync.Arc.{Arc}
 use Rattle.std.specs.List.Sorted.{IsPermutation}
 use Rattle.std.proofs.lemmas.Bool.Decides.{nat_tests}
 use Rattle.std.proofs.lemmas.List.Elements.{All-contains, All-from_recursion, All-weaker, recursion_from_All}
-use Rattle.std.proofs.lemmas.List.FromFn.{length-map-range_with_len}
-use Rattle.std.proofs.lemmas.Option.{none-some, slice_get_within}
+use Rattle.std.proofs.lemmas.Option.{none-some}
 use Rattle.cs_types.specs.declared.Schema.{Schema}
-use Rattle.cs_types.specs.declared.Value.{Value}
-use Rattle.cs_types.specs.Rows.{cell_at}
-use Rattle.cs_types.specs.Schemas as table
-use Rattle.cs_types.specs.Schemas.{IsSchema, may_hold}
+use Rattle.cs_types.specs.Schemas.{IsSchema}
 use Rattle.cs_model.specs.declared.work.Actor.{Actor}
 use Rattle.cs_model.specs.Changes.{Change, last_change, made}
-use Rattle.cs_model.specs.Held.{IsHeld, AreFit}
+use Rattle.cs_model.specs.Held.{AreFit}
 use Rattle.delete_bitmap.specs.declared.Marks.{Marks}
 use Rattle.row_group.specs.declared.packed.Packed as Packing
-use Rattle.row_group.proofs.ShownLemmas.{cell_at-get_or}
 use Rattle.group_book.specs.Book as book
 use Rattle.group_book.specs.Book.{End, Version, Ending, frozen, has_ended, is_buffered}
 use Rattle.group_book.specs.Book.End.{At, Plain}
@@ -32,11 +27,11 @@ use Rattle.group_view.specs.declared.claim.Product.{Product}
 use Rattle.group_view.specs.declared.claim.Product.TheVariants as product
 use Rattle.group_view.specs.declared.parts.GroupPart.{GroupPart}
 use Rattle.group_view.specs.declared.parts.GroupPart.TheVariants.{Packed, Store}
-use Rattle.group_view.specs.Parts.{Rowed, padded, packed_parts, ArePacked, IsFitting}
+use Rattle.group_view.specs.Parts.{Rowed, packed_parts, ArePacked, IsFitting}
 use Rattle.group_view.specs.Views.{endings_of, buffer_of, rowed_of}
 use Rattle.group_view.specs.Books.{versions_of, choice_of, claim_of, book_of}
 use Rattle.group_view.specs.Claims.{kept_rowed, lent_entries, padded_rowed, rowed_of_packed, HasWork, IsEndedOnce, IsLentRow, IsMadeOf, IsMarkedOf, IsMendable, IsPackedFor, IsPackedPart, IsProductOf, IsTablePart}
-use Rattle.group_view.specs.Laws.{IsRowOf}
+use Rattle.group_view.specs.Laws.{IsMadeRow}
 use Rattle.group_reports.specs.Segments as report
 use Rattle.group_reports.proofs.Lines.{parts_packed}
 use Rattle.group_directory.specs.declared.directory.Directory.{Directory}
@@ -46,7 +41,7 @@ use Rattle.group_directory.proofs.BookLaws.{each_claim, lent_versions}
 use Rattle.group_directory.proofs.ClaimLaws.{share_fits, share_packed}
 use Rattle.group_directory.proofs.GroupLaws.{same_lent}
 use Rattle.statement_core.specs.Fit.{AreFitting}
-use Rattle.statement_core.proofs.Reports.{cell_kept, changes_fit, made_row, row_held, row_under}
+use Rattle.statement_core.proofs.Reports.{changes_fit, made_row, row_fits, row_under}
 
 -- ---- rows
 
@@ -54,21 +49,13 @@ module _ (schema : Schema) where
   abbrev width : ℕ
   width = length schema.columns
 
-  fit_row : (row : List Value) → IsHeld schema row → table.IsRowOf schema (padded width row)
-  fit_row row held = record {
-    short = let all = length-map-range_with_len (cell_at row) 0 width in omega (arith, all);
-    held = λ i column found.
-        let same : cell_at (padded width row) i ≡ cell_at row i = cell_at-get_or (padded width row) i ∙ cell_kept schema row i (slice_get_within schema.columns i column found) in
-        subst (λ (cell : Value). IsTrue (may_hold column cell)) (sym same) (held i column found);
-  }
-
   -- a version that has the row of its change has one of the table, under its key
-  lent_row : (changes : List Change) → IsSchema schema → AreFit schema changes → (rowed : Rowed) → IsRowOf width changes rowed → IsLentRow schema rowed
+  lent_row : (changes : List Change) → IsSchema schema → AreFit schema changes → (rowed : Rowed) → IsMadeRow width changes rowed → IsLentRow schema rowed
   lent_row changes is fit rowed own =
       let key = rowed.version.key in
       let change = made (last_change key rowed.version.begin changes) in
       let row = made_row schema changes key rowed.version.begin fit in
-      record { row = fit_row rowed.row (row_held schema key rowed.row change row own); key = row_under schema key rowed.row change is.key_there row own }
+      record { row = row_fits schema key rowed.row change row own; under = row_under schema key rowed.row change is.key_there row own }
 
   -- packed groups of the table have its columns and its key
   table_part : (part : ℕ × GroupPart) → report.IsPackedPart schema part.1 → IsTablePart schema part.1
@@ -145,7 +132,7 @@ module _ (d : Directory) (changes : List Change) (held : Actor × Claim) (j : St
     fitting = fitting;
     parts = subst (λ (s : Schema). All (λ (part : ℕ × GroupPart). IsTablePart s part.1) claim.view.groups) (sym loan.of_table) (table_parts d.schema.value claim.view.groups loan.packed);
     rows = subst (λ (s : Schema). All (IsLentRow s) (rowed_of claim.view)) (sym loan.of_table)
-        (All-weaker (IsRowOf (length d.schema.value.columns) changes) (IsLentRow d.schema.value) (lent_row d.schema.value changes schema (changes_fit d.schema.value changes fit)) (rowed_of claim.view) loan.rows);
+        (All-weaker (IsMadeRow (length d.schema.value.columns) changes) (IsLentRow d.schema.value) (lent_row d.schema.value changes schema (changes_fit d.schema.value changes fit)) (rowed_of claim.view) loan.rows);
     ends = ends_once;
   }
 

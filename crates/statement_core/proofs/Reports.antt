@@ -1,22 +1,21 @@
 -- The report on segments: it shows the core's book, and it can be printed where the table holds what is committed.
-use Rattle.std.proofs.Common.{◌≡◌, ◌<◌, ℕ, List, [], ◌∷◌, length, get_or, refl, sym, ap, subst, ◌∙◌, cond, arith, IsTrue, Bool, true, false, Option, None, Some, Result, Ok, Err, All}
-use Rattle.std.specs.Prelude.{IfOk, IfSome, fold, nat_le}
+use Rattle.std.proofs.Common.{◌≡◌, ◌<◌, ℕ, List, [], ◌∷◌, length, refl, sym, ap, subst, ◌∙◌, cond, arith, Bool, true, false, Option, None, Some, Result, Ok, Err, All}
+use Rattle.std.specs.Prelude.{IfOk, fold, nat_le}
 use Rattle.std.specs.List.{AllByRecursion, flat_map}
 use Rattle.std.specs.Option.{option_map}
 use Rattle.std.proofs.lemmas.List.Elements.{All-nil, All-cons, All-filter, recursion_from_All}
-use Rattle.std.proofs.lemmas.List.FromFn.{get_or-map-range_with_len}
-use Rattle.std.proofs.lemmas.Option.{none-some, same_Some, slice_get_within}
+use Rattle.std.proofs.lemmas.Option.{none-some, same_Some}
 use Rattle.cs_types.specs.declared.Key.{Key}
 use Rattle.cs_types.specs.declared.Schema.{Schema}
 use Rattle.cs_types.specs.declared.Value.{Value}
-use Rattle.cs_types.specs.declared.Value.TheVariants.{Null}
 use Rattle.cs_types.specs.Keys.{same_key}
-use Rattle.cs_types.specs.Rows.{cell_at, key_in, number_in}
-use Rattle.cs_types.specs.Schemas.{may_hold}
+use Rattle.cs_types.specs.Rows.{key_in, padded}
+use Rattle.cs_types.specs.Schemas.{IsRowOf}
+use Rattle.cs_types.proofs.PaddedLemmas.{padded_fits, padded_key}
 use Rattle.cs_model.specs.declared.entry.Reply.{Reply}
 use Rattle.cs_model.specs.declared.entry.Reply.TheVariants as reply
 use Rattle.cs_model.specs.Changes.{Change, until, last_change, made}
-use Rattle.cs_model.specs.Held.{IsHeld, IsRowAt, IsFit, MayStand, AreFit}
+use Rattle.cs_model.specs.Held.{IsFit, MayStand, AreFit}
 use Rattle.cs_model.specs.Text.{IsPrintableReply}
 use Rattle.delete_bitmap.specs.declared.MarkedEnd.{MarkedEnd}
 use Rattle.row_group.specs.Rows.{PackedRow}
@@ -28,9 +27,9 @@ use Rattle.group_view.specs.declared.groups.GroupContent.{GroupContent}
 use Rattle.group_view.specs.declared.groups.GroupContent.TheVariants.{Opened, Closed, Compressed, Invisible, Tombstone}
 use Rattle.group_view.specs.declared.view.GroupView.{GroupView}
 use Rattle.group_view.specs.Books.{rowed_in_content, book_of}
-use Rattle.group_view.specs.Laws.{IsRowOf}
+use Rattle.group_view.specs.Laws.{IsMadeRow}
 use Rattle.group_view.specs.Lists.{IsFittingContent, packed_in}
-use Rattle.group_view.specs.Parts.{Rowed, padded, packed_version, packed_versions, rows_by_id, ArePacked}
+use Rattle.group_view.specs.Parts.{Rowed, packed_version, packed_versions, rows_by_id, ArePacked}
 use Rattle.group_reports.specs.Segments.{compressed, AreHeld, ArePackedParts, IsSegmentReport}
 use Rattle.group_reports.proofs.Lines.{parts_packed}
 use Rattle.group_directory.specs.declared.directory.Directory.{Directory}
@@ -43,21 +42,17 @@ use Rattle.statement_core.specs.Fit.{AreFitting}
 module _ (schema : Schema) where
   -- ---- the rows of changes
 
-  stand_row : (key : Key) (row : Option (List Value)) → MayStand schema key row → IfSome row (IsRowAt schema key)
-  stand_row key None h = tt
-  stand_row key (Some row) h = h
-
   -- what the last of a key's changes made is a row of that key
-  made_from : (key : Key) (acc : Option Change) (xs : List Change) → IfSome (made acc) (IsRowAt schema key) → AllByRecursion (λ (change : Change). IsFit schema change.edit) xs
-      → IfSome (made (fold (λ last (change : Change). cond (same_key key change.edit.0) (Some change) last) acc xs)) (IsRowAt schema key)
+  made_from : (key : Key) (acc : Option Change) (xs : List Change) → MayStand schema key (made acc) → AllByRecursion (λ (change : Change). IsFit schema change.edit) xs
+      → MayStand schema key (made (fold (λ last (change : Change). cond (same_key key change.edit.0) (Some change) last) acc xs))
   made_from key acc [] h all = h
   made_from key acc (x ∷ xs) h all = made_from key (cond (same_key key x.edit.0) (Some x) acc) xs (step (same_key key x.edit.0) refl) all.1
     where
-      step : (t : Bool) → same_key key x.edit.0 ≡ t → IfSome (made (cond t (Some x) acc)) (IsRowAt schema key)
-      step true is = subst (λ (k : Key). IfSome x.edit.1 (IsRowAt schema k)) (key_is key x.edit.0 is) (stand_row x.edit.0 x.edit.1 all.0.1)
+      step : (t : Bool) → same_key key x.edit.0 ≡ t → MayStand schema key (made (cond t (Some x) acc))
+      step true is = subst (λ (k : Key). MayStand schema k x.edit.1) (key_is key x.edit.0 is) all.0.1
       step false is = h
 
-  pub made_row : (changes : List Change) (key : Key) (s : ℕ) → AreFit schema changes → IfSome (made (last_change key s changes)) (IsRowAt schema key)
+  pub made_row : (changes : List Change) (key : Key) (s : ℕ) → AreFit schema changes → MayStand schema key (made (last_change key s changes))
   made_row changes key s fit =
       let P = λ (change : Change). IsFit schema change.edit in
       made_from key None (until s changes) tt (recursion_from_All P (until s changes) (All-filter (λ (change : Change). nat_le change.commit s) P changes fit))
@@ -67,35 +62,26 @@ module _ (schema : Schema) where
   abbrev width : ℕ
   width = length schema.columns
 
-  pub cell_kept : (row : List Value) (i : ℕ) → i < width → get_or (padded width row) i Null ≡ cell_at row i
-  cell_kept row i within = get_or-map-range_with_len (cell_at row) 0 width i i Null within (omega arith)
+  -- a row that is in the table's cells one of a key fits the table in these, and is of that key
+  pub row_fits : (key : Key) (row : List Value) (o : Option (List Value)) → MayStand schema key o → option_map (padded width) o ≡ Some (padded width row) → IsRowOf schema (padded width row)
+  row_fits key row None h is = absurd (none-some (padded width row) is)
+  row_fits key row (Some other) h is = subst (IsRowOf schema) (same_Some (padded width other) (padded width row) is) (padded_fits schema other h.row)
 
-  cell_same : (other row : List Value) (i : ℕ) → i < width → option_map (padded width) (Some other) ≡ Some (padded width row) → cell_at other i ≡ cell_at row i
-  cell_same other row i within is =
-      sym (cell_kept other i within) ∙ ap (λ (cells : List Value). get_or cells i Null) (same_Some (padded width other) (padded width row) is) ∙ cell_kept row i within
-
-  -- a row that is in the table's cells one of a key is held, and is of that key
-  pub row_held : (key : Key) (row : List Value) (o : Option (List Value)) → IfSome o (IsRowAt schema key) → option_map (padded width) o ≡ Some (padded width row) → IsHeld schema row
-  row_held key row None h is = absurd (none-some (padded width row) is)
-  row_held key row (Some other) h is = λ i column found.
-      let same = cell_same other row i (slice_get_within schema.columns i column found) is in
-      subst (λ (cell : Value). IsTrue (may_hold column cell)) same (h.held i column found)
-
-  pub row_under : (key : Key) (row : List Value) (o : Option (List Value)) → schema.key < width → IfSome o (IsRowAt schema key) → option_map (padded width) o ≡ Some (padded width row) → key_in schema.key row ≡ key
+  pub row_under : (key : Key) (row : List Value) (o : Option (List Value)) → schema.key < width → MayStand schema key o → option_map (padded width) o ≡ Some (padded width row) → key_in schema.key (padded width row) ≡ key
   row_under key row None within h is = absurd (none-some (padded width row) is)
   row_under key row (Some other) within h is =
-      ap (λ (cell : Value). let k : Key = record { 0 = number_in cell } in k) (sym (cell_same other row schema.key within is)) ∙ h.under
+      ap (key_in schema.key) (sym (same_Some (padded width other) (padded width row) is)) ∙ padded_key width other schema.key within ∙ h.under
 
   module _ (changes : List Change) (fit : AreFit schema changes) where
     abbrev IsRowHeld : PackedRow → Type 0
-    IsRowHeld row = IsHeld schema row.cells
+    IsRowHeld row = IsRowOf schema (padded width row.cells)
 
-    rows_held : (key : ℕ) (rows : List PackedRow) (marks : List (Option MarkedEnd)) → length marks ≡ length rows → AllByRecursion (IsRowOf width changes) (packed_versions key rows marks) → All IsRowHeld rows
+    rows_held : (key : ℕ) (rows : List PackedRow) (marks : List (Option MarkedEnd)) → length marks ≡ length rows → AllByRecursion (IsMadeRow width changes) (packed_versions key rows marks) → All IsRowHeld rows
     rows_held key [] marks long all = All-nil IsRowHeld
     rows_held key (row ∷ rows) [] long all = absurd (omega (arith, long))
     rows_held key (row ∷ rows) (mark ∷ marks) long all =
         let version = (packed_version key row mark).version in
-        All-cons IsRowHeld row rows (row_held version.key row.cells (made (last_change version.key version.begin changes)) (made_row changes version.key version.begin fit) all.0)
+        All-cons IsRowHeld row rows (row_fits version.key row.cells (made (last_change version.key version.begin changes)) (made_row changes version.key version.begin fit) all.0)
         (rows_held key rows marks (omega (arith, long)) all.1)
 
     abbrev IsGroupHeld : ℕ × List PackedRow → Type 0
@@ -104,13 +90,13 @@ module _ (schema : Schema) where
     abbrev rows_in_all : List Group → List Rowed
     rows_in_all groups = flat_map (λ (group : Group). rowed_in_content group.content) groups
 
-    groups_held : (groups : List Group) → AllByRecursion (λ (group : Group). IsFittingContent group.content) groups → AllByRecursion (IsRowOf width changes) (rows_in_all groups) → AreHeld schema (rows_by_id (packed_in groups))
+    groups_held : (groups : List Group) → AllByRecursion (λ (group : Group). IsFittingContent group.content) groups → AllByRecursion (IsMadeRow width changes) (rows_in_all groups) → AreHeld schema (rows_by_id (packed_in groups))
     groups_held [] fits all = All-nil IsGroupHeld
     groups_held (group ∷ groups) fits all =
-        step group.content fits.0 (all-left (IsRowOf width changes) (rowed_in_content group.content) (rows_in_all groups) all)
-        (groups_held groups fits.1 (all-right (IsRowOf width changes) (rowed_in_content group.content) (rows_in_all groups) all))
+        step group.content fits.0 (all-left (IsMadeRow width changes) (rowed_in_content group.content) (rows_in_all groups) all)
+        (groups_held groups fits.1 (all-right (IsMadeRow width changes) (rowed_in_content group.content) (rows_in_all groups) all))
       where
-        step : (content : GroupContent) → IsFittingContent content → AllByRecursion (IsRowOf width changes) (rowed_in_content content) → AreHeld schema (rows_by_id (packed_in groups))
+        step : (content : GroupContent) → IsFittingContent content → AllByRecursion (IsMadeRow width changes) (rowed_in_content content) → AreHeld schema (rows_by_id (packed_in groups))
             → AreHeld schema (rows_by_id (packed_in (record group { content = content } ∷ groups)))
         step (Opened store) long here rest = rest
         step (Closed store) long here rest = rest
@@ -139,7 +125,7 @@ module _ (directory : Directory) (view : GroupView) (changes : List Change) (j :
       let held = j.held in
       subst (λ entries. AreHeld now (rows_by_id entries)) (sym look.packed)
       (groups_held now changes fit groups (recursion_from_All (λ (group : Group). IsFittingContent group.content) groups held.fitting)
-      (subst (AllByRecursion (IsRowOf (length directory.schema.value.columns) changes)) (listed_whole groups) (recursion_from_All (IsRowOf (length directory.schema.value.columns) changes) _ j.rows)))
+      (subst (AllByRecursion (IsMadeRow (length directory.schema.value.columns) changes)) (listed_whole groups) (recursion_from_All (IsMadeRow (length directory.schema.value.columns) changes) _ j.rows)))
 
   pub look_shows : (r : Reply) → IsSegmentReport directory.schema.value (compressed view.groups) r → ShowsBook directory.schema.value changes (book_of directory.list) r
   look_shows reply.Done h = absurd h

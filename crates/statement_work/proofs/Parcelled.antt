@@ -1,26 +1,17 @@
 -- Edits that fit a table, as a parcel takes them.
-use Rattle.std.proofs.Common.{◌≡◌, List, [], ◌∷◌}
-use Rattle.std.specs.Prelude.{Option, None, Some, IfSome}
+use Rattle.std.proofs.Common.{List, [], ◌∷◌}
 use Rattle.std.specs.List.{All, AllByRecursion}
 use Rattle.std.proofs.lemmas.List.Elements.{All-from_recursion, recursion_from_All}
 use Rattle.cs_types.specs.declared.Schema.{Schema}
-use Rattle.cs_types.specs.declared.Key.{Key}
 use Rattle.cs_types.specs.declared.Value.{Value}
 use Rattle.cs_types.specs.Schemas.{IsRowOf}
 use Rattle.cs_model.specs.Answers as spec
 use Rattle.cs_model.specs.Changes.{Edit}
-use Rattle.cs_model.specs.Held.{IsFit, MayStand}
-use Rattle.tuple_mover.specs.Inserts.{FitsIn, IsEntryOf}
-
-given : (schema : Schema) (key : Key) (o : Option (List Value)) → MayStand schema key o → IfSome o (λ (row : List Value). IsEntryOf schema (key, row))
-given schema key None stands = tt
-given schema key (Some row) stands = record {
-  row = record { short = stands.width; held = stands.held };
-  key = stands.under;
-}
+use Rattle.cs_model.specs.Held.{IsFit}
+use Rattle.tuple_mover.specs.Inserts.{FitsIn}
 
 pub fits_in : (schema : Schema) (edits : List Edit) → All (IsFit schema) edits → All (FitsIn schema) edits
-fits_in schema edits fit = λ i d there. given schema _ _ (fit i d there).1
+fits_in schema edits fit = λ i d there. (fit i d there).1
 
 held_rows : (schema : Schema) (rows : List (List Value)) → AllByRecursion (FitsIn schema) (spec.edits_of schema rows) → AllByRecursion (IsRowOf schema) rows
 held_rows schema [] fit = tt

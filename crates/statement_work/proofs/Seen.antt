@@ -5,6 +5,7 @@ use Rattle.std.specs.List.{All, AllByRecursion}
 use Rattle.std.proofs.lemmas.List.Elements.{All-map, All-nil, recursion_from_All}
 use Rattle.cs_types.specs.declared.Key.{Key}
 use Rattle.cs_types.specs.declared.Value.{Value}
+use Rattle.cs_types.proofs.PaddedLemmas.{padded_itself}
 use Rattle.cs_model.specs.Changes.{Edit, Change, Table, laid}
 use Rattle.cs_model.specs.Held.{IsFit, IsFitTable, IsWhole}
 use Rattle.cs_model.specs.Obstacles.{has_row}
@@ -12,9 +13,7 @@ use Rattle.edit_laws.specs.Edits.{edits_of}
 use Rattle.edit_laws.proofs.Rows.{Holds, laid_all}
 use Rattle.log_laws.specs.Started.{Begun, snapshot_table, seen_by}
 use Rattle.group_view.specs.declared.view.Pinned.{Pinned}
-use Rattle.group_view.specs.Parts.{padded}
 use Rattle.group_view.specs.Views.{padded_table, shown_table}
-use Rattle.group_view.proofs.Versions.{padded_itself}
 use Rattle.row_work.specs.Reads.{read_by, shown_by, MayRead}
 use Rattle.statement_core.specs.Begun.{MayWork, Pins}
 use Rattle.statement_core.specs.Outcomes.{width_of}

@@ -15,17 +15,17 @@ use Rattle.cs_types.specs.declared.Value.{Value}
 use Rattle.cs_types.specs.declared.Value.TheVariants.{Null}
 use Rattle.cs_types.specs.Rows.{cell_at, key_in, number_cell}
 use Rattle.cs_types.specs.Schemas.{IsSchema, IsRowOf}
+use Rattle.cs_types.proofs.PaddedLemmas.{padded_itself}
 use Rattle.cs_model.specs.Answers.{edits_of}
 use Rattle.cs_model.specs.Changes.{Edit}
 use Rattle.batch_compute.specs.Columns.{AreColumnsOf}
-use Rattle.row_group.specs.Rows.{PackedRow, padded as padded_row}
+use Rattle.row_group.specs.Rows.{PackedRow, padded_row}
 use Rattle.row_group.specs.Groups.{Group}
 use Rattle.row_group.specs.Packings.{numbered, source_row, source_rows}
 use Rattle.row_group.proofs.ShownLemmas.{cell_at-get_or, map-map}
 use Rattle.group_book.specs.Commits.{Sizes, inserted_by}
 use Rattle.group_view.specs.declared.claim.Parcel.{Parcel}
 use Rattle.group_view.specs.Parcels.{IsParcelFor}
-use Rattle.group_view.proofs.Versions.{padded_itself}
 use Rattle.tuple_mover.specs.Inserts.{rows_given, direct_row, AreRowsOf, FitsIn, IsDirectOf}
 use Rattle.tuple_mover.proofs.InsertLemmas.{given-append}
 use Rattle.tuple_mover.proofs.ParcelLemmas.{rest_parcel, group_more, parcel_step}
@@ -138,7 +138,7 @@ count-inserted schema rows = ap length (keys-inserted schema rows) ∙ length-ma
 
 pub rows-fit : (schema : Schema) (rows : List (List Value)) → All (IsRowOf schema) rows → All (FitsIn schema) (edits_of schema rows)
 rows-fit schema rows fit =
-    All-map (FitsIn schema) (λ (row : List Value). (key_in schema.key row, Some row)) rows (λ k d l. record { row = fit k d l; key = refl })
+    All-map (FitsIn schema) (λ (row : List Value). (key_in schema.key row, Some row)) rows (λ k d l. record { row = fit k d l; under = refl })
 
 edits-split : (schema : Schema) (count : ℕ) (rows : List (List Value)) → edits_of schema (take count rows) ++ edits_of schema (drop count rows) ≡ edits_of schema rows
 edits-split schema count rows =
@@ -174,12 +174,12 @@ pub rows-packed : (schema : Schema) (rows : List (List Value)) (columns : Column
     → source_rows (numbered columns) (replicate count 0) ≡ map (direct_row (length schema.columns)) (rows_given (edits_of schema rows))
 rows-packed schema rows columns count are many =
     let many_begins : length begins ≡ count = length-replicate {A = ℕ} count 0 in
-    sym (ap (map (direct_row width)) (rows-given schema rows) ∙ map-map (λ (row : List Value). (key_in schema.key row, row)) (direct_row width) padded (λ row. refl) rows
-    ∙ fill_by_all (source_row (numbered columns) begins) (map padded rows) (length begins) (record { cells = []; begin = 0 }) (length-map rows padded ∙ many ∙ sym many_begins)
+    sym (ap (map (direct_row width)) (rows-given schema rows) ∙ map-map (λ (row : List Value). (key_in schema.key row, row)) (direct_row width) packed (λ row. refl) rows
+    ∙ fill_by_all (source_row (numbered columns) begins) (map packed rows) (length begins) (record { cells = []; begin = 0 }) (length-map rows packed ∙ many ∙ sym many_begins)
     (λ k l.
     let m : k < count = omega (arith, l, many_begins) in
     let within : k < length rows = omega (arith, m, many) in
-    get_or-map padded rows k [] (record { cells = []; begin = 0 }) within ∙ (λ i. record { cells = cells k within i; begin = begin k m i })))
+    get_or-map packed rows k [] (record { cells = []; begin = 0 }) within ∙ (λ i. record { cells = cells k within i; begin = begin k m i })))
   where
     width : ℕ
     width = length schema.columns
@@ -187,10 +187,10 @@ rows-packed schema rows columns count are many =
     begins : List ℕ
     begins = replicate count 0
 
-    padded : List Value → PackedRow
-    padded row = padded_row width row 0
+    packed : List Value → PackedRow
+    packed row = padded_row width row 0
 
-    cells : (k : ℕ) → k < length rows → (padded (get_or rows k [])).cells ≡ (source_row (numbered columns) begins k).cells
+    cells : (k : ℕ) → k < length rows → (packed (get_or rows k [])).cells ≡ (source_row (numbered columns) begins k).cells
     cells k within = sym (padded_itself width (get_or rows k []) (are.wide k [] within)) ∙ row-shown width rows columns are k [] within
 
     begin : (k : ℕ) → k < count → 0 ≡ get_or begins k 0

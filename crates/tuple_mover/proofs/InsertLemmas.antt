@@ -7,26 +7,23 @@ use Rattle.std.specs.Prelude.{is_some}
 use Rattle.std.proofs.lemmas.List.{map-append, take_more, length-append, get_or_append_left, get_or-append-add}
 use Rattle.std.proofs.lemmas.List.Concat.{flat_map-append}
 use Rattle.std.proofs.lemmas.List.Elements.{All-map, All-from_recursion, recursion_from_All, All-nil, All-cons, All-weaker, filter-append}
-use Rattle.std.proofs.lemmas.List.FromFn.{length-map-range_with_len, get_or-map-range_with_len}
 use Rattle.std.proofs.lemmas.List.Sorted.{IsPermutation-map, All-permutation}
 use Rattle.cs_types.specs.declared.Key.{Key}
 use Rattle.cs_types.specs.declared.Schema.{Schema}
 use Rattle.cs_types.specs.declared.Value.{Value}
-use Rattle.cs_types.specs.declared.Value.TheVariants.{Null}
-use Rattle.cs_types.specs.Rows.{cell_at, key_in, number_in}
+use Rattle.cs_types.specs.Rows.{key_in, padded}
 use Rattle.cs_types.specs.Schemas.{IsSchema, IsRowOf}
+use Rattle.cs_types.proofs.PaddedLemmas.{padded_again, padded_fits, padded_key}
 use Rattle.cs_model.specs.Changes.{Edit}
+use Rattle.cs_model.specs.Held.{IsRowAt}
 use Rattle.edit_laws.specs.Edits.{edit_of, edits_of}
 use Rattle.write_set.specs.declared.write.Write.{Write}
 use Rattle.row_group.specs.Rows.{PackedRow, begun_above}
 use Rattle.row_group.specs.Groups.{Group}
-use Rattle.row_group.proofs.PackerLemmas.{padded-fits}
-use Rattle.row_group.proofs.ShownLemmas.{cell_at-get_or, map-map}
+use Rattle.row_group.proofs.ShownLemmas.{map-map}
 use Rattle.group_book.specs.Commits.{inserted_by}
-use Rattle.group_view.specs.Parts.{padded}
 use Rattle.group_view.specs.Parcels.{keys_in, HasOneBegin, packed_keys, IsGiven}
-use Rattle.group_view.proofs.Versions.{padded_itself}
-use Rattle.tuple_mover.specs.Inserts.{rows_given, IsEntryOf, FitsIn, direct_row, IsDirectOf}
+use Rattle.tuple_mover.specs.Inserts.{rows_given, FitsIn, direct_row, IsDirectOf}
 
 -- ---- one write more
 
@@ -52,6 +49,10 @@ inserted-more writes i d there =
 
 -- ---- the rows of edits
 
+-- a row of the table under its key
+abbrev pub IsEntryOf : Schema → Key × List Value → Type 0
+IsEntryOf schema entry = IsRowAt schema entry.0 entry.1
+
 pub given-keys : (own : List Edit) → keys_in (rows_given own) ≡ inserted_by own
 given-keys [] = refl
 given-keys ((key, None) ∷ own) = given-keys own
@@ -65,13 +66,6 @@ given-fit schema own fit = All-from_recursion (IsEntryOf schema) (rows_given own
     each ((key, None) ∷ own) fit = each own fit.1
     each ((key, Some row) ∷ own) fit = (fit.0, each own fit.1)
 
--- a cell of the padded row
-pub padded-cell : (width : ℕ) (row : List Value) (c : ℕ) → c < width → cell_at (padded width row) c ≡ cell_at row c
-padded-cell width row c l = cell_at-get_or (padded width row) c ∙ get_or-map-range_with_len (cell_at row) 0 width c c Null l (omega arith)
-
-pub padded-again : (width : ℕ) (row : List Value) → padded width (padded width row) ≡ padded width row
-padded-again width row = sym (padded_itself width (padded width row) (length-map-range_with_len (cell_at row) 0 width))
-
 -- no begin is below the floor 0
 pub rows-raised : (width : ℕ) (entries : List (Key × List Value)) → map (begun_above 0) (map (direct_row width) entries) ≡ map (direct_row width) entries
 rows-raised width entries = map-map (direct_row width) (begun_above 0) (direct_row width) (λ entry. refl) entries
@@ -80,7 +74,7 @@ rows-raised width entries = map-map (direct_row width) (begun_above 0) (direct_r
 pub direct-fit : (schema : Schema) (own : List Edit) → All (FitsIn schema) own → All (λ (row : PackedRow). IsRowOf schema row.cells) (map (direct_row (length schema.columns)) (rows_given own))
 direct-fit schema own fit =
     All-map (λ (row : PackedRow). IsRowOf schema row.cells) (direct_row (length schema.columns)) (rows_given own)
-    (All-weaker (IsEntryOf schema) (λ (entry : Key × List Value). IsRowOf schema (padded (length schema.columns) entry.1)) (λ entry is. padded-fits schema entry.1 0 is.row) (rows_given own) (given-fit schema own fit))
+    (All-weaker (IsEntryOf schema) (λ (entry : Key × List Value). IsRowOf schema (padded (length schema.columns) entry.1)) (λ entry is. padded_fits schema entry.1 is.row) (rows_given own) (given-fit schema own fit))
 
 -- ---- which edit gives a row
 
@@ -113,7 +107,7 @@ module _ (schema : Schema) (is_schema : IsSchema schema) (own : List Edit) (fit 
   keys_made [] are = refl
   keys_made (entry ∷ entries) are =
       ap (λ (key : Key). key ∷ map (λ (row : PackedRow). key_in schema.key row.cells) (map (direct_row width) entries))
-      (ap (λ (cell : Value). let key : Key = record { 0 = number_in cell } in key) (padded-cell width entry.1 schema.key is_schema.key_there) ∙ are.0.key)
+      (padded_key width entry.1 schema.key is_schema.key_there ∙ are.0.under)
       ∙ ap (λ (keys : List Key). entry.0 ∷ keys) (keys_made entries are.1)
 
   pub direct-keys : IsPermutation (inserted_by own) (packed_keys group)
@@ -131,9 +125,9 @@ module _ (schema : Schema) (is_schema : IsSchema schema) (own : List Edit) (fit 
   given-padded : (entry : Key × List Value) → IsGiven width own entry → IsEntryOf schema entry → IsGiven width own (key_in group.key (padded width entry.1), padded width entry.1)
   given-padded entry (k, edit, within, at, is) fits =
       let key : entry.0 ≡ key_in group.key (padded width entry.1) =
-      sym fits.key ∙ sym (ap (λ (cell : Value). let key : Key = record { 0 = number_in cell } in key) (padded-cell width entry.1 schema.key is_schema.key_there))
+      sym fits.under ∙ sym (padded_key width entry.1 schema.key is_schema.key_there)
       ∙ ap (λ (column : ℕ). key_in column (padded width entry.1)) (sym made.key) in
-      (k, edit, within, at, (is.0 ∙ key, is.1 ∙ ap (λ (row : List Value). Some row) (sym (padded-again width entry.1))))
+      (k, edit, within, at, (is.0 ∙ key, is.1 ∙ ap (λ (row : List Value). Some row) (sym (padded_again width entry.1))))
 
   abbrev entry_of : PackedRow → Key × List Value
   entry_of row = (key_in group.key row.cells, row.cells)

@@ -7,7 +7,7 @@ use Rattle.std.proofs.lemmas.List.{append-nil, append_assoc, get_or-map, length-
 use Rattle.std.proofs.lemmas.List.Concat.{flat_map-append}
 use Rattle.std.proofs.lemmas.List.Elements.{All-push, All-weaker, recursion_from_All, filter-append, filter_more}
 use Rattle.std.proofs.lemmas.Option.{same_Some}
-use Rattle.row_group.specs.Rows.{PackedRow, padded}
+use Rattle.row_group.specs.Rows.{PackedRow, padded_row}
 use Rattle.row_group.specs.Groups.{Group, row_at}
 use Rattle.row_group.specs.Packings.{Packing, padded_at}
 use Rattle.row_group.proofs.ShownLemmas.{map-map}
@@ -117,9 +117,9 @@ packed-same width group marks position there =
     sym (ap (packed_row width) read)
 
 pub stored-same : (width : ℕ) (store : List KeyedVersion) (position : ℕ) (stored : Stored) → option_map (λ (v : KeyedVersion). v.version) (slice_get store position) ≡ Some stored
-    → padded width stored.row stored.begin ≡ packed_row width (rowed_at (stored_versions store) position)
+    → padded_row width stored.row stored.begin ≡ packed_row width (rowed_at (stored_versions store) position)
 stored-same width [] position stored is = cc
-stored-same width (first ∷ store) zero stored is = ap (λ (v : Stored). padded width v.row v.begin) (sym (same_Some first.version stored is))
+stored-same width (first ∷ store) zero stored is = ap (λ (v : Stored). padded_row width v.row v.begin) (sym (same_Some first.version stored is))
 stored-same width (first ∷ store) (suc position) stored is = stored-same width store position stored is
 
 pub positions-within : (group : Group) (marks : List (Option MarkedEnd)) (positions : List ℕ) → All (λ (position : ℕ). position < length (packed_versions group.key group.rows marks)) positions → All (λ (position : ℕ). position < length group.rows) positions

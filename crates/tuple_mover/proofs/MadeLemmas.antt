@@ -8,11 +8,9 @@ use Rattle.std.proofs.lemmas.List.{length-map, get_or-map, get_or_default, same_
 use Rattle.std.proofs.lemmas.List.Elements.{All-map, All-weaker, All-filter, Contains-append_cases, Contains-append_left, Contains-append_right, Contains-get_or}
 use Rattle.std.proofs.lemmas.List.Sorted.{IsPermutation-sym, length_permutation}
 use Rattle.std.proofs.lemmas.Option.{same_Some}
-use Rattle.cs_types.specs.declared.Key.{Key}
 use Rattle.cs_types.specs.declared.Schema.{Schema}
-use Rattle.cs_types.specs.declared.Value.{Value}
-use Rattle.cs_types.specs.Rows.{key_in, number_in}
-use Rattle.cs_types.specs.Schemas.{IsSchema, IsRowOf}
+use Rattle.cs_types.specs.Rows.{padded}
+use Rattle.cs_types.specs.Schemas.{IsRowOf}
 use Rattle.delete_bitmap.specs.declared.MarkedEnd.{MarkedEnd}
 use Rattle.delete_bitmap.specs.declared.MarkedEnd.TheVariants.{Stamped}
 use Rattle.delete_bitmap.specs.Marks.{end_at}
@@ -22,14 +20,13 @@ use Rattle.row_group.specs.Packings.{StandAt}
 use Rattle.group_book.specs.Book.{End}
 use Rattle.group_book.specs.Book.End.{At, Plain}
 use Rattle.group_book.specs.Turns.{raised}
-use Rattle.group_view.specs.Parts.{Rowed, padded, end_of_mark, packed_version, packed_versions}
+use Rattle.group_view.specs.Parts.{Rowed, end_of_mark, packed_version, packed_versions}
 use Rattle.group_view.specs.declared.claim.Claim.{Claim}
 use Rattle.group_view.specs.Views.{buffer_of, rowed_of}
 use Rattle.group_view.specs.Claims.{padded_rowed, kept_rowed, IsLentRow, IsMendable, IsPackedFor}
 use Rattle.group_view.proofs.Versions.{length-packed_versions, packed_read}
 use Rattle.tuple_mover.specs.declared.kept.Kept.{Kept}
 use Rattle.tuple_mover.specs.Kept.{is_left_out, kept_of, HasKept, rowed_at, packed_row, number_of, placed_end, placed_ends, AreMarkedAt}
-use Rattle.tuple_mover.proofs.InsertLemmas.{padded-cell}
 use Rattle.tuple_mover.proofs.KeptLemmas.{rowed-read}
 use Rattle.tuple_mover.proofs.GroupLemmas.{all-taken}
 use Rattle.tuple_mover.proofs.PlaceLemmas.{Place}
@@ -103,18 +100,15 @@ pub placed-within : (rowed : List Rowed) → All (λ (end : Place). end.0 < leng
 placed-within rowed = λ k d l. let (i, there, place, end) = placed-of 0 rowed (get_or (placed_ends 0 rowed) k d) (Contains-get_or (placed_ends 0 rowed) k d l) in omega (arith, there, place)
 
 -- one version in the new group
-one_made : (schema : Schema) → IsSchema schema → (floor : ℕ) (rowed : Rowed) → IsKeptRow schema rowed
+one_made : (schema : Schema) (floor : ℕ) (rowed : Rowed) → IsKeptRow schema rowed
     → packed_version schema.key (begun_above floor (packed_row (length schema.columns) rowed)) (mark_of (number_of rowed.version.end)) ≡ padded_rowed (length schema.columns) (raised_rowed floor rowed)
-one_made schema is_schema floor rowed kept =
-    let width = length schema.columns in
-    let key : key_in schema.key (padded width rowed.row) ≡ rowed.version.key =
-    ap (λ (cell : Value). let key : Key = record { 0 = number_in cell } in key) (padded-cell width rowed.row schema.key is_schema.key_there) ∙ kept.lent.key in
+one_made schema floor rowed kept =
     (λ i. record {
-      version = record { key = key i; begin = begin_raised floor rowed.version.begin i; end = end_marked rowed.version.end kept.numbered i };
-      row = padded width rowed.row;
+      version = record { key = kept.lent.under i; begin = begin_raised floor rowed.version.begin i; end = end_marked rowed.version.end kept.numbered i };
+      row = padded (length schema.columns) rowed.row;
     })
 
-module _ (schema : Schema) (is_schema : IsSchema schema) (floor : ℕ) (rowed : List Rowed) (kept : All (IsKeptRow schema) rowed) where
+module _ (schema : Schema) (floor : ℕ) (rowed : List Rowed) (kept : All (IsKeptRow schema) rowed) where
   abbrev width : ℕ
   width = length schema.columns
 
@@ -177,7 +171,7 @@ module _ (schema : Schema) (is_schema : IsSchema schema) (floor : ℕ) (rowed : 
           let mark_there = mark_placed k there ∙ ap (λ (v : Rowed). mark_of (number_of v.version.end)) (get_or_default rowed k (rowed_at [] 0) d (omega (arith, there, as_many))) in
           rowed-read (packed_versions group.key group.rows marks) p (packed_version group.key (row_at group p) (end_at marks p)) (packed_read group marks p within)
           ∙ (λ i. packed_version (holds.key i) (row_placed k d there i) (mark_there i))
-          ∙ one_made schema is_schema floor version (kept k d (omega (arith, there, as_many)))
+          ∙ one_made schema floor version (kept k d (omega (arith, there, as_many)))
 
       pub made-of : IsPermutation (map (padded_rowed width) (map (raised_rowed floor) rowed)) (packed_versions group.key group.rows marks)
       made-of =
@@ -230,7 +224,7 @@ module _ (claim : Claim) (is : IsMendable claim) where
 
   module _ (kept : Kept) (had : HasKept (length table.columns) left kept) where
     pub left-fit : All (λ (row : PackedRow). IsRowOf table row.cells) kept.packer.rows
-    left-fit = subst (λ (rows : List PackedRow). All (λ (row : PackedRow). IsRowOf table row.cells) rows) (sym had.rows) (rows-fit table is.schema claim.floor left left-rows)
+    left-fit = subst (λ (rows : List PackedRow). All (λ (row : PackedRow). IsRowOf table row.cells) rows) (sym had.rows) (rows-fit table claim.floor left left-rows)
 
     pub none-left : kept.packer.rows ≡ [] → kept_rowed claim ≡ []
     none-left none = sym left-is ∙ ap (map (raised_rowed claim.floor)) (unmapped left (sym had.rows ∙ none))
@@ -263,12 +257,12 @@ module _ (claim : Claim) (is : IsMendable claim) where
           (All-weaker (λ (end : Place). end.0 < length left) (λ (end : Place). end.0 < length positions) (λ end below. omega (arith, below, as_left)) (placed_ends 0 left) (placed-within left))
 
       pub left-within : All (λ (position : ℕ). position < length positions) positions
-      left-within = places-within table is.schema claim.floor left left-rows group holds_left positions stand_left
+      left-within = places-within table claim.floor left left-rows group holds_left positions stand_left
 
       pub made-group : (marks : List (Option MarkedEnd)) → AreMarkedAt kept.ends.items positions marks → (kept.packer.rows ≡ [] → ⊥) → IsMade claim group marks
       made-group marks are some =
           let are_left = subst (λ (ends : List Place). AreMarkedAt ends positions marks) had.ends are in
-          let made = made-of table is.schema claim.floor left left-rows group holds_left positions stand_left marks are_left in
+          let made = made-of table claim.floor left left-rows group holds_left positions stand_left marks are_left in
           let rows = length_permutation (map (begun_above claim.floor) kept.packer.rows) group.rows holds.rows in (
             subst (λ (kept : List Rowed). IsPermutation (map (padded_rowed (length table.columns)) kept) (packed_versions group.key group.rows marks)) left-is made,
             some-left some,

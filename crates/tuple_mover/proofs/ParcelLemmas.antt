@@ -20,8 +20,8 @@ use Rattle.group_book.specs.Commits.{Sizes, direct_parts, inserted_by}
 use Rattle.group_view.specs.declared.claim.Parcel.{Parcel}
 use Rattle.group_view.specs.Parts.{IsPackedGroup}
 use Rattle.group_view.specs.Parcels.{HasOneBegin, packed_keys, packed_rows, parcel_rows, IsGiven, IsParcelFor}
-use Rattle.tuple_mover.specs.Inserts.{rows_given, FitsIn, IsDirectOf, IsEntryOf}
-use Rattle.tuple_mover.proofs.InsertLemmas.{given-keys, inserted-append, given-fit, given-itself, given-left, given-right, direct-keys, direct-begun, direct-given}
+use Rattle.tuple_mover.specs.Inserts.{rows_given, FitsIn, IsDirectOf}
+use Rattle.tuple_mover.proofs.InsertLemmas.{given-keys, inserted-append, given-fit, given-itself, given-left, given-right, direct-keys, direct-begun, direct-given, IsEntryOf}
 
 abbrev Parts : Type 0
 Parts = List (List Key) × List Key

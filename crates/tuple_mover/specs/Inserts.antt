@@ -1,5 +1,5 @@
 -- The rows that own writes insert, and rows that come by columns.
-use Rattle.std.specs.Prelude.{◌≡◌, ℕ, ℤ, List, map, length, All, Option, IfSome}
+use Rattle.std.specs.Prelude.{◌≡◌, ℕ, ℤ, List, map, length, All, Option}
 use Rattle.std.specs.List.{flat_map}
 use Rattle.std.specs.Option.{option_map, option_to_list}
 use Rattle.std.specs.declared.alloc.Global.{Global}
@@ -10,27 +10,23 @@ use Rattle.cs_types.specs.declared.Value.{Value}
 use Rattle.cs_types.specs.Rows.{key_in}
 use Rattle.cs_types.specs.Schemas.{IsRowOf}
 use Rattle.cs_model.specs.Changes.{Edit}
+use Rattle.cs_model.specs.Held.{MayStand}
 use Rattle.batch_compute.specs.Columns.{AreColumnsOf}
 use Rattle.row_group.specs.declared.packed.Packed.{Packed}
-use Rattle.row_group.specs.Rows.{PackedRow, padded}
+use Rattle.row_group.specs.Rows.{PackedRow, padded_row}
 use Rattle.row_group.specs.Groups.{HoldsRows}
 
 -- the rows that edits give, with their keys
 abbrev pub rows_given : List Edit → List (Key × List Value)
 rows_given edits = flat_map (λ (edit : Edit). option_to_list (option_map (λ (row : List Value). (edit.0, row)) edit.1)) edits
 
--- a row of the schema, with its key in the key's column
-pub record IsEntryOf (schema : Schema) (entry : Key × List Value) : Type 0 where
-  pub row : IsRowOf schema entry.1
-  pub key : key_in schema.key entry.1 ≡ entry.0
-
--- where the edit gives its key a row, this is one of the schema
+-- where the edit gives its key a row, this is one of the table under the key
 abbrev pub FitsIn : Schema → Edit → Type 0
-FitsIn schema edit = IfSome edit.1 (λ (row : List Value). IsEntryOf schema (edit.0, row))
+FitsIn schema edit = MayStand schema edit.0 edit.1
 
 -- a row of a direct group: its cells in so many columns, with begin 0
 abbrev pub direct_row : ℕ → Key × List Value → PackedRow
-direct_row width entry = padded width entry.1 0
+direct_row width entry = padded_row width entry.1 0
 
 -- the group has the rows that the edits give, with base 0
 abbrev pub IsDirectOf : Schema → List Edit → Packed → Type 0

@@ -3,7 +3,7 @@ use Rattle.std.specs.Prelude.{◌≡◌, ℕ, pos, ◌+◌, ◌<◌, List, [], �
 use Rattle.delete_bitmap.specs.declared.MarkedEnd.{MarkedEnd}
 use Rattle.delete_bitmap.specs.declared.MarkedEnd.TheVariants.{Stamped}
 use Rattle.delete_bitmap.specs.Marks.{end_at}
-use Rattle.row_group.specs.Rows.{PackedRow, padded}
+use Rattle.row_group.specs.Rows.{PackedRow, padded_row}
 use Rattle.group_book.specs.Book.{End, Version, Ending, has_ended, is_buffered}
 use Rattle.group_book.specs.Book.End.{At, Plain}
 use Rattle.group_view.specs.Parts.{Rowed}
@@ -27,7 +27,7 @@ pub record StandIn (rowed kept : List Rowed) (positions : List ℕ) : Type 0 whe
 
 -- a version's row on the way to a group of so many columns
 abbrev pub packed_row : ℕ → Rowed → PackedRow
-packed_row width rowed = padded width rowed.row rowed.version.begin
+packed_row width rowed = padded_row width rowed.row rowed.version.begin
 
 -- the number of a recorded end; a plain one has none
 abbrev pub number_of : Option End → Option ℕ

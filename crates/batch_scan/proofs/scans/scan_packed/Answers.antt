@@ -5,9 +5,10 @@ use Rattle.std.specs.Map.{values_of}
 use Rattle.std.specs.Option.{option_copied, option_map}
 use Rattle.std.proofs.lemmas.List.{append-nil, map-append, take_all, take_more}
 use Rattle.cs_types.specs.declared.Value.{Value}
+use Rattle.cs_types.specs.Rows.{padded}
 use Rattle.cs_model.specs.Queries.{keeps}
 use Rattle.row_group.specs.Groups.{row_at}
-use Rattle.group_view.specs.Parts.{Rowed, padded}
+use Rattle.group_view.specs.Parts.{Rowed}
 use Rattle.group_view.specs.Views.{version_at}
 use Rattle.batch_scan.specs.Reads.{read_row}
 use Rattle.batch_scan.proofs.Kept.{row_here, rows_at_positions, version_here}

@@ -1,5 +1,5 @@
 use Rattle.std.proofs.Common.{◌≡◌, ◌++◌, length, take, map}
-use Rattle.group_view.specs.Parts.{padded}
+use Rattle.cs_types.specs.Rows.{padded}
 use Rattle.row_group.specs.Groups.{row_at}
 use Rattle.batch_scan.proofs.scans.scan_packed.Given as goal
 

@@ -2,8 +2,9 @@ use Rattle.std.proofs.Common.{◌≡◌, ◌∙◌, ◌++◌, true, false, not, 
 use Rattle.std.specs.Prelude.{is_some}
 use Rattle.std.specs.Option.{option_and_then, option_copied, option_map}
 use Rattle.std.proofs.lemmas.List.{append-nil}
+use Rattle.cs_types.specs.Rows.{padded}
 use Rattle.cs_model.specs.Queries.{keeps}
-use Rattle.group_view.specs.Parts.{Rowed, padded}
+use Rattle.group_view.specs.Parts.{Rowed}
 use Rattle.group_view.specs.Views.{version_at}
 use Rattle.batch_scan.specs.Reads.{read_key}
 use Rattle.batch_scan.proofs.Stored.{kept_stored, unkept, unread}

@@ -1,5 +1,5 @@
 use Rattle.std.proofs.Common.{arith}
-use Rattle.group_view.proofs.Versions.{padded_itself}
+use Rattle.cs_types.proofs.PaddedLemmas.{padded_itself}
 use Rattle.group_view.proofs.rows.widened.Goals as goal
 
 pub returns-then-len-width : goal.returns-then-len-width

@@ -1,7 +1,7 @@
 use Rattle.std.proofs.Common.{List, [], ◌∷◌, ◌++◌, ◌∙◌, sym, ap}
 use Rattle.cs_types.specs.declared.Value.{Value}
-use Rattle.group_view.specs.Parts.{padded}
-use Rattle.group_view.proofs.Versions.{padded_more}
+use Rattle.cs_types.specs.Rows.{padded}
+use Rattle.cs_types.proofs.PaddedLemmas.{padded_more}
 use Rattle.group_view.proofs.rows.with_width.Goals as goal
 
 pub loop-column-preserved : goal.loop-column-preserved

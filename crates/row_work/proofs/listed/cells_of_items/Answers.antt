@@ -3,9 +3,9 @@ use Rattle.std.specs.List.{All}
 use Rattle.std.proofs.Math.Nat.{le-max_left, le-max_right, max-le}
 use Rattle.std.proofs.lemmas.List.{take_all}
 use Rattle.std.proofs.lemmas.List.Elements.{All-more}
+use Rattle.cs_types.specs.Rows.{padded}
 use Rattle.cs_model.specs.declared.plan.Item.{Item}
 use Rattle.batch_aggregate.specs.Tallies.{tally_of}
-use Rattle.group_view.specs.Parts.{padded}
 use Rattle.row_work.proofs.Narrow.{same_each}
 use Rattle.row_work.proofs.listed.cells_of_items.Goals as goal
 

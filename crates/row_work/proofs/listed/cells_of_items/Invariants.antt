@@ -1,9 +1,9 @@
 use Rattle.std.proofs.Common.{◌≡◌, ◌≤◌, ℕ, List, map, take}
 use Rattle.std.specs.List.{All}
 use Rattle.cs_types.specs.declared.Value.{Value}
+use Rattle.cs_types.specs.Rows.{padded}
 use Rattle.cs_model.specs.declared.plan.Item.{Item}
 use Rattle.batch_aggregate.specs.Tallies.{tally_of}
-use Rattle.group_view.specs.Parts.{padded}
 use Rattle.row_work.proofs.listed.cells_of_items.Given as goal
 
 abbrev pub invariant-loop-item : goal.invariant-loop-item

@@ -1,8 +1,8 @@
 use Rattle.std.proofs.Common.{List, [], ◌∷◌, ◌++◌, ◌∙◌, sym, ap}
 use Rattle.cs_types.specs.declared.Value.{Value}
+use Rattle.cs_types.specs.Rows.{padded}
+use Rattle.cs_types.proofs.PaddedLemmas.{padded_more}
 use Rattle.row_group.specs.Groups.{row_at}
-use Rattle.group_view.specs.Parts.{padded}
-use Rattle.group_view.proofs.Versions.{padded_more}
 use Rattle.row_work.proofs.reading.packed_row.Goals as goal
 
 pub loop-column-preserved : goal.loop-column-preserved

@@ -1,7 +1,7 @@
 use Rattle.std.proofs.Common.{◌∙◌, sym, ap}
 use Rattle.std.specs.Prelude.{Some}
 use Rattle.std.proofs.lemmas.Result.{IfOk-weaker}
-use Rattle.group_view.specs.Parts.{padded}
+use Rattle.cs_types.specs.Rows.{padded}
 use Rattle.group_view.proofs.Versions.{packed_row, packed_within, stored_row}
 use Rattle.group_view.proofs.parts.GroupPart.row.Goals as goal
 

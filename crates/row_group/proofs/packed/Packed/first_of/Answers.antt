@@ -4,7 +4,6 @@ use Rattle.row_group.proofs.packed.Packed.first_of.Goals as goal
 
 pub returns-in-Less : goal.returns-in-Less
 returns-in-Less c = record {
-  ordered = omega arith;
   within = omega arith;
   before = λ i l. absurd (omega (arith, l));
   after = λ i _ l. ap (precedes c.args.tied) (c.in-Less.ensures i l);
@@ -15,7 +14,6 @@ returns-in-Greater c =
     let group = c.args.self.now in
     let last : length group.places ≡ length c.places-end.result.now = sym (ap length c.places-end.ensures.value) in
     subst (IsFirstPlace group c.args.key c.args.tied) last (record {
-      ordered = omega arith;
       within = omega arith;
       before = λ i l. ap (precedes c.args.tied) (c.in-Greater.ensures i l);
       after = λ i m l. absurd (omega (arith, m, l));

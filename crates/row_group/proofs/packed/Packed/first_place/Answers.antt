@@ -19,7 +19,6 @@ loop-low-preserved c = record {
 
 pub returns : goal.returns
 returns c = record {
-  ordered = omega arith;
   within = omega (arith, c.loop-low.invariant.ordered, c.loop-low.invariant.within);
   before = c.loop-low.invariant.before;
   after = λ i l m. c.loop-low.invariant.after i (omega arith) m;

@@ -1,9 +1,7 @@
 use Rattle.std.proofs.Common.{◌<◌, length, arith, subst}
 use Rattle.std.proofs.lemmas.List.{get_or_read}
-use Rattle.cs_types.specs.Keys.{key_cmp}
-use Rattle.row_group.specs.Orders.{IsOrderOf}
-use Rattle.row_group.specs.Groups.{Group, keys_of}
-use Rattle.row_group.proofs.GroupLemmas.{place-within, by_key}
+use Rattle.row_group.specs.Groups.{Group, AreByKey}
+use Rattle.row_group.proofs.GroupLemmas.{place-within}
 use Rattle.row_group.proofs.ShownLemmas.{group_of}
 use Rattle.row_group.proofs.packed.Packed.place.Goals as goal
 
@@ -17,5 +15,4 @@ returns-clause-within c =
     c.requires
 
 pub returns-clause-by_key : goal.returns-clause-by_key
-returns-clause-by_key c =
-    by_key c.args.self.now (subst (λ (group : Group). IsOrderOf key_cmp (keys_of group.key group.rows) group.places) c.self.view_is c.self.invariant.by_key)
+returns-clause-by_key c = subst AreByKey c.self.view_is c.self.invariant.by_key

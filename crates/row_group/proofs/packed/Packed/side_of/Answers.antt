@@ -1,11 +1,9 @@
 use Rattle.std.proofs.Common.{ℕ, Bool, ap, subst}
 use Rattle.cs_types.specs.declared.Value.{Value}
 use Rattle.cs_types.specs.declared.Value.TheVariants.{Number}
-use Rattle.cs_types.specs.Keys.{key_cmp}
 use Rattle.column_segment.specs.Segments.{IsSegmentOf}
-use Rattle.row_group.specs.Orders.{IsOrderOf}
 use Rattle.row_group.specs.Rows.{column_of}
-use Rattle.row_group.specs.Groups.{Group, keys_of}
+use Rattle.row_group.specs.Groups.{Group, AreByKey}
 use Rattle.row_group.proofs.GroupLemmas.{place-within}
 use Rattle.row_group.proofs.SideLemmas.{side-shown}
 use Rattle.row_group.proofs.packed.Packed.side_of.Goals as goal
@@ -13,7 +11,7 @@ use Rattle.row_group.proofs.packed.Packed.side_of.Goals as goal
 pub returns-in-Some : goal.returns-in-Some
 returns-in-Some c =
     let group = c.args.self.now in
-    let by_key = subst (λ (group : Group). IsOrderOf key_cmp (keys_of group.key group.rows) group.places) c.self.view_is c.self.invariant.by_key in
+    let by_key = subst AreByKey c.self.view_is c.self.invariant.by_key in
     let s = c.segment.result.now in
     let bounds = c.in-Some.bounds in
     let key = subst (λ (k : ℕ). IsSegmentOf (column_of group.rows k) s.length s.body s.least s.greatest s.nulls) (ap (λ (group : Group). group.key) c.self.view_is) c.segment.ensures.cells in
