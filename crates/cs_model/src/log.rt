@@ -1,5 +1,5 @@
 // The text of a log.
-ghost use Rattle.std.specs.Prelude.{◌≡◌, ◌+◌, ◌<◌, ◌^◌, ℕ, All, IfOk, OnOk};
+ghost use Rattle.std.specs.Prelude.{◌≡◌, ◌+◌, ◌<◌, ◌^◌, ℕ, length, All, IfOk, OnOk};
 ghost use Rattle.cs_model.specs.Actors.{number_of, actor_of};
 ghost use Rattle.cs_model.specs.State.{begin_of};
 ghost use Rattle.cs_model.specs.Text.{text, IsPrintableEntry};
@@ -8,31 +8,41 @@ ghost use Rattle.cs_model.specs.Places.{place_in, start_added};
 use crate::entry::Entry;
 use crate::print::append_entry;
 use crate::work::Actor;
-use cs_base::Memory;
+use cs_base::{Items, Memory};
 use cs_types::{Line, Schema};
 use std::alloc::Global;
-use std::collections::BTreeMap;
 
-/// How many statements each actor began, by its number.
-type Places = BTreeMap<u64, u64>;
+/// How many statements each actor began: its count stands at the place of its number, and it has begun none past the end.
+type Places = Items<u64>;
 
 /// How many statements an actor began.
-fn place_of(places: &Places, actor: u64) -> u64
+fn place_of(places: &Places, actor: usize) -> u64
     ensures { result ≡ place_in places.now actor }
 {
-    match places.get(&actor) {
+    match places.get(actor) {
         Some(place) => *place,
         None => 0,
     }
 }
 
+/// Gives each session up to this one a place. No count changes.
+fn reach(places: &mut Places, session: u32) -> Result<(), Memory>
+    ensures long { OnOk result (session < length places.new) }
+    ensures counts { OnOk result ((actor : ℕ) → place_in places.new actor ≡ place_in places.old actor) }
+{
+    for _ in places.len()..session as usize + 1 {
+        places.push(0)?;
+    }
+    Ok(())
+}
+
 /// The number of an actor: that of a session, or 64 and that of a mover.
-fn number_of(actor: Actor) -> u64
+fn number_of(actor: Actor) -> usize
     ensures { result ≡ number_of actor }
 {
     match actor {
-        Actor::Session(number) => number as u64,
-        Actor::Mover(number) => 64 + number as u64,
+        Actor::Session(number) => number as usize,
+        Actor::Mover(number) => 64 + number as usize,
     }
 }
 
@@ -44,13 +54,14 @@ fn count(places: &mut Places, entry: &Entry) -> Result<u64, Memory>
 {
     match entry {
         Entry::Start { session, .. } => {
-            let session = *session as u64;
-            let place = place_of(places, session) + 1;
-            places.insert(session, place)?;
+            reach(places, *session)?;
+            let at = *session as usize;
+            let place = *places.at(at) + 1;
+            places.replace(at, place);
             Ok(place)
         }
-        Entry::Finish { session, .. } => Ok(place_of(places, *session as u64)),
-        Entry::End { session } => Ok(place_of(places, *session as u64)),
+        Entry::Finish { session, .. } => Ok(place_of(places, *session as usize)),
+        Entry::End { session } => Ok(place_of(places, *session as usize)),
         Entry::Mover { actor, .. } => Ok(place_of(places, number_of(*actor))),
     }
 }
@@ -62,7 +73,7 @@ pub fn print_log(alloc: Global, schema: &Schema, log: &[Entry]) -> Result<Line, 
     ensures { IfOk result (λ line. line ≡ text (begin_of schema.now) log.now) }
 {
     let mut line = Line::new(alloc);
-    let mut places = BTreeMap::new(alloc);
+    let mut places = Items::new(alloc);
     for (i, entry) in log.iter().enumerate() {
         let place = count(&mut places, entry)?;
         append_entry(schema, i as u64 + 1, place, entry, &mut line)?;
