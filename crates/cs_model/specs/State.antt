@@ -12,10 +12,11 @@ pub record Txn : Type 0 where
   pub snapshot : Option ℕ
   pub own : List Edit
 
--- a statement that was started and not finished; short says that its Start found no memory
+-- a statement that was started and not finished; short says that its Start found no memory, and note is what its Start noted
 pub record Half : Type 0 where
   pub bound : Bound
   pub short : Bool
+  pub note : ℕ
 
 -- all that replies depend on: the committed changes and the last commit number; by session the open transaction, the
 -- half-done statement and the setting of STATISTICS IO; and the next transaction number

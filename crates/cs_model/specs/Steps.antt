@@ -47,9 +47,17 @@ pinned m session short = record m {
   next = next_opened (m.txns session) m.next;
 }
 
+-- what the Start of a statement notes: 0, as no form has anything to note
+abbrev pub noted : Bound → State → ℕ
+noted b m = 0
+
+-- the half-done statement that a Start in this state makes
+abbrev pub half_of : State → Bound → Bool → Half
+half_of m b short = record { bound = b; short = short; note = noted b m }
+
 -- the state after a Start
 abbrev pub started : State → ℕ → Bound → Bool → State
-started m session b short = half_set (if is_of_table b then pinned m session short else m) session (Some (record { bound = b; short = short }))
+started m session b short = half_set (if is_of_table b then pinned m session short else m) session (Some (half_of m b short))
 
 -- ---- the reply of a Finish
 
@@ -133,21 +141,25 @@ abbrev pub done_in : Option Txn → ℕ → Reply
 done_in None number = reply.Refused (NoTxn number)
 done_in (Some txn) number = reply.Done
 
--- the reply that a statement is defined to have
-abbrev pub IsReply : Schema → State → ℕ → Bound → Reply → Type 0
-IsReply schema m session bound.Begin r = r ≡ begin_reply (m.txns session)
-IsReply schema m session bound.Commit r = r ≡ done_in (m.txns session) 3902
-IsReply schema m session bound.Rollback r = r ≡ done_in (m.txns session) 3903
-IsReply schema m session bound.Nothing r = r ≡ reply.Done
-IsReply schema m session (bound.Statistics on) r = r ≡ reply.Done
-IsReply schema m session (bound.Insert plan) r = IsWriteReply schema m session (m.txns session) (bound.Insert plan) r
-IsReply schema m session (bound.Update plan) r = IsWriteReply schema m session (m.txns session) (bound.Update plan) r
-IsReply schema m session (bound.Delete condition) r = IsWriteReply schema m session (m.txns session) (bound.Delete condition) r
-IsReply schema m session (bound.Select query) r = IsAnswerIn schema m session (m.txns session) query r
-IsReply schema m session bound.GroupReport r = IsGroups r
-IsReply schema m session bound.SegmentReport r = IsSegments r
-IsReply schema m session (bound.Reorganize all) r = IsLeft r
-IsReply schema m session (bound.Refused refusal) r = r ≡ reply.Refused refusal
+-- the reply that a statement is defined to have whose Start noted this
+abbrev pub IsReplyTo : Schema → State → ℕ → ℕ → Bound → Reply → Type 0
+IsReplyTo schema m session note bound.Begin r = r ≡ begin_reply (m.txns session)
+IsReplyTo schema m session note bound.Commit r = r ≡ done_in (m.txns session) 3902
+IsReplyTo schema m session note bound.Rollback r = r ≡ done_in (m.txns session) 3903
+IsReplyTo schema m session note bound.Nothing r = r ≡ reply.Done
+IsReplyTo schema m session note (bound.Statistics on) r = r ≡ reply.Done
+IsReplyTo schema m session note (bound.Insert plan) r = IsWriteReply schema m session (m.txns session) (bound.Insert plan) r
+IsReplyTo schema m session note (bound.Update plan) r = IsWriteReply schema m session (m.txns session) (bound.Update plan) r
+IsReplyTo schema m session note (bound.Delete condition) r = IsWriteReply schema m session (m.txns session) (bound.Delete condition) r
+IsReplyTo schema m session note (bound.Select query) r = IsAnswerIn schema m session (m.txns session) query r
+IsReplyTo schema m session note bound.GroupReport r = IsGroups r
+IsReplyTo schema m session note bound.SegmentReport r = IsSegments r
+IsReplyTo schema m session note (bound.Reorganize all) r = IsLeft r
+IsReplyTo schema m session note (bound.Refused refusal) r = r ≡ reply.Refused refusal
+
+-- the reply that a half-done statement is defined to have
+abbrev pub IsReply : Schema → State → ℕ → Half → Reply → Type 0
+IsReply schema m session half r = IsReplyTo schema m session half.note half.bound r
 
 -- ---- the state after a Finish
 
@@ -261,10 +273,10 @@ abbrev pub finished : Schema → State → ℕ → Bound → Reply → State
 finished schema m session b r = replied schema (rested m session) session b r
 
 -- for want of a group id: in the place of a reply after which something is committed, error 50001 at 1
-pub record IsOutOfIds (schema : Schema) (m : State) (session : ℕ) (b : Bound) (r : Reply) : Type 0 where
+pub record IsOutOfIds (schema : Schema) (m : State) (session : ℕ) (half : Half) (r : Reply) : Type 0 where
   pub given : Reply
-  pub is_reply : IsReply schema m session b given
-  pub commits : m.clock < (finished schema m session b given).clock
+  pub is_reply : IsReply schema m session half given
+  pub commits : m.clock < (finished schema m session half.bound given).clock
   pub refuses : r ≡ reply.Refused (Reading 50001 1)
 
 -- a Finish of the half-done statement: with the defined reply, or with want of a group id in its place; or, whatever was
@@ -272,7 +284,7 @@ pub record IsOutOfIds (schema : Schema) (m : State) (session : ℕ) (b : Bound) 
 abbrev pub IsFinish : Schema → State → ℕ → Option Half → Reply → State → Type 0
 IsFinish schema m session None r after = ⊥
 IsFinish schema m session (Some half) r after =
-    ((r ≡ reply.Refused Memory) ⊎ ((half.short ≡ false) × (IsReply schema m session half.bound r ⊎ IsOutOfIds schema m session half.bound r)))
+    ((r ≡ reply.Refused Memory) ⊎ ((half.short ≡ false) × (IsReply schema m session half r ⊎ IsOutOfIds schema m session half r)))
     × (after ≡ finished schema m session half.bound r)
 
 -- ---- the step

@@ -62,7 +62,7 @@ ShowsBook schema changes book (reply.Refused refusal) = Unit {0}
 abbrev pub IsFull : Ground → State → Book → ℕ → Option Half → Reply → Type 0
 IsFull origin m book session None r = Unit {0}
 IsFull origin m book session (Some half) r =
-    (out : IsOutOfIds (schema_now origin.begin m) m session half.bound r)
+    (out : IsOutOfIds (schema_now origin.begin m) m session half r)
     → draws_past book (book_with origin.sizes m (committed_edits m (finished (schema_now origin.begin m) m session half.bound out.given)) book) ≡ true
 
 -- what a Finish makes of the book: what it commits is committed in it; want of ids has its cause; a report shows it; and its session

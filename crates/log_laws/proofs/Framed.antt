@@ -15,7 +15,7 @@ use Rattle.cs_model.specs.Actors.{actor_of, begun_by}
 use Rattle.cs_model.specs.Changes.{Edit}
 use Rattle.cs_model.specs.State.{Txn, Half, State, Begin, schema_now, with, txn_set, half_set, statistics_set}
 use Rattle.cs_model.specs.Kinds.{is_of_table}
-use Rattle.cs_model.specs.Steps.{IsStep, IsFinish, pinned, next_opened, or_clock, fixed, txn_opened, staged, is_empty, committed, writes_in, wrote, began, unwound, accepted, replied, commits, gone, ends_txn, rested}
+use Rattle.cs_model.specs.Steps.{IsStep, IsFinish, half_of, pinned, next_opened, or_clock, fixed, txn_opened, staged, is_empty, committed, writes_in, wrote, began, unwound, accepted, replied, commits, gone, ends_txn, rested}
 use Rattle.log_laws.specs.Frames.{Acts, Frames, SnapIn, SnapAtMost, IsDrawn, Ticks}
 
 pub at_own : {A : Type 0} (f : ℕ → A) (s : ℕ) (x : A) → with f s x s ≡ x
@@ -192,10 +192,10 @@ acts_pinned m s short = acts_txn m s (Some (fixed (txn_opened (m.txns s) m.next)
 
 -- ---- the frames
 
-frames_start : (m x : State) (s : ℕ) (b : Arc Bound Global) (short : Bool) → Acts m s x → Frames m (Start s b short) (half_set x s (Some (record { bound = b.value; short = short })))
-frames_start m x s b short a = record {
-  half = ap is_some (at_own x.half s (Some (record { bound = b.value; short = short })));
-  halves = λ i e. at_other x.half s i (Some (record { bound = b.value; short = short })) e ∙ (λ k. a.half k i);
+frames_start : (m x : State) (s : ℕ) (b : Arc Bound Global) (short : Bool) (half : Half) → Acts m s x → Frames m (Start s b short) (half_set x s (Some half))
+frames_start m x s b short half a = record {
+  half = ap is_some (at_own x.half s (Some half));
+  halves = λ i e. at_other x.half s i (Some half) e ∙ (λ k. a.half k i);
   statistics = a.statistics;
   txns = a.txns;
   txn = a.txn;
@@ -265,7 +265,7 @@ frames_mover m e same = record {
 }
 
 pub framed : (begin : Begin) (m : State) (e : Entry) (after : State) → IsStep begin m e after → Frames m e after
-framed begin m (Start s b short) after x = subst (λ z. Frames m (Start s b short) z) (sym x.2) (frames_start m _ s b short (acts_if m s _ _ (is_of_table b.value) (acts_pinned m s short) (acts_same m s)))
+framed begin m (Start s b short) after x = subst (λ z. Frames m (Start s b short) z) (sym x.2) (frames_start m _ s b short (half_of m b.value short) (acts_if m s _ _ (is_of_table b.value) (acts_pinned m s short) (acts_same m s)))
 framed begin m (Finish s r) after x = finish_framed (schema_now begin m) m s (m.half s) r after x
 framed begin m (End s) after x = subst (λ z. Frames m (End s) z) (sym x.1) (frames_end m s x.0)
 framed begin m (Mover actor work) after x = subst (λ z. Frames m (Mover actor work) z) (sym x) (frames_mover m (Mover actor work) refl)

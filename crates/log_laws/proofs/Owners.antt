@@ -27,7 +27,7 @@ use Rattle.cs_model.specs.Actors.{actor_of}
 use Rattle.cs_model.specs.Kinds.{is_of_table}
 use Rattle.cs_model.specs.Answers.{writes}
 use Rattle.cs_model.specs.Obstacles.{owns, is_above, IsFree, keys_of}
-use Rattle.cs_model.specs.Steps.{IsStep, IsFinish, IsReply, IsOutOfIds, IsWriteReply, IsWriteReplyOf, staged, writes_in, edits_in, wrote, began, unwound, accepted, refused, replied, rested, pinned, next_opened, fixed, txn_opened, commits, committed, is_empty, gone, ends_txn}
+use Rattle.cs_model.specs.Steps.{IsStep, IsFinish, IsReply, IsReplyTo, IsOutOfIds, IsWriteReply, IsWriteReplyOf, staged, writes_in, edits_in, wrote, began, unwound, accepted, refused, replied, rested, pinned, next_opened, fixed, txn_opened, commits, committed, is_empty, gone, ends_txn}
 use Rattle.log_laws.specs.Laws.{AreOwners}
 use Rattle.log_laws.proofs.Framed.{framed, at_own}
 
@@ -191,46 +191,47 @@ freed : (schema : Schema) (m : State) (s : ℕ) (o : Option Txn) (b : Bound) (r 
 freed schema m s o b r not h = λ k d lt. (cleared schema m s o b r not h k d lt).0
 
 -- a refusal, or the reply that is defined
-abbrev pub IsDefined : Schema → State → ℕ → Bound → Reply → Type 0
-IsDefined schema m s b r = IsRefused r ⊎ IsReply schema m s b r
+abbrev pub IsDefined : Schema → State → ℕ → ℕ → Bound → Reply → Type 0
+IsDefined schema m s note b r = IsRefused r ⊎ IsReplyTo schema m s note b r
 
-owned_accepted : (schema : Schema) (m : State) (s : ℕ) (b : Bound) (r : Reply) → IsAccepted r → IsDefined schema m s b r → Owned m s (accepted schema (rested m s) s b)
-owned_accepted schema m s bound.Begin r not h = owned_began (rested m s) s (m.txns s) refl
-owned_accepted schema m s bound.Commit r not h = owned_unwound (rested m s) s (m.txns s) refl
-owned_accepted schema m s bound.Rollback r not h = owned_rolled (rested m s) s
-owned_accepted schema m s bound.Nothing r not h = owned_same m s
-owned_accepted schema m s (bound.Statistics on) r not h = owned_same m s
-owned_accepted schema m s (bound.Insert plan) r not h = owned_wrote (rested m s) s (m.txns s) (writes_in schema m.changes (m.txns s) (bound.Insert plan)) refl (freed schema m s (m.txns s) (bound.Insert plan) r not h)
-owned_accepted schema m s (bound.Update plan) r not h = owned_wrote (rested m s) s (m.txns s) (writes_in schema m.changes (m.txns s) (bound.Update plan)) refl (freed schema m s (m.txns s) (bound.Update plan) r not h)
-owned_accepted schema m s (bound.Delete condition) r not h =
+owned_accepted : (schema : Schema) (m : State) (s note : ℕ) (b : Bound) (r : Reply) → IsAccepted r → IsDefined schema m s note b r → Owned m s (accepted schema (rested m s) s b)
+owned_accepted schema m s note bound.Begin r not h = owned_began (rested m s) s (m.txns s) refl
+owned_accepted schema m s note bound.Commit r not h = owned_unwound (rested m s) s (m.txns s) refl
+owned_accepted schema m s note bound.Rollback r not h = owned_rolled (rested m s) s
+owned_accepted schema m s note bound.Nothing r not h = owned_same m s
+owned_accepted schema m s note (bound.Statistics on) r not h = owned_same m s
+owned_accepted schema m s note (bound.Insert plan) r not h = owned_wrote (rested m s) s (m.txns s) (writes_in schema m.changes (m.txns s) (bound.Insert plan)) refl (freed schema m s (m.txns s) (bound.Insert plan) r not h)
+owned_accepted schema m s note (bound.Update plan) r not h = owned_wrote (rested m s) s (m.txns s) (writes_in schema m.changes (m.txns s) (bound.Update plan)) refl (freed schema m s (m.txns s) (bound.Update plan) r not h)
+owned_accepted schema m s note (bound.Delete condition) r not h =
     owned_wrote (rested m s) s (m.txns s) (writes_in schema m.changes (m.txns s) (bound.Delete condition)) refl (freed schema m s (m.txns s) (bound.Delete condition) r not h)
-owned_accepted schema m s (bound.Select query) r not h = owned_wrote (rested m s) s (m.txns s) [] refl (no_keys (λ key. IsFree m.txns s key))
-owned_accepted schema m s bound.GroupReport r not h = owned_same m s
-owned_accepted schema m s bound.SegmentReport r not h = owned_same m s
-owned_accepted schema m s (bound.Reorganize all) r not h = owned_same m s
-owned_accepted schema m s (bound.Refused refusal) r not h = owned_same m s
+owned_accepted schema m s note (bound.Select query) r not h = owned_wrote (rested m s) s (m.txns s) [] refl (no_keys (λ key. IsFree m.txns s key))
+owned_accepted schema m s note bound.GroupReport r not h = owned_same m s
+owned_accepted schema m s note bound.SegmentReport r not h = owned_same m s
+owned_accepted schema m s note (bound.Reorganize all) r not h = owned_same m s
+owned_accepted schema m s note (bound.Refused refusal) r not h = owned_same m s
 
-owned_replied : (schema : Schema) (m : State) (s : ℕ) (b : Bound) (r : Reply) → IsDefined schema m s b r → Owned m s (replied schema (rested m s) s b r)
-owned_replied schema m s b reply.Done h = owned_accepted schema m s b reply.Done (λ refusal e. cc e) h
-owned_replied schema m s b (reply.Affected count) h = owned_accepted schema m s b (reply.Affected count) (λ refusal e. cc e) h
-owned_replied schema m s b (reply.Rows list segments) h = owned_accepted schema m s b (reply.Rows list segments) (λ refusal e. cc e) h
-owned_replied schema m s b (reply.Groups lines buffered) h = owned_accepted schema m s b (reply.Groups lines buffered) (λ refusal e. cc e) h
-owned_replied schema m s b (reply.Segments lines) h = owned_accepted schema m s b (reply.Segments lines) (λ refusal e. cc e) h
-owned_replied schema m s b (reply.Left groups) h = owned_accepted schema m s b (reply.Left groups) (λ refusal e. cc e) h
-owned_replied schema m s b (reply.Refused refusal) h = owned_refused (rested m s) s refusal
+owned_replied : (schema : Schema) (m : State) (s note : ℕ) (b : Bound) (r : Reply) → IsDefined schema m s note b r → Owned m s (replied schema (rested m s) s b r)
+owned_replied schema m s note b reply.Done h = owned_accepted schema m s note b reply.Done (λ refusal e. cc e) h
+owned_replied schema m s note b (reply.Affected count) h = owned_accepted schema m s note b (reply.Affected count) (λ refusal e. cc e) h
+owned_replied schema m s note b (reply.Rows list segments) h = owned_accepted schema m s note b (reply.Rows list segments) (λ refusal e. cc e) h
+owned_replied schema m s note b (reply.Groups lines buffered) h = owned_accepted schema m s note b (reply.Groups lines buffered) (λ refusal e. cc e) h
+owned_replied schema m s note b (reply.Segments lines) h = owned_accepted schema m s note b (reply.Segments lines) (λ refusal e. cc e) h
+owned_replied schema m s note b (reply.Left groups) h = owned_accepted schema m s note b (reply.Left groups) (λ refusal e. cc e) h
+owned_replied schema m s note b (reply.Refused refusal) h = owned_refused (rested m s) s refusal
 
 -- want of memory and want of a group id are refusals
-pub defined_of : (schema : Schema) (m : State) (s : ℕ) (b : Bound) (r : Reply) (short : Bool) → (r ≡ reply.Refused Memory) ⊎ ((short ≡ false) × (IsReply schema m s b r ⊎ IsOutOfIds schema m s b r)) → IsDefined schema m s b r
-defined_of schema m s b r short (inl e) = inl (Memory, e)
-defined_of schema m s b r short (inr h) = at h.1
+pub defined_of : (schema : Schema) (m : State) (s : ℕ) (half : Half) (r : Reply) → (r ≡ reply.Refused Memory) ⊎ ((half.short ≡ false) × (IsReply schema m s half r ⊎ IsOutOfIds schema m s half r))
+    → IsDefined schema m s half.note half.bound r
+defined_of schema m s half r (inl e) = inl (Memory, e)
+defined_of schema m s half r (inr h) = at h.1
   where
-    at : IsReply schema m s b r ⊎ IsOutOfIds schema m s b r → IsDefined schema m s b r
+    at : IsReply schema m s half r ⊎ IsOutOfIds schema m s half r → IsDefined schema m s half.note half.bound r
     at (inl given) = inr given
     at (inr out) = inl (Reading 50001 1, out.refuses)
 
 owned_finish : (schema : Schema) (m : State) (s : ℕ) (h : Option Half) (r : Reply) (after : State) → IsFinish schema m s h r after → Owned m s after
 owned_finish schema m s None r after x = absurd x
-owned_finish schema m s (Some half) r after x = subst (λ z. Owned m s z) (sym x.1) (owned_replied schema m s half.bound r (defined_of schema m s half.bound r half.short x.0))
+owned_finish schema m s (Some half) r after x = subst (λ z. Owned m s z) (sym x.1) (owned_replied schema m s half.note half.bound r (defined_of schema m s half r x.0))
 
 owned_opened : (o : Option Txn) (next clock : ℕ) (short : Bool) (key : Key) → owns (Some (fixed (txn_opened o next) short clock)) key ≡ true → owns o key ≡ true
 owned_opened None next clock short key h = absurd (cc h)

@@ -15,9 +15,9 @@ use Rattle.cs_model.specs.declared.entry.Entry.{Entry}
 use Rattle.cs_model.specs.declared.entry.Entry.TheVariants.{Start, Finish, End, Mover}
 use Rattle.cs_model.specs.Actors.{actor_of}
 use Rattle.cs_model.specs.Changes.{Edit, Change, newest}
-use Rattle.cs_model.specs.State.{Txn, Half, State, Begin, seen}
+use Rattle.cs_model.specs.State.{Txn, Half, State, Begin}
 use Rattle.cs_model.specs.Obstacles.{keys_of, owns, is_above, IsFree}
-use Rattle.cs_model.specs.Steps.{IsStep, Leads, numbered, started, fixed, txn_opened}
+use Rattle.cs_model.specs.Steps.{IsStep, Leads, numbered}
 use Rattle.log_laws.specs.Laws.{AreOwners, changes_at, AreOnce, IsUnchanged, IsPinnedHalf, IsSound}
 use Rattle.log_laws.proofs.Framed.{framed, clock_step}
 use Rattle.log_laws.proofs.Entries.{none_is}

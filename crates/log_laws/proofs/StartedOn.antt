@@ -13,7 +13,7 @@ use Rattle.cs_model.specs.Changes.{Edit, Change, laid, until, table}
 use Rattle.cs_model.specs.Floors.{snapshot_of}
 use Rattle.cs_model.specs.State.{Txn, State, Begin, half_set}
 use Rattle.cs_model.specs.Kinds.{is_of_table}
-use Rattle.cs_model.specs.Steps.{IsStep, Legal, numbered, started, pinned, fixed, txn_opened, or_clock}
+use Rattle.cs_model.specs.Steps.{IsStep, Legal, numbered, half_of, started, pinned, fixed, txn_opened, or_clock}
 use Rattle.log_laws.specs.Frames.{Frames, SnapIn, SnapAtMost, IsPinnedAt, IsPinned}
 use Rattle.log_laws.specs.Laws.{IsPinnedHalf, MayBegin}
 use Rattle.log_laws.specs.Started.{Begun, own_in, is_implicit, Sees, Shows, Starts, IsStarted}
@@ -122,11 +122,11 @@ fixed_pinned (Some txn) next clock p = at txn.snapshot p
 pub pinned_after : (m : State) (s : ℕ) (b : Bound) (short : Bool) → SnapIn (m.txns s) m.clock → IsPinnedHalf ((started m s b short).half s) ((started m s b short).txns s) (started m s b short).clock
 pinned_after m s b short snap =
     subst (λ h. IsPinnedHalf h ((started m s b short).txns s) (started m s b short).clock)
-    (sym (at_own (cond (is_of_table b) (pinned m s short) m).half s (Some (record { bound = b; short = short })))) (λ t n. at t n)
+    (sym (at_own (cond (is_of_table b) (pinned m s short) m).half s (Some (half_of m b short)))) (λ t n. at t n)
   where
     at : is_of_table b ≡ true → short ≡ false → IsPinned ((started m s b short).txns s) (started m s b short).clock
     at t n =
-        let is : started m s b short ≡ half_set (pinned m s false) s (Some (record { bound = b; short = short })) =
-        ap (λ x. half_set (cond x (pinned m s short) m) s (Some (record { bound = b; short = short }))) t ∙ ap (λ q. half_set (pinned m s q) s (Some (record { bound = b; short = short }))) n in
+        let is : started m s b short ≡ half_set (pinned m s false) s (Some (half_of m b short)) =
+        ap (λ x. half_set (cond x (pinned m s short) m) s (Some (half_of m b short))) t ∙ ap (λ q. half_set (pinned m s q) s (Some (half_of m b short))) n in
         subst (λ (x : State). IsPinned (x.txns s) x.clock) (sym is)
         (subst (λ o. IsPinned o m.clock) (sym (at_own m.txns s (Some (fixed (txn_opened (m.txns s) m.next) false m.clock)))) (fixed_pinned (m.txns s) m.next m.clock snap))

@@ -15,7 +15,7 @@ use Rattle.cs_model.specs.declared.entry.Entry.TheVariants.{Start, Finish, End, 
 use Rattle.cs_model.specs.declared.entry.Bound.{Bound}
 use Rattle.cs_model.specs.declared.entry.Bound.TheVariants as bound
 use Rattle.cs_model.specs.declared.entry.Refusal.{Refusal}
-use Rattle.cs_model.specs.declared.entry.Refusal.TheVariants.{Reading, Memory}
+use Rattle.cs_model.specs.declared.entry.Refusal.TheVariants.{Memory}
 use Rattle.cs_model.specs.declared.entry.Reply.{Reply}
 use Rattle.cs_model.specs.declared.entry.Reply.TheVariants as reply
 use Rattle.cs_model.specs.Actors.{actor_of}
@@ -172,47 +172,47 @@ writes_refused m s refusal k = writes_if m s _ _ (ends_txn (m.txns s) refusal) (
 abbrev Pins : State → ℕ → Bound → Type 0
 Pins m s b = is_of_table b ≡ true → IsPinned (m.txns s) m.clock
 
-writes_accepted : (schema : Schema) (m : State) (s : ℕ) (b : Bound) (r : Reply) → IsAccepted r → IsDefined schema m s b r → IsKept m.changes (m.txns s) → Pins m s b → Writes m s (accepted schema (rested m s) s b)
-writes_accepted schema m s bound.Begin r not h k pins = writes_began (rested m s) s (m.txns s) refl k
-writes_accepted schema m s bound.Commit r not h k pins = writes_unwound (rested m s) s (m.txns s) refl k
-writes_accepted schema m s bound.Rollback r not h k pins = writes_gone (rested m s) s
-writes_accepted schema m s bound.Nothing r not h k pins = writes_same m s k
-writes_accepted schema m s (bound.Statistics on) r not h k pins = writes_same m s k
-writes_accepted schema m s (bound.Insert plan) r not h k pins =
+writes_accepted : (schema : Schema) (m : State) (s note : ℕ) (b : Bound) (r : Reply) → IsAccepted r → IsDefined schema m s note b r → IsKept m.changes (m.txns s) → Pins m s b → Writes m s (accepted schema (rested m s) s b)
+writes_accepted schema m s note bound.Begin r not h k pins = writes_began (rested m s) s (m.txns s) refl k
+writes_accepted schema m s note bound.Commit r not h k pins = writes_unwound (rested m s) s (m.txns s) refl k
+writes_accepted schema m s note bound.Rollback r not h k pins = writes_gone (rested m s) s
+writes_accepted schema m s note bound.Nothing r not h k pins = writes_same m s k
+writes_accepted schema m s note (bound.Statistics on) r not h k pins = writes_same m s k
+writes_accepted schema m s note (bound.Insert plan) r not h k pins =
     let edits = writes_in schema m.changes (m.txns s) (bound.Insert plan) in
     writes_wrote (rested m s) s (m.txns s) edits refl k (pinned_laid (m.txns s) m.clock edits (pins refl)) (cleared schema m s (m.txns s) (bound.Insert plan) r not h)
-writes_accepted schema m s (bound.Update plan) r not h k pins =
+writes_accepted schema m s note (bound.Update plan) r not h k pins =
     let edits = writes_in schema m.changes (m.txns s) (bound.Update plan) in
     writes_wrote (rested m s) s (m.txns s) edits refl k (pinned_laid (m.txns s) m.clock edits (pins refl)) (cleared schema m s (m.txns s) (bound.Update plan) r not h)
-writes_accepted schema m s (bound.Delete condition) r not h k pins =
+writes_accepted schema m s note (bound.Delete condition) r not h k pins =
     let edits = writes_in schema m.changes (m.txns s) (bound.Delete condition) in
     writes_wrote (rested m s) s (m.txns s) edits refl k (pinned_laid (m.txns s) m.clock edits (pins refl)) (cleared schema m s (m.txns s) (bound.Delete condition) r not h)
-writes_accepted schema m s (bound.Select query) r not h k pins =
+writes_accepted schema m s note (bound.Select query) r not h k pins =
     writes_wrote (rested m s) s (m.txns s) [] refl k (pinned_none (m.txns s) k.1) (no_keys (IsClear m s (snapshot_of (m.txns s))))
-writes_accepted schema m s bound.GroupReport r not h k pins = writes_same m s k
-writes_accepted schema m s bound.SegmentReport r not h k pins = writes_same m s k
-writes_accepted schema m s (bound.Reorganize all) r not h k pins = writes_same m s k
-writes_accepted schema m s (bound.Refused refusal) r not h k pins = writes_same m s k
+writes_accepted schema m s note bound.GroupReport r not h k pins = writes_same m s k
+writes_accepted schema m s note bound.SegmentReport r not h k pins = writes_same m s k
+writes_accepted schema m s note (bound.Reorganize all) r not h k pins = writes_same m s k
+writes_accepted schema m s note (bound.Refused refusal) r not h k pins = writes_same m s k
 
 -- a reply that is no refusal comes only where the Start found memory
-pins_of : (schema : Schema) (m : State) (s : ℕ) (half : Half) (r : Reply) → IsAccepted r → (r ≡ reply.Refused Memory) ⊎ ((half.short ≡ false) × (IsReply schema m s half.bound r ⊎ IsOutOfIds schema m s half.bound r))
+pins_of : (schema : Schema) (m : State) (s : ℕ) (half : Half) (r : Reply) → IsAccepted r → (r ≡ reply.Refused Memory) ⊎ ((half.short ≡ false) × (IsReply schema m s half r ⊎ IsOutOfIds schema m s half r))
     → IsPinnedHalf (Some half) (m.txns s) m.clock → Pins m s half.bound
 pins_of schema m s half r not (inl e) pinned of_table = absurd (not Memory e)
 pins_of schema m s half r not (inr h) pinned of_table = pinned of_table h.0
 
-writes_replied : (schema : Schema) (m : State) (s : ℕ) (b : Bound) (r : Reply) → IsDefined schema m s b r → IsKept m.changes (m.txns s) → (IsAccepted r → Pins m s b) → Writes m s (replied schema (rested m s) s b r)
-writes_replied schema m s b reply.Done h k pins = let not : IsAccepted reply.Done = λ refusal e. cc e in writes_accepted schema m s b reply.Done not h k (pins not)
-writes_replied schema m s b (reply.Affected count) h k pins = let not : IsAccepted (reply.Affected count) = λ refusal e. cc e in writes_accepted schema m s b (reply.Affected count) not h k (pins not)
-writes_replied schema m s b (reply.Rows list segments) h k pins = let not : IsAccepted (reply.Rows list segments) = λ refusal e. cc e in writes_accepted schema m s b (reply.Rows list segments) not h k (pins not)
-writes_replied schema m s b (reply.Groups lines buffered) h k pins = let not : IsAccepted (reply.Groups lines buffered) = λ refusal e. cc e in writes_accepted schema m s b (reply.Groups lines buffered) not h k (pins not)
-writes_replied schema m s b (reply.Segments lines) h k pins = let not : IsAccepted (reply.Segments lines) = λ refusal e. cc e in writes_accepted schema m s b (reply.Segments lines) not h k (pins not)
-writes_replied schema m s b (reply.Left groups) h k pins = let not : IsAccepted (reply.Left groups) = λ refusal e. cc e in writes_accepted schema m s b (reply.Left groups) not h k (pins not)
-writes_replied schema m s b (reply.Refused refusal) h k pins = writes_refused (rested m s) s refusal k
+writes_replied : (schema : Schema) (m : State) (s note : ℕ) (b : Bound) (r : Reply) → IsDefined schema m s note b r → IsKept m.changes (m.txns s) → (IsAccepted r → Pins m s b) → Writes m s (replied schema (rested m s) s b r)
+writes_replied schema m s note b reply.Done h k pins = let not : IsAccepted reply.Done = λ refusal e. cc e in writes_accepted schema m s note b reply.Done not h k (pins not)
+writes_replied schema m s note b (reply.Affected count) h k pins = let not : IsAccepted (reply.Affected count) = λ refusal e. cc e in writes_accepted schema m s note b (reply.Affected count) not h k (pins not)
+writes_replied schema m s note b (reply.Rows list segments) h k pins = let not : IsAccepted (reply.Rows list segments) = λ refusal e. cc e in writes_accepted schema m s note b (reply.Rows list segments) not h k (pins not)
+writes_replied schema m s note b (reply.Groups lines buffered) h k pins = let not : IsAccepted (reply.Groups lines buffered) = λ refusal e. cc e in writes_accepted schema m s note b (reply.Groups lines buffered) not h k (pins not)
+writes_replied schema m s note b (reply.Segments lines) h k pins = let not : IsAccepted (reply.Segments lines) = λ refusal e. cc e in writes_accepted schema m s note b (reply.Segments lines) not h k (pins not)
+writes_replied schema m s note b (reply.Left groups) h k pins = let not : IsAccepted (reply.Left groups) = λ refusal e. cc e in writes_accepted schema m s note b (reply.Left groups) not h k (pins not)
+writes_replied schema m s note b (reply.Refused refusal) h k pins = writes_refused (rested m s) s refusal k
 
 writes_finish : (schema : Schema) (m : State) (s : ℕ) (h : Option Half) (r : Reply) (after : State) → IsFinish schema m s h r after → IsKept m.changes (m.txns s) → IsPinnedHalf h (m.txns s) m.clock → Writes m s after
 writes_finish schema m s None r after x k p = absurd x
 writes_finish schema m s (Some half) r after x k p =
-    subst (λ z. Writes m s z) (sym x.1) (writes_replied schema m s half.bound r (defined_of schema m s half.bound r half.short x.0) k (λ not. pins_of schema m s half r not x.0 p))
+    subst (λ z. Writes m s z) (sym x.1) (writes_replied schema m s half.note half.bound r (defined_of schema m s half r x.0) k (λ not. pins_of schema m s half r not x.0 p))
 
 -- ---- a Start
 

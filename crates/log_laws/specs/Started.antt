@@ -6,21 +6,26 @@ use Rattle.cs_model.specs.declared.entry.Entry.{Entry}
 use Rattle.cs_model.specs.declared.entry.Entry.TheVariants.{Start, Finish, End, Mover}
 use Rattle.cs_model.specs.Changes.{Edit, Table, Change, until, laid}
 use Rattle.cs_model.specs.Floors.{snapshot_of}
-use Rattle.cs_model.specs.State.{Txn, State, Begin, schema_now}
+use Rattle.cs_model.specs.State.{Txn, Half, State, Begin, schema_now}
 use Rattle.cs_model.specs.Kinds.{is_of_table}
 use Rattle.cs_model.specs.Steps.{Legal, started}
 
--- what the work of a statement stands on: the statement; whether its Start found no memory, and whether its transaction is an
--- implicit one; the table's schema at the Start; and, of its transaction, the changes that the snapshot sees, the snapshot and the
--- own writes
+-- what the work of a statement stands on: the statement; whether its Start found no memory, what it noted, and whether the
+-- transaction is an implicit one; the table's schema at the Start; and, of its transaction, the changes that the snapshot sees, the
+-- snapshot and the own writes
 pub record Begun : Type 0 where
   pub bound : Bound
   pub short : Bool
+  pub note : ℕ
   pub implicit : Bool
   pub schema : Schema
   pub changes : List Change
   pub snapshot : ℕ
   pub own : List Edit
+
+-- the statement, half done
+abbrev pub half_by : Begun → Half
+half_by begun = record { bound = begun.bound; short = begun.short; note = begun.note }
 
 -- the table of the snapshot; and what the statement reads: the own writes laid over it
 abbrev pub snapshot_table : Begun → Table
@@ -50,7 +55,7 @@ pub record Sees (m : State) (session : ℕ) (begun : Begun) : Type 0 where
 
 -- the session has begun this statement, and its work stands on this
 pub record Shows (begin : Begin) (m : State) (session : ℕ) (begun : Begun) : Type 0 where
-  pub half : m.half session ≡ Some (record { bound = begun.bound; short = begun.short })
+  pub half : m.half session ≡ Some (half_by begun)
   pub schema : begun.schema ≡ schema_now begin m
   pub implicit : begun.implicit ≡ is_implicit (m.txns session)
   pub own : begun.own ≡ own_in (m.txns session)

@@ -16,7 +16,7 @@ use Rattle.cs_model.specs.declared.entry.Reply.TheVariants as reply
 use Rattle.cs_model.specs.Actors.{actor_of, is_turn, turns_of}
 use Rattle.cs_model.specs.Kinds.{is_of_table}
 use Rattle.cs_model.specs.State.{Half, State, Begin, schema_now}
-use Rattle.cs_model.specs.Steps.{IsFinish, IsOutOfIds, IsReply, IsStep, Leads, ends_txn, finished, gone, pinned, rested, started}
+use Rattle.cs_model.specs.Steps.{IsFinish, IsOutOfIds, IsReply, IsReplyTo, IsStep, Leads, ends_txn, finished, gone, half_of, pinned, rested, started}
 use Rattle.log_laws.proofs.Framed.{at_own, framed}
 use Rattle.log_laws.proofs.Owners.{equal}
 use Rattle.cs_model.specs.Works.{lacks_memory}
@@ -73,15 +73,15 @@ poor_told schema m after session half r poor (how, becomes) = at how poor
     told : r ≡ reply.Refused Memory → replies_memory r ≡ true
     told e = ap replies_memory e
 
-    answered : half.bound ≡ bound.Refused Memory → IsReply schema m session half.bound r ⊎ IsOutOfIds schema m session half.bound r → replies_memory r ≡ true
-    answered e (inl is) = told (subst (λ b. IsReply schema m session b r) e is)
+    answered : half.bound ≡ bound.Refused Memory → IsReply schema m session half r ⊎ IsOutOfIds schema m session half r → replies_memory r ≡ true
+    answered e (inl is) = told (subst (λ b. IsReplyTo schema m session half.note b r) e is)
     answered e (inr out) =
-        let given : out.given ≡ reply.Refused Memory = subst (λ b. IsReply schema m session b out.given) e out.is_reply in
+        let given : out.given ≡ reply.Refused Memory = subst (λ b. IsReplyTo schema m session half.note b out.given) e out.is_reply in
         let same = clock_kept schema m session half.bound out.given e given in
         let up = out.commits in
         absurd (omega (arith, same, up))
 
-    at : (r ≡ reply.Refused Memory) ⊎ ((half.short ≡ false) × (IsReply schema m session half.bound r ⊎ IsOutOfIds schema m session half.bound r)) → IsPoor half → replies_memory r ≡ true
+    at : (r ≡ reply.Refused Memory) ⊎ ((half.short ≡ false) × (IsReply schema m session half r ⊎ IsOutOfIds schema m session half r)) → IsPoor half → replies_memory r ≡ true
     at (inl e) poor = told e
     at (inr (well, how)) (inl short) = absurd cc
     at (inr (well, how)) (inr e) = answered e how
@@ -143,18 +143,18 @@ module _ (begin : Begin) (sessions : List ℕ) where
       → ((Contains sessions session → ⊥) → ⊥) → IsPoor half → ⊥
   ample_start session half es m after x none is ends poor = ends (no_end_later begin session half poor es sessions m after x none is)
 
-  pub half_begun : (m after : State) (session : ℕ) (b : Bound) (short : Bool) → after ≡ started m session b short → after.half session ≡ Some (record { bound = b; short = short })
+  pub half_begun : (m after : State) (session : ℕ) (b : Bound) (short : Bool) → after ≡ started m session b short → after.half session ≡ Some (half_of m b short)
   half_begun m after session b short e =
       let before : State = cond (is_of_table b) (pinned m session short) m in
-      ap (λ (z : State). z.half session) e ∙ at_own before.half session (Some (record { bound = b; short = short }))
+      ap (λ (z : State). z.half session) e ∙ at_own before.half session (Some (half_of m b short))
 
   ample_one : (e : Entry) (es : List Entry) (m mid after : State) → IsStep begin m e mid → Leads begin mid (es ++ map End sessions) after → is_short_event e ≡ false → count_by is_short_event es ≡ 0
       → ((session : ℕ) → (Contains sessions session → ⊥) → turns_of session (e ∷ es) ≡ []) → IsAmple e
   ample_one (Start session b short) es m mid after x later well none others =
       (not_short short refl, λ e. poor (inr e))
     where
-      poor : IsPoor (record { bound = b.value; short = short }) → ⊥
-      poor how = ample_start session (record { bound = b.value; short = short }) es mid after later none (half_begun m mid session b.value short x.2)
+      poor : IsPoor (half_of m b.value short) → ⊥
+      poor how = ample_start session (half_of m b.value short) es mid after later none (half_begun m mid session b.value short x.2)
           (λ missing. start_is_turn session (Start session b short) es refl refl (others session missing)) how
 
       not_short : (t : Bool) → short ≡ t → short ≡ false

@@ -86,11 +86,11 @@ draws_so origin m (edit ∷ own) book spare made shuffled x past =
     true_false (draws_past spare (book_with origin.sizes m all spare)) past (sym (shuffled_full origin.sizes m all book spare shuffled) ∙ low)
 
 module _ (origin : Ground) (m : State) (sound : IsSound m) (session : ℕ) where
-  not_full : (half : Half) (r q : Reply) (a : State) (book spare made : Book) → IsShuffled book spare → IsReply origin.begin.schema m session half.bound r → a ≡ finished origin.begin.schema m session half.bound r
-      → Commits origin.sizes m (committed_edits m a) book made → IsOutOfIds origin.begin.schema m session half.bound q → IsFull origin m spare session (Some half) q → ⊥
+  not_full : (half : Half) (r q : Reply) (a : State) (book spare made : Book) → IsShuffled book spare → IsReply origin.begin.schema m session half r → a ≡ finished origin.begin.schema m session half.bound r
+      → Commits origin.sizes m (committed_edits m a) book made → IsOutOfIds origin.begin.schema m session half q → IsFull origin m spare session (Some half) q → ⊥
   not_full half r q a book spare made shuffled is becomes commits out full =
       let same : finished origin.begin.schema m session half.bound out.given ≡ a =
-      finished_so origin.begin.schema m session half.bound out.given r (reply_one origin.begin.schema m session half.bound out.given r sound out.is_reply is) ∙ sym becomes in
+      finished_so origin.begin.schema m session half.bound out.given r (reply_one origin.begin.schema m session half.note half.bound out.given r sound out.is_reply is) ∙ sym becomes in
       draws_so origin m (committed_edits m a) book spare made shuffled commits
       (subst (λ (z : State). draws_past spare (book_with origin.sizes m (committed_edits m z) spare) ≡ true) same (full out))
 
@@ -103,13 +103,13 @@ module _ (origin : Ground) (m : State) (sound : IsSound m) (session : ℕ) where
   replies_agree None r q a b book spare made used shuffled well good x y c d full filled shown = absurd x
   replies_agree (Some half) r q a b book spare made used shuffled well good (how, becomes) (also, turns) c d full filled shown = at how also
     where
-      at : (r ≡ reply.Refused Memory) ⊎ ((half.short ≡ false) × (IsReply origin.begin.schema m session half.bound r ⊎ IsOutOfIds origin.begin.schema m session half.bound r))
-          → (q ≡ reply.Refused Memory) ⊎ ((half.short ≡ false) × (IsReply origin.begin.schema m session half.bound q ⊎ IsOutOfIds origin.begin.schema m session half.bound q))
+      at : (r ≡ reply.Refused Memory) ⊎ ((half.short ≡ false) × (IsReply origin.begin.schema m session half r ⊎ IsOutOfIds origin.begin.schema m session half r))
+          → (q ≡ reply.Refused Memory) ⊎ ((half.short ≡ false) × (IsReply origin.begin.schema m session half q ⊎ IsOutOfIds origin.begin.schema m session half q))
           → without_segments q ≡ without_segments r
       at (inl e) other = absurd (not_memory r well e)
       at (inr (_, inl is)) (inl e) = absurd (not_memory q good e)
       at (inr (_, inr out)) (inl e) = absurd (not_memory q good e)
-      at (inr (_, inl is)) (inr (_, inl also)) = same_reply origin.begin.schema m session half.bound q r sound shown also is
+      at (inr (_, inl is)) (inr (_, inl also)) = same_reply origin.begin.schema m session half.note half.bound q r sound shown also is
       at (inr (_, inr out)) (inr (_, inr also)) = ap without_segments (also.refuses ∙ sym out.refuses)
       at (inr (_, inl is)) (inr (_, inr out)) = absurd (not_full half r q a book spare made shuffled is becomes c out filled)
       at (inr (_, inr out)) (inr (_, inl also)) = absurd (not_full half q r b spare book used (shuffled_back book spare shuffled) also turns d out full)

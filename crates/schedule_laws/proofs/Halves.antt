@@ -17,7 +17,7 @@ use Rattle.cs_model.specs.declared.work.Actor.TheVariants as actor
 use Rattle.cs_model.specs.declared.work.Work.{Work}
 use Rattle.cs_model.specs.Actors.{turns_of}
 use Rattle.cs_model.specs.State.{Half, State, Begin}
-use Rattle.cs_model.specs.Steps.{IsFinish, IsLeft, IsOutOfIds, IsReply, IsStep, Leads, finished}
+use Rattle.cs_model.specs.Steps.{IsFinish, IsLeft, IsOutOfIds, IsReply, IsReplyTo, IsStep, Leads, finished, half_of}
 use Rattle.log_laws.proofs.Framed.{framed}
 use Rattle.log_laws.proofs.Logs.{leads_split}
 use Rattle.log_laws.proofs.Owners.{equal}
@@ -192,7 +192,7 @@ begun_half origin log session statement start m at book b followed =
     let leads : Leads origin.begin origin.begin.state whole m = subst (λ z. Leads origin.begin origin.begin.state z m) b.split (follows_leads origin origin.begin.state m origin.book book log followed) in
     let split = leads_split origin.begin origin.begin.state m b.before (Start session b.bound b.short ∷ b.behind) leads in
     let starts = split.2 in (
-      record { bound = (b.bound).value; short = b.short },
+      half_of split.0 (b.bound).value b.short,
       half_stays origin.begin session b.behind starts.0 m starts.2 b.others ∙ half_begun origin.begin [] split.0 starts.0 session (b.bound).value b.short starts.1.2,
       b.is,
     )
@@ -212,11 +212,11 @@ left_clock schema m session all (reply.Refused refusal) left = absurd left
 pub tells_left : (schema : Schema) (m after : State) (session : ℕ) (half : Half) (all : Bool) (r : Reply) → half.bound ≡ Reorganize all → IsFinish schema m session (Some half) r after → replies_memory r ≡ false → IsLeft r
 tells_left schema m after session half all r is (how, becomes) well = at how
   where
-    at : (r ≡ reply.Refused Memory) ⊎ ((half.short ≡ false) × (IsReply schema m session half.bound r ⊎ IsOutOfIds schema m session half.bound r)) → IsLeft r
+    at : (r ≡ reply.Refused Memory) ⊎ ((half.short ≡ false) × (IsReply schema m session half r ⊎ IsOutOfIds schema m session half r)) → IsLeft r
     at (inl e) = let short : replies_memory r ≡ true = ap replies_memory e in absurd cc
-    at (inr (_, inl told)) = subst (λ b. IsReply schema m session b r) is told
+    at (inr (_, inl told)) = subst (λ b. IsReplyTo schema m session half.note b r) is told
     at (inr (_, inr out)) =
-        let left : IsLeft out.given = subst (λ b. IsReply schema m session b out.given) is out.is_reply in
+        let left : IsLeft out.given = subst (λ b. IsReplyTo schema m session half.note b out.given) is out.is_reply in
         let same : (finished schema m session half.bound out.given).clock ≡ m.clock = (λ i. (finished schema m session (is i) out.given).clock) ∙ left_clock schema m session all out.given left in
         let up = out.commits in
         absurd (omega (arith, same, up))

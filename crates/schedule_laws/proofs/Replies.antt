@@ -23,7 +23,7 @@ use Rattle.cs_model.specs.Changes.{Edit, Change, newest}
 use Rattle.cs_model.specs.Obstacles.{keys_of, is_present, owns, IsOwner, IsLocked, IsFree, IsChange, IsObstacle, IsLeastObstacle, IsJudged}
 use Rattle.cs_model.specs.Queries.{answer}
 use Rattle.cs_model.specs.State.{Txn, State, seen}
-use Rattle.cs_model.specs.Steps.{IsRows, IsAnswer, IsWritten, IsWriteReplyOf, IsWriteReply, IsAnswerIn, IsGroups, IsSegments, IsLeft, IsReply}
+use Rattle.cs_model.specs.Steps.{IsRows, IsAnswer, IsWritten, IsWriteReplyOf, IsWriteReply, IsAnswerIn, IsGroups, IsSegments, IsLeft, IsReplyTo}
 use Rattle.log_laws.specs.Laws.{AreOwners, IsSound}
 use Rattle.log_laws.proofs.Owners.{equal}
 use Rattle.group_log.specs.Counted.{told_counts}
@@ -187,20 +187,20 @@ left_shown (reply.Segments lines) h = absurd h
 left_shown (reply.Left groups) h = refl
 left_shown (reply.Refused refusal) h = absurd h
 
-pub reply_one : (schema : Schema) (m : State) (session : ℕ) (b : Bound) (r q : Reply) → IsSound m → IsReply schema m session b r → IsReply schema m session b q → bare r ≡ bare q
-reply_one schema m session bound.Begin r q sound x y = ap bare (x ∙ sym y)
-reply_one schema m session bound.Commit r q sound x y = ap bare (x ∙ sym y)
-reply_one schema m session bound.Rollback r q sound x y = ap bare (x ∙ sym y)
-reply_one schema m session bound.Nothing r q sound x y = ap bare (x ∙ sym y)
-reply_one schema m session (bound.Statistics on) r q sound x y = ap bare (x ∙ sym y)
-reply_one schema m session (bound.Insert plan) r q sound x y = ap bare (write_one schema m sound session (m.txns session) (bound.Insert plan) r q x y)
-reply_one schema m session (bound.Update plan) r q sound x y = ap bare (write_one schema m sound session (m.txns session) (bound.Update plan) r q x y)
-reply_one schema m session (bound.Delete condition) r q sound x y = ap bare (write_one schema m sound session (m.txns session) (bound.Delete condition) r q x y)
-reply_one schema m session (bound.Select query) r q sound x y = answer_one schema m session (m.txns session) query r q x y
-reply_one schema m session bound.GroupReport r q sound x y = groups_shown r x ∙ sym (groups_shown q y)
-reply_one schema m session bound.SegmentReport r q sound x y = segments_shown r x ∙ sym (segments_shown q y)
-reply_one schema m session (bound.Reorganize all) r q sound x y = left_shown r x ∙ sym (left_shown q y)
-reply_one schema m session (bound.Refused refusal) r q sound x y = ap bare (x ∙ sym y)
+pub reply_one : (schema : Schema) (m : State) (session note : ℕ) (b : Bound) (r q : Reply) → IsSound m → IsReplyTo schema m session note b r → IsReplyTo schema m session note b q → bare r ≡ bare q
+reply_one schema m session note bound.Begin r q sound x y = ap bare (x ∙ sym y)
+reply_one schema m session note bound.Commit r q sound x y = ap bare (x ∙ sym y)
+reply_one schema m session note bound.Rollback r q sound x y = ap bare (x ∙ sym y)
+reply_one schema m session note bound.Nothing r q sound x y = ap bare (x ∙ sym y)
+reply_one schema m session note (bound.Statistics on) r q sound x y = ap bare (x ∙ sym y)
+reply_one schema m session note (bound.Insert plan) r q sound x y = ap bare (write_one schema m sound session (m.txns session) (bound.Insert plan) r q x y)
+reply_one schema m session note (bound.Update plan) r q sound x y = ap bare (write_one schema m sound session (m.txns session) (bound.Update plan) r q x y)
+reply_one schema m session note (bound.Delete condition) r q sound x y = ap bare (write_one schema m sound session (m.txns session) (bound.Delete condition) r q x y)
+reply_one schema m session note (bound.Select query) r q sound x y = answer_one schema m session (m.txns session) query r q x y
+reply_one schema m session note bound.GroupReport r q sound x y = groups_shown r x ∙ sym (groups_shown q y)
+reply_one schema m session note bound.SegmentReport r q sound x y = segments_shown r x ∙ sym (segments_shown q y)
+reply_one schema m session note (bound.Reorganize all) r q sound x y = left_shown r x ∙ sym (left_shown q y)
+reply_one schema m session note (bound.Refused refusal) r q sound x y = ap bare (x ∙ sym y)
 
 -- ---- what it shows of the groups
 
@@ -250,17 +250,17 @@ segments_hidden (reply.Segments lines) h = refl
 segments_hidden (reply.Left groups) h = absurd h
 segments_hidden (reply.Refused refusal) h = absurd h
 
-pub same_reply : (schema : Schema) (m : State) (session : ℕ) (b : Bound) (r q : Reply) → IsSound m → AreShown r q → IsReply schema m session b r → IsReply schema m session b q → without_segments r ≡ without_segments q
-same_reply schema m session bound.Begin r q sound shown x y = ap without_segments (x ∙ sym y)
-same_reply schema m session bound.Commit r q sound shown x y = ap without_segments (x ∙ sym y)
-same_reply schema m session bound.Rollback r q sound shown x y = ap without_segments (x ∙ sym y)
-same_reply schema m session bound.Nothing r q sound shown x y = ap without_segments (x ∙ sym y)
-same_reply schema m session (bound.Statistics on) r q sound shown x y = ap without_segments (x ∙ sym y)
-same_reply schema m session (bound.Insert plan) r q sound shown x y = ap without_segments (write_one schema m sound session (m.txns session) (bound.Insert plan) r q x y)
-same_reply schema m session (bound.Update plan) r q sound shown x y = ap without_segments (write_one schema m sound session (m.txns session) (bound.Update plan) r q x y)
-same_reply schema m session (bound.Delete condition) r q sound shown x y = ap without_segments (write_one schema m sound session (m.txns session) (bound.Delete condition) r q x y)
-same_reply schema m session (bound.Select query) r q sound shown x y = ap without_segments (answer_same schema m session (m.txns session) query r q shown x y)
-same_reply schema m session bound.GroupReport r q sound shown x y = ap without_segments (shown.report x y)
-same_reply schema m session bound.SegmentReport r q sound shown x y = segments_hidden r x ∙ sym (segments_hidden q y)
-same_reply schema m session (bound.Reorganize all) r q sound shown x y = ap without_segments (shown.left x y)
-same_reply schema m session (bound.Refused refusal) r q sound shown x y = ap without_segments (x ∙ sym y)
+pub same_reply : (schema : Schema) (m : State) (session note : ℕ) (b : Bound) (r q : Reply) → IsSound m → AreShown r q → IsReplyTo schema m session note b r → IsReplyTo schema m session note b q → without_segments r ≡ without_segments q
+same_reply schema m session note bound.Begin r q sound shown x y = ap without_segments (x ∙ sym y)
+same_reply schema m session note bound.Commit r q sound shown x y = ap without_segments (x ∙ sym y)
+same_reply schema m session note bound.Rollback r q sound shown x y = ap without_segments (x ∙ sym y)
+same_reply schema m session note bound.Nothing r q sound shown x y = ap without_segments (x ∙ sym y)
+same_reply schema m session note (bound.Statistics on) r q sound shown x y = ap without_segments (x ∙ sym y)
+same_reply schema m session note (bound.Insert plan) r q sound shown x y = ap without_segments (write_one schema m sound session (m.txns session) (bound.Insert plan) r q x y)
+same_reply schema m session note (bound.Update plan) r q sound shown x y = ap without_segments (write_one schema m sound session (m.txns session) (bound.Update plan) r q x y)
+same_reply schema m session note (bound.Delete condition) r q sound shown x y = ap without_segments (write_one schema m sound session (m.txns session) (bound.Delete condition) r q x y)
+same_reply schema m session note (bound.Select query) r q sound shown x y = ap without_segments (answer_same schema m session (m.txns session) query r q shown x y)
+same_reply schema m session note bound.GroupReport r q sound shown x y = ap without_segments (shown.report x y)
+same_reply schema m session note bound.SegmentReport r q sound shown x y = segments_hidden r x ∙ sym (segments_hidden q y)
+same_reply schema m session note (bound.Reorganize all) r q sound shown x y = ap without_segments (shown.left x y)
+same_reply schema m session note (bound.Refused refusal) r q sound shown x y = ap without_segments (x ∙ sym y)

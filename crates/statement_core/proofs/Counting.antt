@@ -16,7 +16,7 @@ use Rattle.cs_model.specs.Answers.{writes}
 use Rattle.cs_model.specs.Changes.{Edit, Table, Change}
 use Rattle.cs_model.specs.Kinds.{is_of_table, is_write}
 use Rattle.cs_model.specs.State.{State, Begin, Half, Txn, seen}
-use Rattle.cs_model.specs.Steps.{IsReply, IsFinish, IsOutOfIds, IsWriteReply, IsWriteReplyOf, IsGroups, IsSegments, IsLeft, begin_reply, done_in}
+use Rattle.cs_model.specs.Steps.{IsReply, IsReplyTo, IsFinish, IsOutOfIds, IsWriteReply, IsWriteReplyOf, IsGroups, IsSegments, IsLeft, begin_reply, done_in}
 use Rattle.log_laws.specs.Started.{Begun, seen_by}
 use Rattle.group_book.specs.Book.{Book}
 use Rattle.group_book.specs.Commits.{Sizes}
@@ -94,20 +94,20 @@ left_tells (reply.Segments lines) h = refl
 left_tells (reply.Left groups) h = refl
 left_tells (reply.Refused refusal) h = refl
 
-reply_tells : (schema : Schema) (m : State) (session : ℕ) (b : Bound) (r : Reply) → IsNoQuery b → IsReply schema m session b r → told_counts r ≡ None
-reply_tells schema m session bound.Begin r not h = ap told_counts h ∙ begin_tells (m.txns session)
-reply_tells schema m session bound.Commit r not h = ap told_counts h ∙ done_tells (m.txns session) 3902
-reply_tells schema m session bound.Rollback r not h = ap told_counts h ∙ done_tells (m.txns session) 3903
-reply_tells schema m session bound.Nothing r not h = ap told_counts h
-reply_tells schema m session (bound.Statistics on) r not h = ap told_counts h
-reply_tells schema m session (bound.Insert plan) r not h = write_tells schema m session (m.txns session) (bound.Insert plan) r h
-reply_tells schema m session (bound.Update plan) r not h = write_tells schema m session (m.txns session) (bound.Update plan) r h
-reply_tells schema m session (bound.Delete condition) r not h = write_tells schema m session (m.txns session) (bound.Delete condition) r h
-reply_tells schema m session (bound.Select query) r not h = absurd (not query refl)
-reply_tells schema m session bound.GroupReport r not h = groups_tell r h
-reply_tells schema m session bound.SegmentReport r not h = segments_tell r h
-reply_tells schema m session (bound.Reorganize all) r not h = left_tells r h
-reply_tells schema m session (bound.Refused refusal) r not h = ap told_counts h
+reply_tells : (schema : Schema) (m : State) (session note : ℕ) (b : Bound) (r : Reply) → IsNoQuery b → IsReplyTo schema m session note b r → told_counts r ≡ None
+reply_tells schema m session note bound.Begin r not h = ap told_counts h ∙ begin_tells (m.txns session)
+reply_tells schema m session note bound.Commit r not h = ap told_counts h ∙ done_tells (m.txns session) 3902
+reply_tells schema m session note bound.Rollback r not h = ap told_counts h ∙ done_tells (m.txns session) 3903
+reply_tells schema m session note bound.Nothing r not h = ap told_counts h
+reply_tells schema m session note (bound.Statistics on) r not h = ap told_counts h
+reply_tells schema m session note (bound.Insert plan) r not h = write_tells schema m session (m.txns session) (bound.Insert plan) r h
+reply_tells schema m session note (bound.Update plan) r not h = write_tells schema m session (m.txns session) (bound.Update plan) r h
+reply_tells schema m session note (bound.Delete condition) r not h = write_tells schema m session (m.txns session) (bound.Delete condition) r h
+reply_tells schema m session note (bound.Select query) r not h = absurd (not query refl)
+reply_tells schema m session note bound.GroupReport r not h = groups_tell r h
+reply_tells schema m session note bound.SegmentReport r not h = segments_tell r h
+reply_tells schema m session note (bound.Reorganize all) r not h = left_tells r h
+reply_tells schema m session note (bound.Refused refusal) r not h = ap told_counts h
 
 no_query : {A : Type 0} (f : Bound → A) (value : A) (b : Bound) → f b ≡ value → ((query : Query) → f (bound.Select query) ≡ value → ⊥) → IsNoQuery b
 no_query f value b is not query e = not query (sym (ap f e) ∙ is)
@@ -144,28 +144,28 @@ module _ (begin : Begin) (changes : List Change) (old : CoreState) (session : �
   refusal_tells : (refusal : Refusal) → r ≡ reply.Refused refusal → IfSome (told_counts r) P
   refusal_tells refusal e = tells_none (ap told_counts e)
 
-  module _ (o : Outcome) (d : IsDoneAt begin changes old session half.bound half.short o) (short : o ≡ outcome.Short → r ≡ reply.Refused Memory)
+  module _ (o : Outcome) (d : IsDoneAt begin changes old session half o) (short : o ≡ outcome.Short → r ≡ reply.Refused Memory)
       (given : (g : Reply) → o ≡ outcome.Answer g → r ≡ told (settings_of old.settings session) g) (counts : IfSome (outcome_counts o) P) where
-    tells_at : (x : Outcome) → o ≡ x → IsDoneAt begin changes old session half.bound half.short x → IsReply begin.schema (state_of changes old) session half.bound r → IfSome (told_counts r) P
-    tells_at outcome.Nothing e x h = tells_none (reply_tells begin.schema (state_of changes old) session half.bound r (none_asks half.bound (ap needs_none (sym x.bound) ∙ x.gives)) h)
+    tells_at : (x : Outcome) → o ≡ x → IsDoneAt begin changes old session half x → IsReply begin.schema (state_of changes old) session half r → IfSome (told_counts r) P
+    tells_at outcome.Nothing e x h = tells_none (reply_tells begin.schema (state_of changes old) session half.note half.bound r (none_asks half.bound (ap needs_none (sym x.bound) ∙ x.gives)) h)
     tells_at (outcome.Answer g) e x h =
         subst (λ z. IfSome (told_counts z) P) (sym (given g e)) (told_kept P (settings_of old.settings session) g (subst (λ z. IfSome (outcome_counts z) P) e counts))
     tells_at (outcome.Writes writes present affected parcel) e x h =
-        let g = x.gives in tells_none (reply_tells begin.schema (state_of changes old) session half.bound r (write_asks half.bound (ap is_write (sym x.bound) ∙ g.1)) h)
-    tells_at (outcome.Load keys parcel) e x h = let g = x.gives in tells_none (reply_tells begin.schema (state_of changes old) session half.bound r (write_asks half.bound (ap is_write (sym x.bound) ∙ g.1)) h)
-    tells_at (outcome.Commit parcel) e x h = let g = x.gives in tells_none (reply_tells begin.schema (state_of changes old) session half.bound r (commit_asks half.bound (sym x.bound ∙ g.0)) h)
+        let g = x.gives in tells_none (reply_tells begin.schema (state_of changes old) session half.note half.bound r (write_asks half.bound (ap is_write (sym x.bound) ∙ g.1)) h)
+    tells_at (outcome.Load keys parcel) e x h = let g = x.gives in tells_none (reply_tells begin.schema (state_of changes old) session half.note half.bound r (write_asks half.bound (ap is_write (sym x.bound) ∙ g.1)) h)
+    tells_at (outcome.Commit parcel) e x h = let g = x.gives in tells_none (reply_tells begin.schema (state_of changes old) session half.note half.bound r (commit_asks half.bound (sym x.bound ∙ g.0)) h)
     tells_at (outcome.Left groups) e x h =
-        tells_none (reply_tells begin.schema (state_of changes old) session half.bound r (reorganize_asks half.bound (subst (λ (y : Bound). IsSome (reorganizes y)) x.bound x.gives)) h)
+        tells_none (reply_tells begin.schema (state_of changes old) session half.note half.bound r (reorganize_asks half.bound (subst (λ (y : Bound). IsSome (reorganizes y)) x.bound x.gives)) h)
     tells_at outcome.Short e x h = refusal_tells Memory (short e)
 
     pub tells_after : (after : State) → IsFinish begin.schema (state_of changes old) session (Some half) r after → IfSome (told_counts r) P
     tells_after after x = at x.0
       where
-        among : IsReply begin.schema (state_of changes old) session half.bound r ⊎ IsOutOfIds begin.schema (state_of changes old) session half.bound r → IfSome (told_counts r) P
+        among : IsReply begin.schema (state_of changes old) session half r ⊎ IsOutOfIds begin.schema (state_of changes old) session half r → IfSome (told_counts r) P
         among (inl h) = tells_at o refl d h
         among (inr out) = refusal_tells (Reading 50001 1) out.refuses
 
-        at : (r ≡ reply.Refused Memory) ⊎ ((half.short ≡ false) × (IsReply begin.schema (state_of changes old) session half.bound r ⊎ IsOutOfIds begin.schema (state_of changes old) session half.bound r)) → IfSome (told_counts r) P
+        at : (r ≡ reply.Refused Memory) ⊎ ((half.short ≡ false) × (IsReply begin.schema (state_of changes old) session half r ⊎ IsOutOfIds begin.schema (state_of changes old) session half r)) → IfSome (told_counts r) P
         at (inl e) = refusal_tells Memory e
         at (inr h) = among h.1
 

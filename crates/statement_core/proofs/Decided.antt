@@ -17,7 +17,7 @@ use Rattle.cs_model.specs.Floors.{snapshot_of}
 use Rattle.cs_model.specs.Kinds.{kind_of, kind_is_write, kind_is_of_table, is_of_table, is_write}
 use Rattle.cs_model.specs.Queries.{answer}
 use Rattle.cs_model.specs.State.{State, Txn, seen, seen_at}
-use Rattle.cs_model.specs.Steps.{IsReply, IsWriteReply, IsWriteReplyOf, IsAnswerIn, IsAnswer, writes_in, replied, accepted, wrote}
+use Rattle.cs_model.specs.Steps.{IsReplyTo, IsWriteReply, IsWriteReplyOf, IsAnswerIn, IsAnswer, writes_in, replied, accepted, wrote}
 use Rattle.log_laws.specs.Frames.{IsPinnedAt, IsPinned}
 use Rattle.log_laws.specs.Started.{Begun, own_in, seen_by, snapshot_table, Sees}
 use Rattle.statement_core.specs.Outcomes.{IsValued, IsDecided, told}
@@ -78,20 +78,20 @@ module _ (schema : Schema) (m : State) (session : ℕ) where
   answer_in (Some txn) clock r query p h = told_answer (m.statistics session) (answer schema query (values_of (seen m.changes txn))) r h
 
   -- the reply that the work decides is the defined one, as the session is told it
-  pub decided_reply : (b : Bound) (r : Reply) → (is_of_table b ≡ true → IsPinned (m.txns session) m.clock) → IsDecided schema b (seen_in m.changes (m.txns session)) r → IsReply schema m session b (told (m.statistics session) r)
-  decided_reply bound.Begin r p h = absurd h
-  decided_reply bound.Commit r p h = absurd h
-  decided_reply bound.Rollback r p h = absurd h
-  decided_reply bound.Nothing r p h = absurd h
-  decided_reply (bound.Statistics on) r p h = absurd h
-  decided_reply (bound.Insert plan) r p h = valued_in (m.txns session) m.clock (bound.Insert plan) r (p refl) h
-  decided_reply (bound.Update plan) r p h = valued_in (m.txns session) m.clock (bound.Update plan) r (p refl) h
-  decided_reply (bound.Delete condition) r p h = valued_in (m.txns session) m.clock (bound.Delete condition) r (p refl) h
-  decided_reply (bound.Select query) r p h = answer_in (m.txns session) m.clock r query (p refl) h
-  decided_reply bound.GroupReport r p h = absurd h
-  decided_reply bound.SegmentReport r p h = absurd h
-  decided_reply (bound.Reorganize all) r p h = absurd h
-  decided_reply (bound.Refused refusal) r p h = absurd h
+  pub decided_reply : (note : ℕ) (b : Bound) (r : Reply) → (is_of_table b ≡ true → IsPinned (m.txns session) m.clock) → IsDecided schema b (seen_in m.changes (m.txns session)) r → IsReplyTo schema m session note b (told (m.statistics session) r)
+  decided_reply note bound.Begin r p h = absurd h
+  decided_reply note bound.Commit r p h = absurd h
+  decided_reply note bound.Rollback r p h = absurd h
+  decided_reply note bound.Nothing r p h = absurd h
+  decided_reply note (bound.Statistics on) r p h = absurd h
+  decided_reply note (bound.Insert plan) r p h = valued_in (m.txns session) m.clock (bound.Insert plan) r (p refl) h
+  decided_reply note (bound.Update plan) r p h = valued_in (m.txns session) m.clock (bound.Update plan) r (p refl) h
+  decided_reply note (bound.Delete condition) r p h = valued_in (m.txns session) m.clock (bound.Delete condition) r (p refl) h
+  decided_reply note (bound.Select query) r p h = answer_in (m.txns session) m.clock r query (p refl) h
+  decided_reply note bound.GroupReport r p h = absurd h
+  decided_reply note bound.SegmentReport r p h = absurd h
+  decided_reply note (bound.Reorganize all) r p h = absurd h
+  decided_reply note (bound.Refused refusal) r p h = absurd h
 
   valued_same : (w : Result (List Edit) Refusal) (b : Bound) (r : Reply) → IsValued w r → wrote_or m session [] r ≡ replied schema m session b r
   valued_same (Ok edits) b r h = absurd h
@@ -166,20 +166,20 @@ pub write_of_table : (b : Bound) → is_write b ≡ true → is_of_table b ≡ t
 write_of_table b e = kind_of_table (kind_of b) e
 
 -- the reply and the state of a write, by what its transaction sees
-pub write_reply : (schema : Schema) (m : State) (session : ℕ) (b : Bound) (r : Reply) → is_write b ≡ true → IsWriteReply schema m session (m.txns session) b r → IsReply schema m session b r
-write_reply schema m session bound.Begin r w h = absurd (cc w)
-write_reply schema m session bound.Commit r w h = absurd (cc w)
-write_reply schema m session bound.Rollback r w h = absurd (cc w)
-write_reply schema m session bound.Nothing r w h = absurd (cc w)
-write_reply schema m session (bound.Statistics on) r w h = absurd (cc w)
-write_reply schema m session (bound.Insert plan) r w h = h
-write_reply schema m session (bound.Update plan) r w h = h
-write_reply schema m session (bound.Delete condition) r w h = h
-write_reply schema m session (bound.Select query) r w h = absurd (cc w)
-write_reply schema m session bound.GroupReport r w h = absurd (cc w)
-write_reply schema m session bound.SegmentReport r w h = absurd (cc w)
-write_reply schema m session (bound.Reorganize all) r w h = absurd (cc w)
-write_reply schema m session (bound.Refused refusal) r w h = absurd (cc w)
+pub write_reply : (schema : Schema) (m : State) (session note : ℕ) (b : Bound) (r : Reply) → is_write b ≡ true → IsWriteReply schema m session (m.txns session) b r → IsReplyTo schema m session note b r
+write_reply schema m session note bound.Begin r w h = absurd (cc w)
+write_reply schema m session note bound.Commit r w h = absurd (cc w)
+write_reply schema m session note bound.Rollback r w h = absurd (cc w)
+write_reply schema m session note bound.Nothing r w h = absurd (cc w)
+write_reply schema m session note (bound.Statistics on) r w h = absurd (cc w)
+write_reply schema m session note (bound.Insert plan) r w h = h
+write_reply schema m session note (bound.Update plan) r w h = h
+write_reply schema m session note (bound.Delete condition) r w h = h
+write_reply schema m session note (bound.Select query) r w h = absurd (cc w)
+write_reply schema m session note bound.GroupReport r w h = absurd (cc w)
+write_reply schema m session note bound.SegmentReport r w h = absurd (cc w)
+write_reply schema m session note (bound.Reorganize all) r w h = absurd (cc w)
+write_reply schema m session note (bound.Refused refusal) r w h = absurd (cc w)
 
 pub write_accepted : (schema : Schema) (m : State) (session : ℕ) (b : Bound) → is_write b ≡ true → accepted schema m session b ≡ wrote m session (m.txns session) (writes_in schema m.changes (m.txns session) b)
 write_accepted schema m session bound.Begin w = absurd (cc w)

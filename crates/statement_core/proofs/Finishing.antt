@@ -14,7 +14,7 @@ use Rattle.cs_model.specs.State.{State, Begin, Half, Txn}
 use Rattle.cs_model.specs.Steps.{IsReply, commits, committed, done_in, gone, is_empty, replied, unwound}
 use Rattle.cs_model.specs.Text.{IsPrintableReply}
 use Rattle.log_laws.specs.Laws.{IsByKey}
-use Rattle.log_laws.specs.Started.{seen_by, Sees}
+use Rattle.log_laws.specs.Started.{half_by, seen_by, Sees}
 use Rattle.edit_laws.specs.Edits.{edits_of}
 use Rattle.write_set.specs.declared.write.Write.{Write}
 use Rattle.txn_table.specs.declared.txn.Txn as kept
@@ -98,31 +98,34 @@ commits_kept m i (Some txn) some = commits_own m i (txn_as txn) (at txn.own some
     at [] h = absurd (h refl)
     at (write ∷ own) h = refl
 
-module _ (schema : Schema) (changes : List Change) (old new : CoreState) (session : ℕ) (short : Bool) (depth : ℕ) (r : Reply) (found : short ≡ false) (j : Stands old.directory changes)
+module _ (schema : Schema) (changes : List Change) (old new : CoreState) (session : ℕ) (half : Half) (depth : ℕ) (r : Reply) (found : half.short ≡ false) (j : Stands old.directory changes)
     (deep : depth_of (txn_of old.directory.txns session) ≡ Some depth) (low : depth ≤ 1) where
   there : (o : Option kept.Txn) → depth_of o ≡ Some depth → done_in (txn_in o) 3902 ≡ reply.Done
   there None e = absurd (cc e)
   there (Some txn) e = refl
 
-  done : IsReply schema (state_of changes old) session bound.Commit reply.Done
+  abbrev commit : Half
+  commit = record half { bound = bound.Commit }
+
+  done : IsReply schema (state_of changes old) session commit reply.Done
   done = sym (there (txn_of old.directory.txns session) deep)
 
   accepts : committed_in (state_of changes old) session ≡ unwound (state_of changes old) session ((state_of changes old).txns session)
   accepts = unwound_commits (state_of changes old) session (txn_of old.directory.txns session) depth deep low
 
-  pub ends_commit : CommitGives changes old session reply.Done r new → Ends schema changes old session bound.Commit short r new
+  pub ends_commit : CommitGives changes old session reply.Done r new → Ends schema changes old session commit r new
   ends_commit (inl c) = record {
-    said = said_plain schema (sizes_of old.directory) (state_of changes old) (groups_of old) session bound.Commit short r (inr (found, subst (IsReply schema (state_of changes old) session bound.Commit) (sym c.reply) done)) (λ k. absurd (cc k));
+    said = said_plain schema (sizes_of old.directory) (state_of changes old) (groups_of old) session commit r (inr (found, subst (IsReply schema (state_of changes old) session commit) (sym c.reply) done)) (λ k. absurd (cc k));
     leaves = subst (Leaves changes old new) (accepts ∙ ap (replied schema (state_of changes old) session bound.Commit) (sym c.reply)) c.leaves;
   }
-  ends_commit (inr (inl f)) = let still = f.still in ends_short schema changes old new session bound.Commit short r (still.stands changes j) still.same f.reply f.state
+  ends_commit (inr (inl f)) = let still = f.still in ends_short schema changes old new session commit r (still.stands changes j) still.same f.reply f.state
   ends_commit (inr (inr f)) =
       let gives = f.0 in
       let still = gives.still in
       let past = f.1 in
       let own = commits_kept (state_of changes old) session (txn_of old.directory.txns session) past.some in
       record {
-        said = said_full schema (sizes_of old.directory) (state_of changes old) (groups_of old) session bound.Commit short r reply.Done (edits_of (own_of (txn_of old.directory.txns session))) gives.reply found done
+        said = said_full schema (sizes_of old.directory) (state_of changes old) (groups_of old) session commit r reply.Done (edits_of (own_of (txn_of old.directory.txns session))) gives.reply found done
             (subst (λ (x : State). old.directory.clock < x.clock) accepts own.0) (subst (λ (x : State). committed_edits (state_of changes old) x ≡ edits_of (own_of (txn_of old.directory.txns session))) accepts own.1) past.past;
         leaves = same_leaves changes old new (replied schema (state_of changes old) session bound.Commit r) (still.stands changes j) still.same
             (gives.state ∙ ap (replied schema (state_of changes old) session bound.Commit) (sym gives.reply));
@@ -139,39 +142,39 @@ told_prints schema on (reply.Segments lines) p = p
 told_prints schema on (reply.Left groups) p = p
 told_prints schema on (reply.Refused refusal) p = p
 
-module _ (begin : Begin) (changes : List Change) (held : CoreState) (session : ℕ) (b : Bound) (short : Bool) where
-  pub needs_none_of : IsDoneAt begin changes held session b short outcome.Nothing → needs_none b ≡ true
+module _ (begin : Begin) (changes : List Change) (held : CoreState) (session : ℕ) (half : Half) where
+  pub needs_none_of : IsDoneAt begin changes held session half outcome.Nothing → needs_none half.bound ≡ true
   needs_none_of d = ap needs_none (sym d.bound) ∙ d.gives
 
-  pub parcel_of_commit : (parcel : Parcel) → IsDoneAt begin changes held session b short (outcome.Commit parcel) → IsParcelFor held.directory (own_of (txn_of held.directory.txns session)) parcel
+  pub parcel_of_commit : (parcel : Parcel) → IsDoneAt begin changes held session half (outcome.Commit parcel) → IsParcelFor held.directory (own_of (txn_of held.directory.txns session)) parcel
   parcel_of_commit parcel d =
       let holds = d.holds in
       let g = d.gives in
       subst (λ (s : Schema). parcels.IsParcelFor s (sizes_of held.directory) (edits_of (own_of (txn_of held.directory.txns session))) parcel) (holds.schema ∙ sym d.schema)
       (subst (λ es. parcels.IsParcelFor d.begun.schema (sizes_of held.directory) es parcel) (holds.own ∙ own_model (txn_of held.directory.txns session)) g.1)
 
-  pub is_commit : (parcel : Parcel) → IsDoneAt begin changes held session b short (outcome.Commit parcel) → b ≡ bound.Commit
+  pub is_commit : (parcel : Parcel) → IsDoneAt begin changes held session half (outcome.Commit parcel) → half.bound ≡ bound.Commit
   is_commit parcel d = let g = d.gives in sym d.bound ∙ g.0
 
-  pub over_of : IsDoneAt begin changes held session b short outcome.Nothing → reorganizes b ≡ None
+  pub over_of : IsDoneAt begin changes held session half outcome.Nothing → reorganizes half.bound ≡ None
   over_of d = ap reorganizes (sym d.bound) ∙ d.over
 
-  pub left_of : (groups : _) → IsDoneAt begin changes held session b short (outcome.Left groups) → (all : Bool) × (b ≡ bound.Reorganize all)
-  left_of groups d = is_reorganize b (subst (λ (x : Bound). IsSome (reorganizes x)) d.bound d.gives)
+  pub left_of : (groups : _) → IsDoneAt begin changes held session half (outcome.Left groups) → (all : Bool) × (half.bound ≡ bound.Reorganize all)
+  left_of groups d = is_reorganize half.bound (subst (λ (x : Bound). IsSome (reorganizes x)) d.bound d.gives)
 
   -- what was left is told, and nothing else changes
-  pub left_ends : (groups : _) (d : IsDoneAt begin changes held session b short (outcome.Left groups)) → Ends begin.schema changes held session b short (reply.Left groups) held
+  pub left_ends : (groups : _) (d : IsDoneAt begin changes held session half (outcome.Left groups)) → Ends begin.schema changes held session half (reply.Left groups) held
   left_ends groups d =
       let is = left_of groups d in
-      subst (λ (x : Bound). Ends begin.schema changes held session x short (reply.Left groups) held) (sym is.1)
-      (ends_settled begin.schema changes held held session (bound.Reorganize is.0) short (reply.Left groups) d.stands (record { claims = refl; groups = refl; sizes = refl; schema = refl; clock = refl })
-      (never_short b short d.why (ap is_of_table is.1)) (λ k. tt) (record { reply = inr tt; state = refl }))
+      subst (λ (x : Bound). Ends begin.schema changes held session (record half { bound = x }) (reply.Left groups) held) (sym is.1)
+      (ends_settled begin.schema changes held held session (record half { bound = bound.Reorganize is.0 }) (reply.Left groups) d.stands (record { claims = refl; groups = refl; sizes = refl; schema = refl; clock = refl })
+      (never_short half.bound half.short d.why (ap is_of_table is.1)) (λ k. tt) (record { reply = inr tt; state = refl }))
 
-  pub with_outcome : (o x : Outcome) → o ≡ x → IsDoneAt begin changes held session b short o → IsDoneAt begin changes held session b short x
-  with_outcome o x e d = subst (IsDoneAt begin changes held session b short) e d
+  pub with_outcome : (o x : Outcome) → o ≡ x → IsDoneAt begin changes held session half o → IsDoneAt begin changes held session half x
+  with_outcome o x e d = subst (IsDoneAt begin changes held session half) e d
 
   -- the reply that the work decided
-  module _ (given : Reply) (d : IsDoneAt begin changes held session b short (outcome.Answer given)) where
+  module _ (given : Reply) (d : IsDoneAt begin changes held session half (outcome.Answer given)) where
     m : State
     m = state_of changes held
 
@@ -184,37 +187,37 @@ module _ (begin : Begin) (changes : List Change) (held : CoreState) (session : �
     seen_is : seen_by d.begun ≡ seen_in changes ((state_of changes held).txns session)
     seen_is = let holds = d.holds in begun_seen (state_of changes held) session d.begun holds.own sees
 
-    pub decided : IsDecided begin.schema b (seen_in changes ((state_of changes held).txns session)) given
+    pub decided : IsDecided begin.schema half.bound (seen_in changes ((state_of changes held).txns session)) given
     decided =
         let holds = d.holds in
         let g = d.gives in
-        subst (λ (s : Schema). IsDecided s b (seen_in changes ((state_of changes held).txns session)) given) holds.schema
+        subst (λ (s : Schema). IsDecided s half.bound (seen_in changes ((state_of changes held).txns session)) given) holds.schema
         (subst (λ (x : Bound). IsDecided d.begun.schema x (seen_in changes ((state_of changes held).txns session)) given) d.bound
         (subst (λ (t : Table). IsDecided d.begun.schema d.begun.bound t given) seen_is g.1))
 
-    pub answer_other : reorganizes b ≡ None
-    answer_other = table_other b (ap is_of_table (sym d.bound) ∙ on_table)
+    pub answer_other : reorganizes half.bound ≡ None
+    answer_other = table_other half.bound (ap is_of_table (sym d.bound) ∙ on_table)
 
-    pub found_answer : short ≡ false
+    pub found_answer : half.short ≡ false
     found_answer = let g = d.gives in sym d.short_is ∙ g.0
 
     pub answered_ends : (new : CoreState) → Stands new.directory changes → IsSame held new → state_of changes new ≡ wrote_or (state_of changes held) session [] given
-        → Ends begin.schema changes held session b short (told (settings_of held.settings session) given) new
+        → Ends begin.schema changes held session half (told (settings_of held.settings session) given) new
     answered_ends new j same state =
-        ends_settled begin.schema changes held new session b short (told (settings_of held.settings session) given) j same found_answer (λ k. absurd (not_report k decided)) (record {
-          reply = inr (decided_reply begin.schema (state_of changes held) session b given (λ t. begun_pinned (state_of changes held) session d.begun sees) decided);
-          state = state ∙ decided_state begin.schema (state_of changes held) session b (seen_in changes ((state_of changes held).txns session)) given decided ∙ told_state begin.schema (state_of changes held) session b (settings_of held.settings session) given;
+        ends_settled begin.schema changes held new session half (told (settings_of held.settings session) given) j same found_answer (λ k. absurd (not_report k decided)) (record {
+          reply = inr (decided_reply begin.schema (state_of changes held) session half.note half.bound given (λ t. begun_pinned (state_of changes held) session d.begun sees) decided);
+          state = state ∙ decided_state begin.schema (state_of changes held) session half.bound (seen_in changes ((state_of changes held).txns session)) given decided ∙ told_state begin.schema (state_of changes held) session half.bound (settings_of held.settings session) given;
         })
       where
-        not_report : kind_of b ≡ kind.Report → IsDecided begin.schema b (seen_in changes ((state_of changes held).txns session)) given → ⊥
-        not_report k h = cc (ap kind_is_of_table k, decided_table begin.schema b (seen_in changes ((state_of changes held).txns session)) given h)
+        not_report : kind_of half.bound ≡ kind.Report → IsDecided begin.schema half.bound (seen_in changes ((state_of changes held).txns session)) given → ⊥
+        not_report k h = cc (ap kind_is_of_table k, decided_table begin.schema half.bound (seen_in changes ((state_of changes held).txns session)) given h)
 
     pub answered_prints : IsPrintableReply begin.schema (told (settings_of held.settings session) given)
     answered_prints = let holds = d.holds in let g = d.gives in told_prints begin.schema (settings_of held.settings session) given (subst (λ (s : Schema). IsPrintableReply s given) holds.schema g.2)
 
   -- the writes that it gave
-  abbrev writing : (o : Outcome) (d : IsDoneAt begin changes held session b short o) (list : List Write) (present : List Key) (affected : ℕ) (parcel : Option Parcel) → d.begun.short ≡ false → is_write d.begun.bound ≡ true
-      → GivesWrites (sizes_of held.directory) d.begun list present affected parcel → IsWritingAt begin changes held session b short list present affected parcel
+  abbrev writing : (o : Outcome) (d : IsDoneAt begin changes held session half o) (list : List Write) (present : List Key) (affected : ℕ) (parcel : Option Parcel) → d.begun.short ≡ false → is_write d.begun.bound ≡ true
+      → GivesWrites (sizes_of held.directory) d.begun list present affected parcel → IsWritingAt begin changes held session half list present affected parcel
   writing o d list present affected parcel found writes gives = record {
     stands = d.stands;
     schema = d.schema;
@@ -229,12 +232,12 @@ module _ (begin : Begin) (changes : List Change) (held : CoreState) (session : �
     gives = gives;
   }
 
-  abbrev pub writing_of : (writes : _) (present : _) (affected : ℕ) (parcel : Option Parcel) → IsDoneAt begin changes held session b short (outcome.Writes writes present affected parcel)
-      → IsWritingAt begin changes held session b short writes.items present.items affected parcel
+  abbrev pub writing_of : (writes : _) (present : _) (affected : ℕ) (parcel : Option Parcel) → IsDoneAt begin changes held session half (outcome.Writes writes present affected parcel)
+      → IsWritingAt begin changes held session half writes.items present.items affected parcel
   writing_of writes present affected parcel d = let g = d.gives in writing (outcome.Writes writes present affected parcel) d writes.items present.items affected parcel g.0 g.1 g.2
 
   -- those that it loads
-  abbrev pub loading_of : (keys : _) (parcel : Parcel) → IsDoneAt begin changes held session b short (outcome.Load keys parcel) → IsLoadingAt begin changes held session b short keys.items parcel
+  abbrev pub loading_of : (keys : _) (parcel : Parcel) → IsDoneAt begin changes held session half (outcome.Load keys parcel) → IsLoadingAt begin changes held session half keys.items parcel
   loading_of keys parcel d =
       let g = d.gives in
       record {
@@ -249,10 +252,10 @@ pub some_half : (a b : Half) → Some a ≡ Some b → a ≡ b
 some_half a b e = cc e
 
 pub done_of : (begin : Begin) (changes : List Change) (old mid : CoreState) (session : ℕ) (half : Half) (o : Outcome) → (state_of changes old).half session ≡ Some half → mid.directory ≡ old.directory
-    → IsReadyAt begin changes old session o → IsDoneAt begin changes mid session half.bound half.short o
+    → IsReadyAt begin changes old session o → IsDoneAt begin changes mid session half o
 done_of begin changes old mid session half o is rest d =
     let shows = d.shows in
-    let same : record { bound = d.begun.bound; short = d.begun.short } ≡ half = some_half (record { bound = d.begun.bound; short = d.begun.short }) half (sym shows.half ∙ is) in
+    let same : half_by d.begun ≡ half = some_half (half_by d.begun) half (sym shows.half ∙ is) in
     let holds : Holds begin (state_of changes old) session d.begun = record { schema = shows.schema; implicit = shows.implicit; own = shows.own; sees = shows.sees } in
     record {
       stands = subst (λ (x : Directory). Stands x changes) (sym rest) d.stands;
@@ -262,6 +265,7 @@ done_of begin changes old mid session half o is rest d =
       begun = d.begun;
       bound = ap (λ (h : Half). h.bound) same;
       short_is = ap (λ (h : Half). h.short) same;
+      note_is = ap (λ (h : Half). h.note) same;
       why = λ e. subst (λ (x : Bound). is_of_table x ≡ true) (ap (λ (h : Half). h.bound) same) (d.why (ap (λ (h : Half). h.short) same ∙ e));
       holds = subst (λ (x : Directory). Holds begin (state_of changes (record mid { directory = x })) session d.begun) (sym rest) (record {
         schema = holds.schema;

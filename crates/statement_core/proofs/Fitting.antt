@@ -22,7 +22,7 @@ use Rattle.cs_types.proofs.KeyLemmas.{exact_key}
 use Rattle.cs_model.specs.State.{State, Txn, Half, with, txn_set, half_set}
 use Rattle.cs_model.specs.Kinds.{is_of_table}
 use Rattle.cs_model.specs.Obstacles.{keys_of, IsObstacle, IsJudged}
-use Rattle.cs_model.specs.Steps.{IsReply, IsGroups, IsLeft, began, unwound, settled, commits, wrote, writes_in, gone, refused, replied, accepted, ends_txn, staged, is_empty, numbered, begin_reply, done_in, pinned, started, txn_opened}
+use Rattle.cs_model.specs.Steps.{IsReplyTo, IsGroups, IsLeft, began, unwound, settled, commits, wrote, writes_in, gone, half_of, refused, replied, accepted, ends_txn, staged, is_empty, numbered, begin_reply, done_in, pinned, started, txn_opened}
 use Rattle.cs_model.specs.Text.{IsPrintableKey, IsPrintableRefusal, IsPrintableReply}
 use Rattle.statement_core.specs.Fit.{IsFitting, AreFitting, IsFitTxn, IsReadyHalf, IsFitState}
 
@@ -175,20 +175,20 @@ module _ (schema : Schema) where
   left_print (reply.Refused refusal) h = absurd h
 
   -- the reply to a statement that is none of the table, where a report on segments prints
-  pub plain_prints : (m : State) (i : ℕ) (b : Bound) (r : Reply) → is_of_table b ≡ false → IsReady schema b → (b ≡ bound.SegmentReport → IsPrintableReply schema r) → IsReply schema m i b r → IsPrintableReply schema r
-  plain_prints m i bound.Begin r e p k h = subst (IsPrintableReply schema) (sym h) (begin_prints (m.txns i))
-  plain_prints m i bound.Commit r e p k h = subst (IsPrintableReply schema) (sym h) (done_prints (m.txns i) 3902)
-  plain_prints m i bound.Rollback r e p k h = subst (IsPrintableReply schema) (sym h) (done_prints (m.txns i) 3903)
-  plain_prints m i bound.Nothing r e p k h = subst (IsPrintableReply schema) (sym h) tt
-  plain_prints m i (bound.Statistics on) r e p k h = subst (IsPrintableReply schema) (sym h) tt
-  plain_prints m i (bound.Insert plan) r e p k h = absurd (cc e)
-  plain_prints m i (bound.Update plan) r e p k h = absurd (cc e)
-  plain_prints m i (bound.Delete condition) r e p k h = absurd (cc e)
-  plain_prints m i (bound.Select query) r e p k h = absurd (cc e)
-  plain_prints m i bound.GroupReport r e p k h = groups_print r h
-  plain_prints m i bound.SegmentReport r e p k h = k refl
-  plain_prints m i (bound.Reorganize all) r e p k h = left_print r h
-  plain_prints m i (bound.Refused refusal) r e p k h = refused_prints r refusal h (reading_prints refusal p)
+  pub plain_prints : (m : State) (i note : ℕ) (b : Bound) (r : Reply) → is_of_table b ≡ false → IsReady schema b → (b ≡ bound.SegmentReport → IsPrintableReply schema r) → IsReplyTo schema m i note b r → IsPrintableReply schema r
+  plain_prints m i note bound.Begin r e p k h = subst (IsPrintableReply schema) (sym h) (begin_prints (m.txns i))
+  plain_prints m i note bound.Commit r e p k h = subst (IsPrintableReply schema) (sym h) (done_prints (m.txns i) 3902)
+  plain_prints m i note bound.Rollback r e p k h = subst (IsPrintableReply schema) (sym h) (done_prints (m.txns i) 3903)
+  plain_prints m i note bound.Nothing r e p k h = subst (IsPrintableReply schema) (sym h) tt
+  plain_prints m i note (bound.Statistics on) r e p k h = subst (IsPrintableReply schema) (sym h) tt
+  plain_prints m i note (bound.Insert plan) r e p k h = absurd (cc e)
+  plain_prints m i note (bound.Update plan) r e p k h = absurd (cc e)
+  plain_prints m i note (bound.Delete condition) r e p k h = absurd (cc e)
+  plain_prints m i note (bound.Select query) r e p k h = absurd (cc e)
+  plain_prints m i note bound.GroupReport r e p k h = groups_print r h
+  plain_prints m i note bound.SegmentReport r e p k h = k refl
+  plain_prints m i note (bound.Reorganize all) r e p k h = left_print r h
+  plain_prints m i note (bound.Refused refusal) r e p k h = refused_prints r refusal h (reading_prints refusal p)
 
   keys_fit : (edits : List Edit) → All (IsFit schema) edits → All (IsPrintableKey schema) (keys_of edits)
   keys_fit [] all = All-nil (IsPrintableKey schema)
@@ -218,7 +218,7 @@ module _ (schema : Schema) where
   pinned_fits m i short fit = record { changes = fit.changes; txns = set_fits (IsFitTxn schema) m.txns i _ (opened_fits (m.txns i) m.next (fit.txns i)) fit.txns; halves = fit.halves }
 
   pub started_fits : (m : State) (i : ℕ) (b : Bound) (short : Bool) → IsFitState schema m → IsReady schema b → (short ≡ true → is_of_table b ≡ true) → IsFitState schema (started m i b short)
-  started_fits m i b short fit ready why = fit_half _ i (Some (record { bound = b; short = short })) (at (is_of_table b)) (ready, why)
+  started_fits m i b short fit ready why = fit_half _ i (Some (half_of m b short)) (at (is_of_table b)) (ready, why)
     where
       at : (t : Bool) → IsFitState schema (cond t (pinned m i short) m)
       at true = pinned_fits m i short fit

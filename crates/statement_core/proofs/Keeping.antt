@@ -14,6 +14,7 @@ use Rattle.cs_model.specs.State.{State, Half, start, begin_of}
 use Rattle.cs_model.specs.Steps.{Legal, IsStep}
 use Rattle.cs_model.specs.Text.{IsPrintableEntry}
 use Rattle.log_laws.specs.Laws.{AreDistinct, IsSound}
+use Rattle.log_laws.specs.Started.{half_by}
 use Rattle.log_laws.proofs.Beginnings.{may_begin}
 use Rattle.log_laws.proofs.Numbers.{small}
 use Rattle.log_laws.proofs.Room.{owed_first}
@@ -75,7 +76,7 @@ module _ (made : Terms) (held : CoreState) (log : List Entry) (cap : ℕ) (sessi
         bare = i.bare s;
         by_key = sound.by_key s;
         begun = d.begun;
-        why = why_of s (record { bound = d.begun.bound; short = d.begun.short }) shows.half;
+        why = why_of s (half_by d.begun) shows.half;
         shows = shows;
         gives = subst (λ (sizes : Sizes). GivesOn sizes d.begun o) (sym i.sizes) d.gives;
         over = d.over;

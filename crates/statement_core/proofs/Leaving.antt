@@ -15,8 +15,8 @@ use Rattle.cs_model.specs.declared.work.Actor.{Actor}
 use Rattle.cs_model.specs.Answers.{writes}
 use Rattle.cs_model.specs.Changes.{Edit, Change}
 use Rattle.cs_model.specs.Queries.{answer}
-use Rattle.cs_model.specs.State.{Txn, State, seen}
-use Rattle.cs_model.specs.Steps.{IsReply, IsWriteReply, IsWriteReplyOf, IsAnswer, IsAnswerIn, begin_reply, done_in}
+use Rattle.cs_model.specs.State.{Txn, Half, State, seen}
+use Rattle.cs_model.specs.Steps.{IsReply, IsReplyTo, IsWriteReply, IsWriteReplyOf, IsAnswer, IsAnswerIn, begin_reply, done_in}
 use Rattle.group_log.specs.Followed.{Ground}
 use Rattle.group_log.specs.Reorganizing.{IsLeaving}
 use Rattle.statement_core.specs.declared.core_state.CoreState.{CoreState}
@@ -57,41 +57,41 @@ module _ (groups : List (ℕ × Actor)) where
       at (Ok rows) h = h
       at (Err place) h = cc h
 
-  reply_never : (schema : Schema) (m : State) (session : ℕ) (b : Bound) → reorganizes b ≡ None → IsReply schema m session b (reply.Left groups) → ⊥
-  reply_never schema m session bound.Begin e h = begin_never (m.txns session) h
-  reply_never schema m session bound.Commit e h = done_never (m.txns session) 3902 h
-  reply_never schema m session bound.Rollback e h = done_never (m.txns session) 3903 h
-  reply_never schema m session bound.Nothing e h = cc h
-  reply_never schema m session (bound.Statistics on) e h = cc h
-  reply_never schema m session (bound.Insert plan) e h = write_never schema m session (m.txns session) (bound.Insert plan) h
-  reply_never schema m session (bound.Update plan) e h = write_never schema m session (m.txns session) (bound.Update plan) h
-  reply_never schema m session (bound.Delete condition) e h = write_never schema m session (m.txns session) (bound.Delete condition) h
-  reply_never schema m session (bound.Select query) e h = query_never schema m session (m.txns session) query h
-  reply_never schema m session bound.GroupReport e h = h
-  reply_never schema m session bound.SegmentReport e h = h
-  reply_never schema m session (bound.Reorganize all) e h = cc e
-  reply_never schema m session (bound.Refused refusal) e h = cc h
+  reply_never : (schema : Schema) (m : State) (session note : ℕ) (b : Bound) → reorganizes b ≡ None → IsReplyTo schema m session note b (reply.Left groups) → ⊥
+  reply_never schema m session note bound.Begin e h = begin_never (m.txns session) h
+  reply_never schema m session note bound.Commit e h = done_never (m.txns session) 3902 h
+  reply_never schema m session note bound.Rollback e h = done_never (m.txns session) 3903 h
+  reply_never schema m session note bound.Nothing e h = cc h
+  reply_never schema m session note (bound.Statistics on) e h = cc h
+  reply_never schema m session note (bound.Insert plan) e h = write_never schema m session (m.txns session) (bound.Insert plan) h
+  reply_never schema m session note (bound.Update plan) e h = write_never schema m session (m.txns session) (bound.Update plan) h
+  reply_never schema m session note (bound.Delete condition) e h = write_never schema m session (m.txns session) (bound.Delete condition) h
+  reply_never schema m session note (bound.Select query) e h = query_never schema m session (m.txns session) query h
+  reply_never schema m session note bound.GroupReport e h = h
+  reply_never schema m session note bound.SegmentReport e h = h
+  reply_never schema m session note (bound.Reorganize all) e h = cc e
+  reply_never schema m session note (bound.Refused refusal) e h = cc h
 
   memory_never : (r : Reply) → r ≡ reply.Refused Memory → r ≡ reply.Left groups → ⊥
   memory_never r e f = cc (e, f)
 
   -- has no reply that tells what was left
-  pub settled_never : (schema : Schema) (m : State) (session : ℕ) (b : Bound) (r : Reply) → reorganizes b ≡ None → (r ≡ reply.Refused Memory) ⊎ IsReply schema m session b r → r ≡ reply.Left groups → ⊥
-  settled_never schema m session b r other (inl e) is = memory_never r e is
-  settled_never schema m session b r other (inr h) is = reply_never schema m session b other (subst (IsReply schema m session b) is h)
+  pub settled_never : (schema : Schema) (m : State) (session : ℕ) (half : Half) (r : Reply) → reorganizes half.bound ≡ None → (r ≡ reply.Refused Memory) ⊎ IsReply schema m session half r → r ≡ reply.Left groups → ⊥
+  settled_never schema m session half r other (inl e) is = memory_never r e is
+  settled_never schema m session half r other (inr h) is = reply_never schema m session half.note half.bound other (subst (IsReply schema m session half) is h)
 
-  pub never_left : (schema : Schema) (changes : List Change) (old : CoreState) (session : ℕ) (b : Bound) (short : Bool) (r : Reply) (new : CoreState) → Ends schema changes old session b short r new → reorganizes b ≡ None
+  pub never_left : (schema : Schema) (changes : List Change) (old : CoreState) (session : ℕ) (half : Half) (r : Reply) (new : CoreState) → Ends schema changes old session half r new → reorganizes half.bound ≡ None
       → r ≡ reply.Left groups → ⊥
-  never_left schema changes old session b short r new ends other is = let said = ends.said in at said.reply
+  never_left schema changes old session half r new ends other is = let said = ends.said in at said.reply
     where
       wants : r ≡ reply.Refused (Reading 50001 1) → r ≡ reply.Left groups → ⊥
       wants e f = cc (e, f)
 
-      among : IsReply schema (state_of changes old) session b r ⊎ WantsIds schema (state_of changes old) session b r → ⊥
-      among (inl h) = reply_never schema (state_of changes old) session b other (subst (IsReply schema (state_of changes old) session b) is h)
+      among : IsReply schema (state_of changes old) session half r ⊎ WantsIds schema (state_of changes old) session half r → ⊥
+      among (inl h) = reply_never schema (state_of changes old) session half.note half.bound other (subst (IsReply schema (state_of changes old) session half) is h)
       among (inr w) = wants w.refuses is
 
-      at : (r ≡ reply.Refused Memory) ⊎ ((short ≡ false) × (IsReply schema (state_of changes old) session b r ⊎ WantsIds schema (state_of changes old) session b r)) → ⊥
+      at : (r ≡ reply.Refused Memory) ⊎ ((half.short ≡ false) × (IsReply schema (state_of changes old) session half r ⊎ WantsIds schema (state_of changes old) session half r)) → ⊥
       at (inl e) = memory_never r e is
       at (inr h) = among h.1
 

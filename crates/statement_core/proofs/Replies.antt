@@ -15,8 +15,8 @@ use Rattle.cs_model.specs.declared.kind.Kind.TheVariants as kind
 use Rattle.cs_model.specs.Changes.{Edit, Change}
 use Rattle.cs_model.specs.Kinds.{kind_of}
 use Rattle.cs_model.specs.Queries.{answer}
-use Rattle.cs_model.specs.State.{Txn, State, seen}
-use Rattle.cs_model.specs.Steps.{IsReply, IsWriteReply, IsWriteReplyOf, IsAnswer, IsAnswerIn, IsLeft, began, gone, ends_txn, refused, replied, begin_reply, done_in}
+use Rattle.cs_model.specs.State.{Txn, Half, State, seen}
+use Rattle.cs_model.specs.Steps.{IsReply, IsReplyTo, IsWriteReply, IsWriteReplyOf, IsAnswer, IsAnswerIn, IsLeft, began, gone, ends_txn, refused, replied, begin_reply, done_in}
 use Rattle.group_book.specs.Book.{Book}
 use Rattle.group_log.specs.Followed.{ShowsBook}
 use Rattle.statement_core.specs.Settled.{WantsIds}
@@ -77,20 +77,20 @@ module _ (now : Schema) (changes : List Change) (book : Book) where
   left_shows (reply.Refused refusal) h = tt
 
   -- a reply that is the defined one shows the book, where a report does
-  pub reply_shows : (schema : Schema) (m : State) (session : ℕ) (b : Bound) (r : Reply) → IsReply schema m session b r → (kind_of b ≡ kind.Report → ShowsBook now changes book r) → ShowsBook now changes book r
-  reply_shows schema m session bound.Begin r h k = subst (ShowsBook now changes book) (sym h) (begin_shows (m.txns session))
-  reply_shows schema m session bound.Commit r h k = subst (ShowsBook now changes book) (sym h) (done_shows (m.txns session) 3902)
-  reply_shows schema m session bound.Rollback r h k = subst (ShowsBook now changes book) (sym h) (done_shows (m.txns session) 3903)
-  reply_shows schema m session bound.Nothing r h k = subst (ShowsBook now changes book) (sym h) tt
-  reply_shows schema m session (bound.Statistics on) r h k = subst (ShowsBook now changes book) (sym h) tt
-  reply_shows schema m session (bound.Insert plan) r h k = write_shows schema m session (bound.Insert plan) (m.txns session) r h
-  reply_shows schema m session (bound.Update plan) r h k = write_shows schema m session (bound.Update plan) (m.txns session) r h
-  reply_shows schema m session (bound.Delete condition) r h k = write_shows schema m session (bound.Delete condition) (m.txns session) r h
-  reply_shows schema m session (bound.Select query) r h k = select_shows schema m session (m.txns session) query r h
-  reply_shows schema m session bound.GroupReport r h k = k refl
-  reply_shows schema m session bound.SegmentReport r h k = k refl
-  reply_shows schema m session (bound.Reorganize all) r h k = left_shows r h
-  reply_shows schema m session (bound.Refused refusal) r h k = refused_shows r refusal h
+  pub reply_shows : (schema : Schema) (m : State) (session note : ℕ) (b : Bound) (r : Reply) → IsReplyTo schema m session note b r → (kind_of b ≡ kind.Report → ShowsBook now changes book r) → ShowsBook now changes book r
+  reply_shows schema m session note bound.Begin r h k = subst (ShowsBook now changes book) (sym h) (begin_shows (m.txns session))
+  reply_shows schema m session note bound.Commit r h k = subst (ShowsBook now changes book) (sym h) (done_shows (m.txns session) 3902)
+  reply_shows schema m session note bound.Rollback r h k = subst (ShowsBook now changes book) (sym h) (done_shows (m.txns session) 3903)
+  reply_shows schema m session note bound.Nothing r h k = subst (ShowsBook now changes book) (sym h) tt
+  reply_shows schema m session note (bound.Statistics on) r h k = subst (ShowsBook now changes book) (sym h) tt
+  reply_shows schema m session note (bound.Insert plan) r h k = write_shows schema m session (bound.Insert plan) (m.txns session) r h
+  reply_shows schema m session note (bound.Update plan) r h k = write_shows schema m session (bound.Update plan) (m.txns session) r h
+  reply_shows schema m session note (bound.Delete condition) r h k = write_shows schema m session (bound.Delete condition) (m.txns session) r h
+  reply_shows schema m session note (bound.Select query) r h k = select_shows schema m session (m.txns session) query r h
+  reply_shows schema m session note bound.GroupReport r h k = k refl
+  reply_shows schema m session note bound.SegmentReport r h k = k refl
+  reply_shows schema m session note (bound.Reorganize all) r h k = left_shows r h
+  reply_shows schema m session note (bound.Refused refusal) r h k = refused_shows r refusal h
 
 -- ---- no defined reply stands in the place of one after which something is committed
 
@@ -143,25 +143,25 @@ module _ (schema : Schema) (m : State) (session : ℕ) where
       at (Ok rows) h = h
       at (Err place) h = cc h
 
-  defined_never : (b : Bound) (r : Reply) (wants : WantsIds schema m session b r) → IsReply schema m session b r → ⊥
-  defined_never bound.Begin r w h = begin_keeps w.given (m.txns session) w.is_reply w.commits
-  defined_never bound.Commit r w h = done_never (m.txns session) 3902 (sym h ∙ w.refuses)
-  defined_never bound.Rollback r w h = done_never (m.txns session) 3903 (sym h ∙ w.refuses)
-  defined_never bound.Nothing r w h = cc (h, w.refuses)
-  defined_never (bound.Statistics on) r w h = cc (h, w.refuses)
-  defined_never (bound.Insert plan) r w h = write_never (bound.Insert plan) (m.txns session) r w.given h w.refuses w.is_reply w.commits
-  defined_never (bound.Update plan) r w h = write_never (bound.Update plan) (m.txns session) r w.given h w.refuses w.is_reply w.commits
-  defined_never (bound.Delete condition) r w h = write_never (bound.Delete condition) (m.txns session) r w.given h w.refuses w.is_reply w.commits
-  defined_never (bound.Select query) r w h = answer_never (m.txns session) query (subst (λ x. IsAnswerIn schema m session (m.txns session) query x) w.refuses h)
-  defined_never bound.GroupReport r w h = subst (IsReply schema m session bound.GroupReport) w.refuses h
-  defined_never bound.SegmentReport r w h = subst (IsReply schema m session bound.SegmentReport) w.refuses h
-  defined_never (bound.Reorganize all) r w h = subst (IsReply schema m session (bound.Reorganize all)) w.refuses h
-  defined_never (bound.Refused refusal) r w h = no_commit (bound.Refused refusal) w.given refusal w.is_reply w.commits
+  defined_never : (note : ℕ) (b : Bound) (r given : Reply) → IsReplyTo schema m session note b given → m.clock < (replied schema m session b given).clock → r ≡ reply.Refused (Reading 50001 1) → IsReplyTo schema m session note b r → ⊥
+  defined_never note bound.Begin r given g lt e h = begin_keeps given (m.txns session) g lt
+  defined_never note bound.Commit r given g lt e h = done_never (m.txns session) 3902 (sym h ∙ e)
+  defined_never note bound.Rollback r given g lt e h = done_never (m.txns session) 3903 (sym h ∙ e)
+  defined_never note bound.Nothing r given g lt e h = cc (h, e)
+  defined_never note (bound.Statistics on) r given g lt e h = cc (h, e)
+  defined_never note (bound.Insert plan) r given g lt e h = write_never (bound.Insert plan) (m.txns session) r given h e g lt
+  defined_never note (bound.Update plan) r given g lt e h = write_never (bound.Update plan) (m.txns session) r given h e g lt
+  defined_never note (bound.Delete condition) r given g lt e h = write_never (bound.Delete condition) (m.txns session) r given h e g lt
+  defined_never note (bound.Select query) r given g lt e h = answer_never (m.txns session) query (subst (λ x. IsAnswerIn schema m session (m.txns session) query x) e h)
+  defined_never note bound.GroupReport r given g lt e h = subst (IsReplyTo schema m session note bound.GroupReport) e h
+  defined_never note bound.SegmentReport r given g lt e h = subst (IsReplyTo schema m session note bound.SegmentReport) e h
+  defined_never note (bound.Reorganize all) r given g lt e h = subst (IsReplyTo schema m session note (bound.Reorganize all)) e h
+  defined_never note (bound.Refused refusal) r given g lt e h = no_commit (bound.Refused refusal) given refusal g lt
 
   -- nor is want of memory
-  pub never_wants : (b : Bound) (r : Reply) → (r ≡ reply.Refused Memory) ⊎ IsReply schema m session b r → WantsIds schema m session b r → ⊥
-  never_wants b r (inl e) w = wants_memory e w.refuses
+  pub never_wants : (half : Half) (r : Reply) → (r ≡ reply.Refused Memory) ⊎ IsReply schema m session half r → WantsIds schema m session half r → ⊥
+  never_wants half r (inl e) w = wants_memory e w.refuses
     where
       wants_memory : r ≡ reply.Refused Memory → r ≡ reply.Refused (Reading 50001 1) → ⊥
       wants_memory e f = cc (e, f)
-  never_wants b r (inr h) w = defined_never b r w h
+  never_wants half r (inr h) w = defined_never half.note half.bound r w.given w.is_reply w.commits w.refuses h

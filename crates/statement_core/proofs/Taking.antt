@@ -10,6 +10,7 @@ use Rattle.cs_model.specs.Floors as floors
 use Rattle.cs_model.specs.Floors.{IsFloor}
 use Rattle.cs_model.specs.Kinds.{is_of_table}
 use Rattle.cs_model.specs.State.{State, Begin, half_set}
+use Rattle.cs_model.specs.Steps.{half_of, noted}
 use Rattle.log_laws.specs.Started.{Begun, own_in, is_implicit, Shows, Starts}
 use Rattle.edit_laws.specs.Edits.{edits_of}
 use Rattle.write_set.specs.declared.write.Write.{Write}
@@ -76,10 +77,10 @@ pin_of changes mid new session pinned j schema clock book look view shows snap t
 
 -- ---- what was begun
 
-module _ (begin : Begin) (changes : List Change) (old mid new : CoreState) (session : ℕ) (b : Bound) (short : Bool) (pinned : Option Pinned) (own : List Write) (implicit : Bool) (ledger : Option Ledger)
+module _ (begin : Begin) (changes : List Change) (old mid new : CoreState) (session : ℕ) (b : Bound) (short : Bool) (note : ℕ) (pinned : Option Pinned) (own : List Write) (implicit : Bool) (ledger : Option Ledger)
     (schema : mid.directory.schema.value ≡ begin.schema)
     (opened : state_of changes mid ≡ opened_for (state_of changes old) session b short)
-    (halved : state_of changes new ≡ half_set (state_of changes mid) session (Some (record { bound = b; short = short })))
+    (halved : state_of changes new ≡ half_set (state_of changes mid) session (Some (half_of (state_of changes old) b short))) (note_is : note ≡ noted b (state_of changes old))
     (why : short ≡ true → is_of_table b ≡ true) (own_is : own ≡ own_of (txn_of mid.directory.txns session)) (implicit_is : implicit ≡ is_implicit ((state_of changes mid).txns session))
     (pin : is_of_table b ≡ true → short ≡ false → IsPinOrNone changes mid.directory session pinned) (groups : groups_of mid ≡ groups_of old)
     (lists : IsLedgerFor (groups_of old) (reorganizes b) ledger) where
@@ -91,6 +92,7 @@ module _ (begin : Begin) (changes : List Change) (old mid new : CoreState) (sess
   begun_at s = record {
     bound = b;
     short = short;
+    note = noted b (state_of changes old);
     implicit = is_implicit (txn_in (txn_of mid.directory.txns session));
     schema = begin.schema;
     changes = until s changes;
@@ -106,7 +108,7 @@ module _ (begin : Begin) (changes : List Change) (old mid new : CoreState) (sess
   shown : (s : ℕ) → (is_of_table b ≡ true → short ≡ false → (snapshots_in (txn_of mid.directory.txns) session ≡ Some s) × (s ≤ mid.directory.clock)) → Shows begin (state_of changes new) session (begun_at s)
   shown s at =
       subst (λ (x : State). Shows begin x session (begun_at s)) (sym halved) (record {
-        half = with_own (state_of changes mid).half session (Some (record { bound = b; short = short }));
+        half = with_own (state_of changes mid).half session (Some (half_of (state_of changes old) b short));
         schema = refl;
         implicit = refl;
         own = refl;
@@ -115,7 +117,7 @@ module _ (begin : Begin) (changes : List Change) (old mid new : CoreState) (sess
 
   starts : (s : ℕ) → (is_of_table b ≡ true → short ≡ false → (snapshots_in (txn_of mid.directory.txns) session ≡ Some s) × (s ≤ mid.directory.clock)) → Starts begin (state_of changes old) session (begun_at s) (state_of changes new)
   starts s at = record {
-    state = halved ∙ ap (λ (x : State). half_set x session (Some (record { bound = b; short = short }))) opened;
+    state = halved ∙ ap (λ (x : State). half_set x session (Some (half_of (state_of changes old) b short))) opened;
     why = why;
     shows = shown s at;
   }
@@ -140,13 +142,14 @@ module _ (begin : Begin) (changes : List Change) (old mid new : CoreState) (sess
       subst (λ (s : Schema). AreCounts s changes (groups_of old) condition (counts_in s p.view condition)) schema
       (subst (λ (book : Book). AreCounts mid.directory.schema.value changes book condition (counts_in mid.directory.schema.value p.view condition)) groups (is.counts condition))
 
-  taken_at : (o : Option Pinned) → pinned ≡ o → IsTaken begin changes old session b (record { pinned = pinned; own = own; short = short; implicit = implicit; ledger = ledger }) new
+  taken_at : (o : Option Pinned) → pinned ≡ o → IsTaken begin changes old session b (record { pinned = pinned; own = own; short = short; note = note; implicit = implicit; ledger = ledger }) new
   taken_at None e = record {
     begun = begun_at 0;
     bound = refl;
     among = refl;
     starts = starts 0 (λ t n. absurd (none t n));
     short = refl;
+    note = note_is;
     implicit = implicit_is;
     own = own_begun;
     ledger = lists;
@@ -162,6 +165,7 @@ module _ (begin : Begin) (changes : List Change) (old mid new : CoreState) (sess
     among = refl;
     starts = starts p.snapshot (λ t n. let is = there t n in (is.snapshot, is.taken));
     short = refl;
+    note = note_is;
     implicit = implicit_is;
     own = own_begun;
     ledger = lists;
@@ -172,7 +176,7 @@ module _ (begin : Begin) (changes : List Change) (old mid new : CoreState) (sess
       there : is_of_table b ≡ true → short ≡ false → IsPinOf changes mid.directory session p
       there t n = subst (IsPinOrNone changes mid.directory session) e (pin t n)
 
-  pub taken : IsTaken begin changes old session b (record { pinned = pinned; own = own; short = short; implicit = implicit; ledger = ledger }) new
+  pub taken : IsTaken begin changes old session b (record { pinned = pinned; own = own; short = short; note = note; implicit = implicit; ledger = ledger }) new
   taken = taken_at pinned refl
 
 -- ---- whether a transaction is implicit

@@ -19,7 +19,7 @@ use Rattle.cs_model.specs.Changes.{Edit, Table, Change}
 use Rattle.cs_model.specs.Floors as floors
 use Rattle.cs_model.specs.Kinds.{is_of_table}
 use Rattle.cs_model.specs.Obstacles.{has_row, keys_of, owns, is_present, IsObstacle, IsJudged}
-use Rattle.cs_model.specs.State.{State, Begin, Txn, txn_set, seen}
+use Rattle.cs_model.specs.State.{Txn, Half, State, Begin, txn_set, seen}
 use Rattle.cs_model.specs.Steps as model
 use Rattle.cs_model.specs.Steps.{IsReply, IsWriteReply, IsWriteReplyOf, IsWritten, commits, committed, edits_in, writes_in, ends_txn, gone, is_empty, numbered, refused, accepted, replied, settled, wrote}
 use Rattle.log_laws.specs.Laws.{IsByKey}
@@ -123,8 +123,8 @@ commits_over m i was txn = at (is_empty txn.own)
 pub refused_implicit : (m : State) (i : ℕ) (txn : Txn) (refusal : Refusal) → m.txns i ≡ Some txn → (txn.depth == 0) ≡ true → refused m i refusal ≡ gone m i
 refused_implicit m i txn refusal has implicit = ap (λ (t : Bool). cond t (gone m i) m) (ap (λ o. ends_txn o refusal) has ∙ ap (λ t. t || model.is_changed refusal) implicit)
 
-module _ (begin : Begin) (changes : List Change) (held : CoreState) (session : ℕ) (b : Bound) (short : Bool) (list : List Write) (present : List Key) (affected : ℕ) (parcel : Option Parcel)
-    (w : IsWritingAt begin changes held session b short list present affected parcel) where
+module _ (begin : Begin) (changes : List Change) (held : CoreState) (session : ℕ) (half : Half) (list : List Write) (present : List Key) (affected : ℕ) (parcel : Option Parcel)
+    (w : IsWritingAt begin changes held session half list present affected parcel) where
   begun : Begun
   begun = w.begun
 
@@ -138,7 +138,7 @@ module _ (begin : Begin) (changes : List Change) (held : CoreState) (session : �
   are = let g = w.gives in g.are
 
   sees : Sees (state_of changes held) session w.begun
-  sees = let h = w.holds in h.sees (ap is_of_table w.bound ∙ write_of_table b w.writes) (w.short_is ∙ w.found)
+  sees = let h = w.holds in h.sees (ap is_of_table w.bound ∙ write_of_table half.bound w.writes) (w.short_is ∙ w.found)
 
   abbrev s : ℕ
   s = let g = w.begun in g.snapshot
@@ -191,7 +191,7 @@ module _ (begin : Begin) (changes : List Change) (held : CoreState) (session : �
   snapshot_at : txn.snapshot ≡ Some s
   snapshot_at = sym (ap snapshot_of has) ∙ snap
 
-  pub defined : writes begin.schema (seen changes (txn_as txn)) b ≡ Ok edits
+  pub defined : writes begin.schema (seen changes (txn_as txn)) half.bound ≡ Ok edits
   defined =
       let g = w.gives in
       let h = w.holds in
@@ -199,19 +199,19 @@ module _ (begin : Begin) (changes : List Change) (held : CoreState) (session : �
 
   -- the reply to a write that is judged
   replies : (r : Reply) (found : Option Refusal) → IsJudged (IsObstacle (state_of changes held) session (Some s) (is_one_of present)) (write_keys list) found
-      → (((o : Option Refusal) → o ≡ found → IsJudged (IsObstacle (state_of changes held) session txn.snapshot (is_present b edits (seen changes (txn_as txn)))) (keys_of edits) o) → IsWritten (IsJudged (IsObstacle (state_of changes held) session txn.snapshot (is_present b edits (seen changes (txn_as txn)))) (keys_of edits)) edits r)
-      → IsReply begin.schema (state_of changes held) session b r
+      → (((o : Option Refusal) → o ≡ found → IsJudged (IsObstacle (state_of changes held) session txn.snapshot (is_present half.bound edits (seen changes (txn_as txn)))) (keys_of edits) o) → IsWritten (IsJudged (IsObstacle (state_of changes held) session txn.snapshot (is_present half.bound edits (seen changes (txn_as txn)))) (keys_of edits)) edits r)
+      → IsReply begin.schema (state_of changes held) session half r
   replies r found judged say =
-      let moved : IsJudged (IsObstacle (state_of changes held) session txn.snapshot (is_present b edits (seen changes (txn_as txn)))) (keys_of edits) found =
-      subst (λ (x : Option ℕ). IsJudged (IsObstacle (state_of changes held) session x (is_present b edits (seen changes (txn_as txn)))) (keys_of edits) found) (sym snapshot_at)
-      (subst (λ (t : Table). IsJudged (IsObstacle (state_of changes held) session (Some s) (is_present b edits t)) (keys_of edits) found) seen_is
+      let moved : IsJudged (IsObstacle (state_of changes held) session txn.snapshot (is_present half.bound edits (seen changes (txn_as txn)))) (keys_of edits) found =
+      subst (λ (x : Option ℕ). IsJudged (IsObstacle (state_of changes held) session x (is_present half.bound edits (seen changes (txn_as txn)))) (keys_of edits) found) (sym snapshot_at)
+      (subst (λ (t : Table). IsJudged (IsObstacle (state_of changes held) session (Some s) (is_present half.bound edits t)) (keys_of edits) found) seen_is
       (subst (λ (x : Bound). IsJudged (IsObstacle (state_of changes held) session (Some s) (is_present x edits (seen_by w.begun))) (keys_of edits) found) w.bound (judged_edits found judged))) in
-      let said = say (λ o e. subst (λ x. IsJudged (IsObstacle (state_of changes held) session txn.snapshot (is_present b edits (seen changes (txn_as txn)))) (keys_of edits) x) (sym e) moved) in
-      write_reply begin.schema (state_of changes held) session b r w.writes
-      (subst (λ o. IsWriteReply begin.schema (state_of changes held) session o b r) (sym (ap txn_in has))
-      (subst (λ x. IsWriteReplyOf (state_of changes held) session txn.snapshot (seen changes (txn_as txn)) b x r) (sym defined) said))
+      let said = say (λ o e. subst (λ x. IsJudged (IsObstacle (state_of changes held) session txn.snapshot (is_present half.bound edits (seen changes (txn_as txn)))) (keys_of edits) x) (sym e) moved) in
+      write_reply begin.schema (state_of changes held) session half.note half.bound r w.writes
+      (subst (λ o. IsWriteReply begin.schema (state_of changes held) session o half.bound r) (sym (ap txn_in has))
+      (subst (λ x. IsWriteReplyOf (state_of changes held) session txn.snapshot (seen changes (txn_as txn)) half.bound x r) (sym defined) said))
 
-  pub refused_reply : (refusal : Refusal) → IsJudged (IsObstacle (state_of changes held) session (Some s) (is_one_of present)) (write_keys list) (Some refusal) → IsReply begin.schema (state_of changes held) session b (reply.Refused refusal)
+  pub refused_reply : (refusal : Refusal) → IsJudged (IsObstacle (state_of changes held) session (Some s) (is_one_of present)) (write_keys list) (Some refusal) → IsReply begin.schema (state_of changes held) session half (reply.Refused refusal)
   refused_reply refusal judged = replies (reply.Refused refusal) (Some refusal) judged (λ at. at (Some refusal) refl)
 
   -- what is found by these keys
@@ -225,7 +225,7 @@ module _ (begin : Begin) (changes : List Change) (held : CoreState) (session : �
   -- ---- a write without an obstacle
 
   module _ (clear : IsJudged (IsObstacle (state_of changes held) session (Some s) (is_one_of present)) (write_keys list) None) where
-    pub affected_reply : IsReply begin.schema (state_of changes held) session b (reply.Affected affected)
+    pub affected_reply : IsReply begin.schema (state_of changes held) session half (reply.Affected affected)
     affected_reply = let a = are in replies (reply.Affected affected) None clear (λ at. (at None refl, a.count))
 
     clear_edits : All (λ key. IsObstacle (state_of changes held) session (Some s) test key None) (keys_of edits)
@@ -280,16 +280,16 @@ module _ (begin : Begin) (changes : List Change) (held : CoreState) (session : �
         ∙ ap (λ (own : List Edit). txn_set (state_of changes held) session (Some (record (txn_as txn) { own = own }))) staged_is
 
     -- and what the write leaves
-    accepted_is : accepted begin.schema (state_of changes held) session b ≡ settled (state_of changes held) session now
+    accepted_is : accepted begin.schema (state_of changes held) session half.bound ≡ settled (state_of changes held) session now
     accepted_is =
-        write_accepted begin.schema (state_of changes held) session b w.writes
-        ∙ ap (λ o. wrote (state_of changes held) session o (writes_in begin.schema changes o b)) (ap txn_in has)
+        write_accepted begin.schema (state_of changes held) session half.bound w.writes
+        ∙ ap (λ o. wrote (state_of changes held) session o (writes_in begin.schema changes o half.bound)) (ap txn_in has)
         ∙ ap (λ es. settled (state_of changes held) session (record (txn_as txn) { own = model.staged (edits_of txn.own) es })) (ap edits_in defined)
 
-    pub accepted_explicit : (txn.depth == 0) ≡ false → txn_set (state_of changes held) session (Some now) ≡ accepted begin.schema (state_of changes held) session b
+    pub accepted_explicit : (txn.depth == 0) ≡ false → txn_set (state_of changes held) session (Some now) ≡ accepted begin.schema (state_of changes held) session half.bound
     accepted_explicit e = sym (accepted_is ∙ ap (λ t. cond t (commits (state_of changes held) session now) (txn_set (state_of changes held) session (Some now))) e)
 
-    pub accepted_implicit : (txn.depth == 0) ≡ true → commits (state_of changes held) session now ≡ accepted begin.schema (state_of changes held) session b
+    pub accepted_implicit : (txn.depth == 0) ≡ true → commits (state_of changes held) session now ≡ accepted begin.schema (state_of changes held) session half.bound
     accepted_implicit e = sym (accepted_is ∙ ap (λ t. cond t (commits (state_of changes held) session now) (txn_set (state_of changes held) session (Some now))) e)
 
     implicit_is : (let g = w.begun in g.implicit) ≡ (txn.depth == 0)
@@ -334,43 +334,43 @@ module _ (begin : Begin) (changes : List Change) (held : CoreState) (session : �
     affected_shows : (r : Reply) → r ≡ reply.Affected affected → ShowsBook begin.schema changes (groups_of held) r
     affected_shows r e = subst (ShowsBook begin.schema changes (groups_of held)) (sym e) tt
 
-    affected_said : (r : Reply) → r ≡ reply.Affected affected → IsReply begin.schema (state_of changes held) session b r
-    affected_said r e = subst (IsReply begin.schema (state_of changes held) session b) (sym e) affected_reply
+    affected_said : (r : Reply) → r ≡ reply.Affected affected → IsReply begin.schema (state_of changes held) session half r
+    affected_said r e = subst (IsReply begin.schema (state_of changes held) session half) (sym e) affected_reply
 
-    accepts : (r : Reply) → r ≡ reply.Affected affected → accepted begin.schema (state_of changes held) session b ≡ replied begin.schema (state_of changes held) session b r
-    accepts r e = ap (replied begin.schema (state_of changes held) session b) (sym e)
+    accepts : (r : Reply) → r ≡ reply.Affected affected → accepted begin.schema (state_of changes held) session half.bound ≡ replied begin.schema (state_of changes held) session half.bound r
+    accepts r e = ap (replied begin.schema (state_of changes held) session half.bound) (sym e)
 
     pub ends_explicit : (mid : CoreState) (r : Reply) → IsSame held mid → Stands mid.directory changes → state_of changes mid ≡ txn_set (state_of changes held) session (Some now) → r ≡ reply.Affected affected → (txn.depth == 0) ≡ false
-        → Ends begin.schema changes held session b short r mid
+        → Ends begin.schema changes held session half r mid
     ends_explicit mid r same j state e d =
-        ends_settled begin.schema changes held mid session b short r j same w.found (λ k. affected_shows r e) (record { reply = inr (affected_said r e); state = state ∙ accepted_explicit d ∙ accepts r e })
+        ends_settled begin.schema changes held mid session half r j same w.found (λ k. affected_shows r e) (record { reply = inr (affected_said r e); state = state ∙ accepted_explicit d ∙ accepts r e })
 
     module _ (new : CoreState) (r : Reply) (d : (txn.depth == 0) ≡ true) where
       -- what would be committed
-      committed_own : is_empty now.own ≡ false → (m.clock < (accepted begin.schema (state_of changes held) session b).clock) × (committed_edits (state_of changes held) (accepted begin.schema (state_of changes held) session b) ≡ now.own)
+      committed_own : is_empty now.own ≡ false → (m.clock < (accepted begin.schema (state_of changes held) session half.bound).clock) × (committed_edits (state_of changes held) (accepted begin.schema (state_of changes held) session half.bound) ≡ now.own)
       committed_own some =
           let after : State = record (gone (state_of changes held) session) { changes = changes ++ committed (held.directory.clock + 1) now; clock = held.directory.clock + 1 } in
-          let is : after ≡ accepted begin.schema (state_of changes held) session b =
+          let is : after ≡ accepted begin.schema (state_of changes held) session half.bound =
           sym (ap (λ t. cond t (gone (state_of changes held) session) after) some) ∙ accepted_implicit d in (
             subst (λ (x : State). held.directory.clock < x.clock) is (omega arith),
             subst (λ (x : State). committed_edits (state_of changes held) x ≡ now.own) is (added changes (held.directory.clock + 1) txn.number now.own),
           )
 
       -- its commit is made
-      pub ends_made : r ≡ reply.Affected affected → Leaves changes held new (commits (state_of changes held) session now) → Ends begin.schema changes held session b short r new
+      pub ends_made : r ≡ reply.Affected affected → Leaves changes held new (commits (state_of changes held) session now) → Ends begin.schema changes held session half r new
       ends_made e leaves = record {
-        said = said_plain begin.schema (sizes_of held.directory) (state_of changes held) (groups_of held) session b short r (inr (w.found, affected_said r e)) (λ k. affected_shows r e);
+        said = said_plain begin.schema (sizes_of held.directory) (state_of changes held) (groups_of held) session half r (inr (w.found, affected_said r e)) (λ k. affected_shows r e);
         leaves = subst (Leaves changes held new) (accepted_implicit d ∙ accepts r e) leaves;
       }
 
       -- it would draw a group id above 2^62
       pub ends_past : r ≡ reply.Refused (Reading 50001 1) → Stands new.directory changes → IsSame held new → state_of changes new ≡ refused (state_of changes held) session (Reading 50001 1) → is_empty now.own ≡ false
-          → draws_past (groups_of held) (book_with (sizes_of held.directory) (state_of changes held) now.own (groups_of held)) ≡ true → Ends begin.schema changes held session b short r new
+          → draws_past (groups_of held) (book_with (sizes_of held.directory) (state_of changes held) now.own (groups_of held)) ≡ true → Ends begin.schema changes held session half r new
       ends_past e j same state some past =
           let own' = committed_own some in
           record {
-            said = said_full begin.schema (sizes_of held.directory) (state_of changes held) (groups_of held) session b short r (reply.Affected affected) now.own e w.found affected_reply own'.0 own'.1 past;
-            leaves = same_leaves changes held new (replied begin.schema (state_of changes held) session b r) j same (state ∙ ap (replied begin.schema (state_of changes held) session b) (sym e));
+            said = said_full begin.schema (sizes_of held.directory) (state_of changes held) (groups_of held) session half r (reply.Affected affected) now.own e w.found affected_reply own'.0 own'.1 past;
+            leaves = same_leaves changes held new (replied begin.schema (state_of changes held) session half.bound r) j same (state ∙ ap (replied begin.schema (state_of changes held) session half.bound) (sym e));
           }
 
     module _ (mid new : CoreState) (r : Reply) (same : IsSame held mid) (j : Stands mid.directory changes) (state : state_of changes mid ≡ txn_set (state_of changes held) session (Some now))
@@ -398,10 +398,10 @@ module _ (begin : Begin) (changes : List Change) (held : CoreState) (session : �
           (subst (λ (book : Book). draws_past book (after_commit (sizes_of mid.directory) (mid.directory.clock + 1) (replaced_by changes mid.directory.clock now.own) (inserted_by now.own) book) ≡ true) same.groups
           (subst (λ (es : List Edit). draws_past (groups_of mid) (after_commit (sizes_of mid.directory) (mid.directory.clock + 1) (replaced_by changes mid.directory.clock es) (inserted_by es) (groups_of mid)) ≡ true) own_edits past.past)))
 
-      pub ends_implicit : CommitGives changes mid session (reply.Affected affected) r new → Ends begin.schema changes held session b short r new
+      pub ends_implicit : CommitGives changes mid session (reply.Affected affected) r new → Ends begin.schema changes held session half r new
       ends_implicit (inl c) = ends_made new r d c.reply (leaves_over changes held mid new (commits (state_of changes held) session now) same (subst (Leaves changes mid new) committed_is c.leaves))
       ends_implicit (inr (inl f)) = let still = f.still in
-          ends_short begin.schema changes held new session b short r (still.stands changes j) (same_then held mid new same still.same) f.reply (f.state ∙ refused_is Memory)
+          ends_short begin.schema changes held new session half r (still.stands changes j) (same_then held mid new same still.same) f.reply (f.state ∙ refused_is Memory)
       ends_implicit (inr (inr f)) =
           let gives = f.0 in
           let still = gives.still in
@@ -437,7 +437,7 @@ module _ (begin : Begin) (changes : List Change) (held : CoreState) (session : �
       module _ (new : CoreState) (r : Reply) where
         -- the load is made
         pub ends_loaded : r ≡ reply.Affected affected → ((txn : kept.Txn) → txn_of held.directory.txns session ≡ Some txn → Leaves changes held new (commits (state_of changes held) session (txn_as (record txn { own = list }))))
-            → Ends begin.schema changes held session b short r new
+            → Ends begin.schema changes held session half r new
         ends_loaded said leaves =
             let d = depth_implicit p e in
             ends_made new r d said
@@ -446,8 +446,8 @@ module _ (begin : Begin) (changes : List Change) (held : CoreState) (session : �
         -- it is refused
         pub ends_unloaded : (refusal : CommitRefusal) → Stands new.directory changes → IsSame held new → r ≡ reply.Refused (refusal_of refusal) → state_of changes new ≡ refused (state_of changes held) session (refusal_of refusal)
             → (refusal ≡ cause.Full → (list ≢ []) × (draws_past (groups_of held) (book_with (sizes_of held.directory) (state_of changes held) (edits_of list) (groups_of held)) ≡ true))
-            → Ends begin.schema changes held session b short r new
-        ends_unloaded cause.Memory j same said state full = ends_short begin.schema changes held new session b short r j same said state
+            → Ends begin.schema changes held session half r new
+        ends_unloaded cause.Memory j same said state full = ends_short begin.schema changes held new session half r j same said state
         ends_unloaded cause.Full j same said state full =
             let d = depth_implicit p e in
             let past = full refl in

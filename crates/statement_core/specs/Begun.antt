@@ -32,6 +32,7 @@ IsPinnedFor begun (Some pinned) = Pins begun pinned
 pub record Hands (begun : Begun) (started : Started) : Type 0 where
   pub bound : started.bound.value ≡ begun.bound
   pub short : started.short ≡ begun.short
+  pub note : started.note ≡ begun.note
   pub implicit : started.implicit ≡ begun.implicit
   pub schema : started.terms.value.schema.value ≡ begun.schema
   pub own : edits_of started.own ≡ begun.own

@@ -12,9 +12,13 @@ use Rattle.statement_core.specs.Seats.{seat}
 use Rattle.statement_core.specs.declared.core_state.HalfDone.{HalfDone}
 use Rattle.statement_core.specs.declared.core_state.CoreState.{CoreState}
 
+-- a half-done statement as the row model has it, and where there is one
+abbrev pub half_as : HalfDone → Half
+half_as half = record { bound = half.bound.value; short = half.short; note = half.note }
+
 abbrev pub half_in : Option HalfDone → Option Half
 half_in None = None
-half_in (Some half) = Some (record { bound = half.bound.value; short = half.short })
+half_in (Some half) = Some (half_as half)
 
 abbrev pub halves_of : List (Option HalfDone) → ℕ → Option Half
 halves_of seats session = half_in (seat seats session)

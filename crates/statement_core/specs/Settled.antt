@@ -1,9 +1,8 @@
 -- What a Finish replies and leaves, once the statement is no longer half done.
-use Rattle.std.specs.Prelude.{◌≡◌, ◌≢◌, ◌⊎◌, ◌<◌, ℕ, List, [], length, Bool, true, false, Option, None, Some}
+use Rattle.std.specs.Prelude.{◌≡◌, ◌≢◌, ◌⊎◌, ◌<◌, ℕ, List, [], length, true, false, Option, None, Some}
 use Rattle.cs_types.specs.declared.Key.{Key}
 use Rattle.cs_types.specs.declared.Schema.{Schema}
 use Rattle.write_set.specs.declared.write.Write.{Write}
-use Rattle.cs_model.specs.declared.entry.Bound.{Bound}
 use Rattle.cs_model.specs.declared.entry.Entry.TheVariants.{Finish}
 use Rattle.cs_model.specs.declared.entry.Refusal.{Refusal}
 use Rattle.cs_model.specs.declared.entry.Refusal.TheVariants.{Reading, Memory}
@@ -12,7 +11,7 @@ use Rattle.cs_model.specs.declared.entry.Reply.TheVariants as reply
 use Rattle.cs_model.specs.declared.work.Actor.TheVariants.{Session}
 use Rattle.cs_model.specs.Changes.{Edit, Change}
 use Rattle.cs_model.specs.Kinds.{is_of_table, is_write}
-use Rattle.cs_model.specs.State.{State, Begin}
+use Rattle.cs_model.specs.State.{Half, State, Begin}
 use Rattle.cs_model.specs.Steps.{IsReply, IsStep, refused, replied, wrote}
 use Rattle.log_laws.specs.Laws.{IsByKey}
 use Rattle.log_laws.specs.Started.{Begun, own_in, is_implicit, Sees, Shows}
@@ -37,9 +36,9 @@ use Rattle.statement_core.specs.Reorganizes.{IsOver}
 -- ---- replies
 
 -- the reply is the defined one or want of memory, and the state after is what it leaves
-pub record Settles (schema : Schema) (m : State) (session : ℕ) (b : Bound) (r : Reply) (after : State) : Type 0 where
-  pub reply : (r ≡ reply.Refused Memory) ⊎ IsReply schema m session b r
-  pub state : after ≡ replied schema m session b r
+pub record Settles (schema : Schema) (m : State) (session : ℕ) (half : Half) (r : Reply) (after : State) : Type 0 where
+  pub reply : (r ≡ reply.Refused Memory) ⊎ IsReply schema m session half r
+  pub state : after ≡ replied schema m session half.bound r
 
 -- after writes of the session's transaction, or a refusal
 abbrev pub wrote_or : State → ℕ → List Edit → Reply → State
@@ -52,23 +51,23 @@ wrote_or m session edits (reply.Left groups) = wrote m session (m.txns session) 
 wrote_or m session edits (reply.Refused refusal) = refused m session refusal
 
 -- in the place of a reply after which something would be committed, error 50001 at 1
-pub record WantsIds (schema : Schema) (m : State) (session : ℕ) (b : Bound) (r : Reply) : Type 0 where
+pub record WantsIds (schema : Schema) (m : State) (session : ℕ) (half : Half) (r : Reply) : Type 0 where
   pub given : Reply
-  pub is_reply : IsReply schema m session b given
-  pub commits : m.clock < (replied schema m session b given).clock
+  pub is_reply : IsReply schema m session half given
+  pub commits : m.clock < (replied schema m session half.bound given).clock
   pub refuses : r ≡ reply.Refused (Reading 50001 1)
 
 -- what is said of a reply: it is the defined one, or want of memory or of a group id; want of an id has its cause; and a report shows
 -- the book
-pub record IsSaid (schema : Schema) (sizes : Sizes) (m : State) (book : Book) (session : ℕ) (b : Bound) (short : Bool) (r : Reply) : Type 0 where
-  pub reply : (r ≡ reply.Refused Memory) ⊎ ((short ≡ false) × (IsReply schema m session b r ⊎ WantsIds schema m session b r))
-  pub full : (wants : WantsIds schema m session b r) → draws_past book (book_with sizes m (committed_edits m (replied schema m session b wants.given)) book) ≡ true
+pub record IsSaid (schema : Schema) (sizes : Sizes) (m : State) (book : Book) (session : ℕ) (half : Half) (r : Reply) : Type 0 where
+  pub reply : (r ≡ reply.Refused Memory) ⊎ ((half.short ≡ false) × (IsReply schema m session half r ⊎ WantsIds schema m session half r))
+  pub full : (wants : WantsIds schema m session half r) → draws_past book (book_with sizes m (committed_edits m (replied schema m session half.bound wants.given)) book) ≡ true
   pub shows : ShowsBook schema m.changes book r
 
 -- the reply, and what the core leaves after it
-pub record Ends (schema : Schema) (changes : List Change) (old : CoreState) (session : ℕ) (b : Bound) (short : Bool) (r : Reply) (new : CoreState) : Type 0 where
-  pub said : IsSaid schema (sizes_of old.directory) (state_of changes old) (groups_of old) session b short r
-  pub leaves : Leaves changes old new (replied schema (state_of changes old) session b r)
+pub record Ends (schema : Schema) (changes : List Change) (old : CoreState) (session : ℕ) (half : Half) (r : Reply) (new : CoreState) : Type 0 where
+  pub said : IsSaid schema (sizes_of old.directory) (state_of changes old) (groups_of old) session half r
+  pub leaves : Leaves changes old new (replied schema (state_of changes old) session half.bound r)
 
 -- ---- what was begun
 
@@ -80,15 +79,16 @@ pub record Holds (begin : Begin) (m : State) (session : ℕ) (begun : Begun) : T
   pub sees : is_of_table begun.bound ≡ true → begun.short ≡ false → Sees m session begun
 
 -- the outcome of what was begun, over changes that the core stands for: the statement is no longer half done
-pub record IsDoneAt (begin : Begin) (changes : List Change) (held : CoreState) (session : ℕ) (b : Bound) (short : Bool) (outcome : Outcome) : Type 0 where
+pub record IsDoneAt (begin : Begin) (changes : List Change) (held : CoreState) (session : ℕ) (half : Half) (outcome : Outcome) : Type 0 where
   pub stands : Stands held.directory changes
   pub schema : held.directory.schema.value ≡ begin.schema
   pub bare : IsBare ((state_of changes held).txns session)
   pub by_key : IsByKey ((state_of changes held).txns session)
   pub begun : Begun
-  pub bound : begun.bound ≡ b
-  pub short_is : begun.short ≡ short
-  pub why : short ≡ true → is_of_table b ≡ true
+  pub bound : begun.bound ≡ half.bound
+  pub short_is : begun.short ≡ half.short
+  pub note_is : begun.note ≡ half.note
+  pub why : half.short ≡ true → is_of_table half.bound ≡ true
   pub holds : Holds begin (state_of changes held) session begun
   pub gives : GivesOn (sizes_of held.directory) begun outcome
   pub over : IsOver begun.bound outcome
@@ -119,32 +119,31 @@ pub record IsFinished (begin : Begin) (changes : List Change) (old : CoreState) 
 -- ---- writes
 
 -- the writes that a statement gave, over changes that the core stands for
-pub record IsWritingAt (begin : Begin) (changes : List Change) (held : CoreState) (session : ℕ) (b : Bound) (short : Bool) (list : List Write) (present : List Key) (affected : ℕ) (parcel : Option Parcel) : Type 0 where
+pub record IsWritingAt (begin : Begin) (changes : List Change) (held : CoreState) (session : ℕ) (half : Half) (list : List Write) (present : List Key) (affected : ℕ) (parcel : Option Parcel) : Type 0 where
   pub stands : Stands held.directory changes
   pub schema : held.directory.schema.value ≡ begin.schema
   pub bare : IsBare ((state_of changes held).txns session)
   pub by_key : IsByKey ((state_of changes held).txns session)
   pub begun : Begun
-  pub bound : begun.bound ≡ b
-  pub short_is : begun.short ≡ short
-  pub found : short ≡ false
-  pub writes : is_write b ≡ true
+  pub bound : begun.bound ≡ half.bound
+  pub short_is : begun.short ≡ half.short
+  pub found : half.short ≡ false
+  pub writes : is_write half.bound ≡ true
   pub holds : Holds begin (state_of changes held) session begun
   pub gives : GivesWrites (sizes_of held.directory) begun list present affected parcel
 
 -- the keys and the parcel of the writes that it gave, where it loads them
-pub record IsLoadingAt (begin : Begin) (changes : List Change) (held : CoreState) (session : ℕ) (b : Bound) (short : Bool) (keys : List Key) (parcel : Parcel) : Type 0 where
+pub record IsLoadingAt (begin : Begin) (changes : List Change) (held : CoreState) (session : ℕ) (half : Half) (keys : List Key) (parcel : Parcel) : Type 0 where
   pub list : List Write
   pub are : AreLoaded keys list
-  pub is : IsWritingAt begin changes held session b short list [] (length keys) (Some parcel)
+  pub is : IsWritingAt begin changes held session half list [] (length keys) (Some parcel)
 
 -- there are such changes
 pub record MayWrite (held : CoreState) (session : ℕ) (list : List Write) (present : List Key) (affected : ℕ) (parcel : Option Parcel) : Type 0 where
   pub begin : Begin
   pub changes : List Change
-  pub bound : Bound
-  pub short : Bool
-  pub is : IsWritingAt begin changes held session bound short list present affected parcel
+  pub half : Half
+  pub is : IsWritingAt begin changes held session half list present affected parcel
 
 -- ---- commits
 

@@ -47,6 +47,7 @@ pub record IsTaken (begin : Begin) (changes : List Change) (old : CoreState) (se
   pub among : begun.changes ≡ until begun.snapshot changes
   pub starts : Starts begin (state_of changes old) session begun (state_of changes new)
   pub short : taken.short ≡ begun.short
+  pub note : taken.note ≡ begun.note
   pub implicit : taken.implicit ≡ begun.implicit
   pub own : edits_of taken.own ≡ begun.own
   pub ledger : IsLedgerFor (groups_of old) (reorganizes b) taken.ledger

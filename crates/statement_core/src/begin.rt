@@ -24,6 +24,7 @@ pub struct Taken {
     pub pinned: Option<Pinned>,
     pub own: Own,
     pub short: bool,
+    pub note: u64,
     pub implicit: bool,
     pub ledger: Option<Ledger>,
 }
@@ -110,11 +111,14 @@ pub fn start(held: &mut CoreState, session: u32, bound: Arc<Bound>) -> Result<Ta
     let ledger = ledger_for(held, &bound)?;
     let (pinned, short) = take(held, session, &bound);
     let implicit = held.directory.depth(session) == Some(0);
-    set_half(held, session, Some(HalfDone { bound, short }));
+    let half = HalfDone::new(bound, short);
+    let note = half.note;
+    set_half(held, session, Some(half));
     Ok(Taken {
         pinned,
         own,
         short,
+        note,
         implicit,
         ledger,
     })

@@ -195,6 +195,7 @@ impl Core {
             pinned: taken.pinned,
             own: taken.own,
             short: taken.short,
+            note: taken.note,
             implicit: taken.implicit,
             terms,
             ledger: taken.ledger,

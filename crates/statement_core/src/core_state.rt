@@ -1,8 +1,8 @@
 // What the core keeps beside its log.
 ghost use Rattle.std.specs.Prelude.{◌≡◌, ℕ, ◌+◌, ◌<◌, ◌≢◌, ◌^◌, [], List, IsSome, OnOk, OnErr, Err, None, Some, true};
 ghost use Rattle.cs_model.specs.Changes.{Change};
-ghost use Rattle.cs_model.specs.State.{with, txn_set, half_set, statistics_set};
-ghost use Rattle.cs_model.specs.Steps.{commits, gone};
+ghost use Rattle.cs_model.specs.State.{State, with, txn_set, half_set, statistics_set};
+ghost use Rattle.cs_model.specs.Steps.{commits, gone, half_of};
 ghost use Rattle.edit_laws.specs.Edits.{edits_of};
 ghost use Rattle.write_set.specs.declared.write.Write.{Write};
 ghost use Rattle.txn_table.specs.declared.txn.Txn.{Txn};
@@ -14,7 +14,7 @@ ghost use Rattle.group_directory.specs.declared.committing.CommitRefusal.TheVari
 ghost use Rattle.group_directory.specs.Laws.{sizes_of, MayStage};
 ghost use Rattle.group_directory.specs.Obstacles.{txn_as, txn_in};
 ghost use Rattle.group_directory.specs.Stands.{Stands};
-ghost use Rattle.statement_core.specs.CoreState.{half_in, halves_of, settings_of, state_of, groups_of, IsWithin, IsSame, IsStill};
+ghost use Rattle.statement_core.specs.CoreState.{half_as, half_in, halves_of, settings_of, state_of, groups_of, IsWithin, IsSame, IsStill};
 ghost use Rattle.statement_core.specs.Leaves.{committed_in, Leaves};
 
 use crate::seats::Seats;
@@ -32,6 +32,21 @@ pub struct HalfDone {
     pub bound: Arc<Bound>,
     /// Whether its Start found no memory.
     pub short: bool,
+    /// What its Start noted.
+    pub note: u64,
+}
+
+impl HalfDone {
+    /// What the Start of a statement makes. No form has anything to note: so it is 0.
+    pub fn new(bound: Arc<Bound>, short: bool) -> HalfDone
+        ensures { (m : State) → half_as result ≡ half_of m bound.value short }
+    {
+        HalfDone {
+            bound,
+            short,
+            note: 0,
+        }
+    }
 }
 
 /// The row groups with the open transactions, and what each session has half done and has set.

@@ -1,5 +1,5 @@
 // What a Finish does.
-ghost use Rattle.std.specs.Prelude.{Bool, Option, ◌≡◌, ◌<◌, List, ℕ, IfOk, OnOk, OnErr, true, false, None, Some, []};
+ghost use Rattle.std.specs.Prelude.{Option, ◌≡◌, ◌<◌, List, ℕ, IfOk, OnOk, OnErr, true, None, Some, []};
 ghost use Rattle.cs_types.specs.declared.Schema.{Schema};
 ghost use Rattle.cs_types.specs.Schemas.{IsSchema};
 ghost use Rattle.cs_model.specs.declared.entry.Bound.{Bound};
@@ -10,7 +10,7 @@ ghost use Rattle.cs_model.specs.declared.work.Actor.{Actor};
 ghost use Rattle.cs_model.specs.Changes.{Change};
 ghost use Rattle.cs_model.specs.Held.{AreFit};
 ghost use Rattle.cs_model.specs.Kinds.{kind_of};
-ghost use Rattle.cs_model.specs.State.{Begin};
+ghost use Rattle.cs_model.specs.State.{Half, Begin};
 ghost use Rattle.cs_model.specs.Steps.{is_changed, ends_txn, refused, IsSegments, IsStep};
 ghost use Rattle.cs_model.specs.Text.{IsPrintableReply};
 ghost use Rattle.txn_table.specs.declared.txn.Txn.{Txn};
@@ -79,7 +79,7 @@ pub fn refuse(held: &mut CoreState, session: u32, refusal: Refusal) -> Reply
 /// The Finish of a BEGIN.
 fn begin(held: &mut CoreState, session: u32) -> Reply
     requires { IsWithin held.old session }
-    ensures settles { (schema : Schema) (changes : List Change) → Settles schema (state_of changes held.old) session statement.Begin result (state_of changes held.new) }
+    ensures settles { (schema : Schema) (changes : List Change) (half : Half) → Settles schema (state_of changes held.old) session (record half { bound = statement.Begin }) result (state_of changes held.new) }
     ensures still { IsStill held.old held.new }
 {
     let Some(depth) = held.directory.depth(session) else {
@@ -100,7 +100,7 @@ fn begin(held: &mut CoreState, session: u32) -> Reply
 /// The Finish of a ROLLBACK.
 fn rollback(held: &mut CoreState, session: u32) -> Reply
     requires { session < 65 }
-    ensures settles { (schema : Schema) (changes : List Change) → Settles schema (state_of changes held.old) session statement.Rollback result (state_of changes held.new) }
+    ensures settles { (schema : Schema) (changes : List Change) (half : Half) → Settles schema (state_of changes held.old) session (record half { bound = statement.Rollback }) result (state_of changes held.new) }
     ensures still { IsStill held.old held.new }
 {
     if held.directory.depth(session).is_none() {
@@ -113,7 +113,7 @@ fn rollback(held: &mut CoreState, session: u32) -> Reply
 /// The Finish of a SET of STATISTICS IO. It is no part of a transaction.
 fn statistics(held: &mut CoreState, session: u32, on: bool) -> Reply
     requires { session < 65 }
-    ensures settles { (schema : Schema) (changes : List Change) → Settles schema (state_of changes held.old) session (statement.Statistics on) result (state_of changes held.new) }
+    ensures settles { (schema : Schema) (changes : List Change) (half : Half) → Settles schema (state_of changes held.old) session (record half { bound = statement.Statistics on }) result (state_of changes held.new) }
     ensures still { IsStill held.old held.new }
 {
     set_statistics(held, session, on);
@@ -124,7 +124,7 @@ fn statistics(held: &mut CoreState, session: u32, on: bool) -> Reply
 fn group_report(held: &mut CoreState, session: u32) -> Reply
     requires session { session < 65 }
     requires stands { (changes : List Change) × Stands held.old.directory changes }
-    ensures settles { (schema : Schema) (changes : List Change) → Settles schema (state_of changes held.old) session statement.GroupReport result (state_of changes held.new) }
+    ensures settles { (schema : Schema) (changes : List Change) (half : Half) → Settles schema (state_of changes held.old) session (record half { bound = statement.GroupReport }) result (state_of changes held.new) }
     ensures shows { (schema : Schema) (changes : List Change) → ShowsBook schema changes (groups_of held.old) result }
     ensures still { IsStill held.old held.new }
 {
@@ -159,7 +159,7 @@ fn segment_report(alloc: Global, held: &mut CoreState, session: u32) -> Reply
     requires session { session < 65 }
     requires table { IsSchema held.old.directory.schema.value }
     requires stands { (changes : List Change) × Stands held.old.directory changes }
-    ensures settles { (schema : Schema) (changes : List Change) → Settles schema (state_of changes held.old) session statement.SegmentReport result (state_of changes held.new) }
+    ensures settles { (schema : Schema) (changes : List Change) (half : Half) → Settles schema (state_of changes held.old) session (record half { bound = statement.SegmentReport }) result (state_of changes held.new) }
     ensures shows { (changes : List Change) → Stands held.old.directory changes → ShowsBook held.old.directory.schema.value changes (groups_of held.old) result }
     ensures printable { (changes : List Change) → Stands held.old.directory changes → AreFit held.old.directory.schema.value changes → IsPrintableReply held.old.directory.schema.value result }
     ensures still { IsStill held.old held.new }
@@ -177,7 +177,7 @@ fn plain(alloc: Global, held: &mut CoreState, session: u32, bound: &Bound) -> Re
     requires stands { (changes : List Change) × Stands held.old.directory changes }
     requires none { needs_none bound.now ≡ true }
     requires over { reorganizes bound.now ≡ None }
-    ensures settles { (schema : Schema) (changes : List Change) → Settles schema (state_of changes held.old) session bound.now result (state_of changes held.new) }
+    ensures settles { (schema : Schema) (changes : List Change) (half : Half) → Settles schema (state_of changes held.old) session (record half { bound = bound.now }) result (state_of changes held.new) }
     ensures shows { (changes : List Change) → Stands held.old.directory changes → kind_of bound.now ≡ kind.Report → ShowsBook held.old.directory.schema.value changes (groups_of held.old) result }
     ensures printable { (changes : List Change) → Stands held.old.directory changes → AreFit held.old.directory.schema.value changes → bound.now ≡ statement.SegmentReport → IsPrintableReply held.old.directory.schema.value result }
     ensures still { IsStill held.old held.new }
@@ -233,9 +233,9 @@ fn answered(held: &mut CoreState, session: u32, reply: Reply) -> Reply
 /// The Finish of a COMMIT.
 fn unwind(held: &mut CoreState, session: u32, parcel: Parcel) -> Reply
     requires within { IsWithin held.old session }
-    requires done { (begin : Begin) × (changes : List Change) × (short : Bool) × IsDoneAt begin changes held.old session statement.Commit short (outcome.Commit parcel) }
-    ensures { (begin : Begin) (changes : List Change) (short : Bool) → IsDoneAt begin changes held.old session statement.Commit short (outcome.Commit parcel)
-        → Ends begin.schema changes held.old session statement.Commit short result held.new }
+    requires done { (begin : Begin) × (changes : List Change) × (half : Half) × IsDoneAt begin changes held.old session (record half { bound = statement.Commit }) (outcome.Commit parcel) }
+    ensures { (begin : Begin) (changes : List Change) (half : Half) → IsDoneAt begin changes held.old session (record half { bound = statement.Commit }) (outcome.Commit parcel)
+        → Ends begin.schema changes held.old session (record half { bound = statement.Commit }) result held.new }
 {
     let Some(depth) = held.directory.depth(session) else {
         return refuse(held, session, Refusal::NoTxn { number: 3902 });
@@ -257,9 +257,9 @@ fn settle(
 ) -> Reply
     requires within { IsWithin held.old session }
     requires table { IsSchema held.old.directory.schema.value }
-    requires done { (begin : Begin) × (changes : List Change) × (short : Bool) × IsDoneAt begin changes held.old session bound.now short outcome }
-    ensures ends { (begin : Begin) (changes : List Change) (short : Bool) → IsDoneAt begin changes held.old session bound.now short outcome
-        → Ends begin.schema changes held.old session bound.now short result held.new }
+    requires done { (begin : Begin) × (changes : List Change) × (half : Half) × IsDoneAt begin changes held.old session (record half { bound = bound.now }) outcome }
+    ensures ends { (begin : Begin) (changes : List Change) (half : Half) → IsDoneAt begin changes held.old session (record half { bound = bound.now }) outcome
+        → Ends begin.schema changes held.old session (record half { bound = bound.now }) result held.new }
     ensures printable { (changes : List Change) → Stands held.old.directory changes → AreFit held.old.directory.schema.value changes → bound.now ≡ statement.SegmentReport → IsPrintableReply held.old.directory.schema.value result }
     ensures short { outcome ≡ Outcome.Short → result ≡ Reply.Refused Refusal.Memory }
     ensures given { (given : Reply) → outcome ≡ Outcome.Answer given → result ≡ spec.told (settings_of held.old.settings session) given }
@@ -288,7 +288,7 @@ pub fn finish(alloc: Global, held: &mut CoreState, session: u32, outcome: Outcom
     requires table { IsSchema held.old.directory.schema.value }
     requires done { (begin : Begin) × (changes : List Change) × IsReadyAt begin changes held.old session outcome }
     ensures finished { (begin : Begin) (changes : List Change) → IsReadyAt begin changes held.old session outcome → IsFinished begin changes held.old session result held.new }
-    ensures printable { (changes : List Change) → Stands held.old.directory changes → AreFit held.old.directory.schema.value changes → halves_of held.old.halves session ≡ Some (record { bound = statement.SegmentReport; short = false }) → IsPrintableReply held.old.directory.schema.value result }
+    ensures printable { (changes : List Change) (half : Half) → Stands held.old.directory changes → AreFit held.old.directory.schema.value changes → halves_of held.old.halves session ≡ Some half → half.bound ≡ statement.SegmentReport → IsPrintableReply held.old.directory.schema.value result }
     ensures short { outcome ≡ Outcome.Short → result ≡ Reply.Refused Refusal.Memory }
     ensures given { (given : Reply) → outcome ≡ Outcome.Answer given → result ≡ spec.told (settings_of held.old.settings session) given }
     ensures left { (groups : List (ℕ × Actor)) → result ≡ Reply.Left groups → outcome ≡ Outcome.Left groups }

@@ -40,6 +40,8 @@ pub struct Started {
     pub own: Own,
     /// Whether the Start found no memory; the statement is refused then.
     pub short: bool,
+    /// What the Start noted.
+    pub note: u64,
     /// Whether the statement's transaction is an implicit one, which ends with it.
     pub implicit: bool,
     pub terms: Arc<Terms>,

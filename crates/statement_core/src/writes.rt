@@ -1,8 +1,7 @@
 // The Finish of a write, and the commit of a transaction.
-ghost use Rattle.std.specs.Prelude.{Bool, ◌≡◌, ◌<◌, List, IfOk, IsSome};
-ghost use Rattle.cs_model.specs.declared.entry.Bound.{Bound};
+ghost use Rattle.std.specs.Prelude.{◌≡◌, ◌<◌, List, IfOk, IsSome};
 ghost use Rattle.cs_model.specs.Changes.{Change};
-ghost use Rattle.cs_model.specs.State.{Begin};
+ghost use Rattle.cs_model.specs.State.{Half, Begin};
 ghost use Rattle.txn_table.specs.Txns.{txn_of, own_of};
 ghost use Rattle.group_directory.specs.Calls.{IsParcelFor};
 ghost use Rattle.group_directory.specs.Stands.{Stands};
@@ -74,8 +73,8 @@ pub fn wrote(
 ) -> Reply
     requires within { IsWithin held.old session }
     requires may { MayWrite held.old session writes.items present.items affected parcel }
-    ensures { (begin : Begin) (changes : List Change) (b : Bound) (short : Bool) → IsWritingAt begin changes held.old session b short writes.items present.items affected parcel
-        → Ends begin.schema changes held.old session b short result held.new }
+    ensures { (begin : Begin) (changes : List Change) (half : Half) → IsWritingAt begin changes held.old session half writes.items present.items affected parcel
+        → Ends begin.schema changes held.old session half result held.new }
 {
     let Ok(keys) = keys_of(alloc, &writes) else {
         return refuse(held, session, Refusal::Memory);
@@ -96,8 +95,8 @@ pub fn wrote(
 /// with their parcel, and the reply is how many they are. Where the commit is refused, so is the statement, as in `commit_with`.
 pub fn loaded(held: &mut CoreState, session: u32, keys: Vec<Key>, parcel: Parcel) -> Reply
     requires within { IsWithin held.old session }
-    requires may { (begin : Begin) × (changes : List Change) × (b : Bound) × (short : Bool) × IsLoadingAt begin changes held.old session b short keys.items parcel }
-    ensures { (begin : Begin) (changes : List Change) (b : Bound) (short : Bool) → IsLoadingAt begin changes held.old session b short keys.items parcel → Ends begin.schema changes held.old session b short result held.new }
+    requires may { (begin : Begin) × (changes : List Change) × (half : Half) × IsLoadingAt begin changes held.old session half keys.items parcel }
+    ensures { (begin : Begin) (changes : List Change) (half : Half) → IsLoadingAt begin changes held.old session half keys.items parcel → Ends begin.schema changes held.old session half result held.new }
 {
     if let Some(refusal) = held.directory.obstacle(session, &keys, &[]) {
         return refuse(held, session, refusal);

@@ -7,7 +7,7 @@ use Rattle.statement_core.proofs.States.{deepened_began, begin_done}
 use Rattle.statement_core.proofs.finish.begin.Goals as goal
 
 pub returns-in_default-clause-settles : goal.returns-in_default-clause-settles
-returns-in_default-clause-settles c = λ schema changes.
+returns-in_default-clause-settles c = λ schema changes half.
     let none : txn_of c.args.held.now.directory.txns c.args.session ≡ None = search rules in
     record {
       reply = inr (sym (ap (λ o. begin_reply (txn_in o)) none));
@@ -15,7 +15,7 @@ returns-in_default-clause-settles c = λ schema changes.
     }
 
 pub returns-then-depth-lt-DEEPEST-clause-settles : goal.returns-then-depth-lt-DEEPEST-clause-settles
-returns-then-depth-lt-DEEPEST-clause-settles c = λ schema changes.
+returns-then-depth-lt-DEEPEST-clause-settles c = λ schema changes half.
     let own = txn_of c.args.held.now.directory.txns c.args.session in
     let deep : depth_of own ≡ Some c.in-Some.depth = search rules in
     record {

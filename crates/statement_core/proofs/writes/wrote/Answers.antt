@@ -23,15 +23,15 @@ pub obstacle-requires-clause-keys : goal.obstacle-requires-clause-keys
 obstacle-requires-clause-keys c =
     let y = c.requires.may in
     let same : c.deref-2.result.now ≡ write_keys c.args.writes.items = c.deref-2.ensures.value ∙ c.in-Ok.ensures ∙ ap write_keys c.deref.ensures.value in
-    subst Rising (sym same) (keys_up y.begin y.changes c.args.held.now c.args.session y.bound y.short c.args.writes.items c.args.present.items c.args.affected c.args.parcel y.is)
+    subst Rising (sym same) (keys_up y.begin y.changes c.args.held.now c.args.session y.half c.args.writes.items c.args.present.items c.args.affected c.args.parcel y.is)
 
 pub obstacle-requires-clause-present : goal.obstacle-requires-clause-present
 obstacle-requires-clause-present c =
     let y = c.requires.may in
-    subst Rising (sym c.deref-3.ensures.value) (present_up y.begin y.changes c.args.held.now c.args.session y.bound y.short c.args.writes.items c.args.present.items c.args.affected c.args.parcel y.is)
+    subst Rising (sym c.deref-3.ensures.value) (present_up y.begin y.changes c.args.held.now c.args.session y.half c.args.writes.items c.args.present.items c.args.affected c.args.parcel y.is)
 
 pub returns-in-Some : goal.returns-in-Some
-returns-in-Some c = λ begin changes b short w.
+returns-in-Some c = λ begin changes half w.
     let held = c.args.held.now in
     let s = c.args.session in
     let list = c.args.writes.items in
@@ -39,14 +39,14 @@ returns-in-Some c = λ begin changes b short w.
     let n = c.args.affected in
     let p = c.args.parcel in
     let same : c.deref-2.result.now ≡ write_keys list = c.deref-2.ensures.value ∙ c.in-Ok.ensures ∙ ap write_keys c.deref.ensures.value in
-    let judged = judged_as begin changes held s b short list present n p w c.deref-2.result.now c.deref-3.result.now c.obstacle.result (Some c.in-Some.refusal) same c.deref-3.ensures.value c.in-Some.is
-    (c.obstacle.ensures (state_of changes held) w.begun.snapshot w.stands refl (snap begin changes held s b short list present n p w)) in
+    let judged = judged_as begin changes held s half list present n p w c.deref-2.result.now c.deref-3.result.now c.obstacle.result (Some c.in-Some.refusal) same c.deref-3.ensures.value c.in-Some.is
+    (c.obstacle.ensures (state_of changes held) w.begun.snapshot w.stands refl (snap begin changes held s half list present n p w)) in
     let still = c.refuse-in-Some.ensures.still in
-    ends_refused begin.schema changes held c.refuse-in-Some.new.held s b short c.refuse-in-Some.result c.in-Some.refusal (still.stands changes w.stands) still.same w.found c.refuse-in-Some.ensures.reply
-    (refused_reply begin changes held s b short list present n p w c.in-Some.refusal judged) (c.refuse-in-Some.ensures.state changes)
+    ends_refused begin.schema changes held c.refuse-in-Some.new.held s half c.refuse-in-Some.result c.in-Some.refusal (still.stands changes w.stands) still.same w.found c.refuse-in-Some.ensures.reply
+    (refused_reply begin changes held s half list present n p w c.in-Some.refusal judged) (c.refuse-in-Some.ensures.state changes)
 
 pub returns-then-is_err : goal.returns-then-is_err
-returns-then-is_err c = λ begin changes b short w.
+returns-then-is_err c = λ begin changes half w.
     let held = c.args.held.now in
     let s = c.args.session in
     let list = c.args.writes.items in
@@ -55,12 +55,12 @@ returns-then-is_err c = λ begin changes b short w.
     let p = c.args.parcel in
     let same : c.deref-2.result.now ≡ write_keys list = c.deref-2.ensures.value ∙ c.in-Ok.ensures ∙ ap write_keys c.deref.ensures.value in
     let none : c.obstacle.result ≡ None = search rules in
-    let clear = judged_as begin changes held s b short list present n p w c.deref-2.result.now c.deref-3.result.now c.obstacle.result None same c.deref-3.ensures.value none
-    (c.obstacle.ensures (state_of changes held) w.begun.snapshot w.stands refl (snap begin changes held s b short list present n p w)) in
-    let j = c.stage.ensures.stands changes w.begun.snapshot w.stands (may_stage begin changes held s b short list present n p w clear) in
+    let clear = judged_as begin changes held s half list present n p w c.deref-2.result.now c.deref-3.result.now c.obstacle.result None same c.deref-3.ensures.value none
+    (c.obstacle.ensures (state_of changes held) w.begun.snapshot w.stands refl (snap begin changes held s half list present n p w)) in
+    let j = c.stage.ensures.stands changes w.begun.snapshot w.stands (may_stage begin changes held s half list present n p w clear) in
     let failed : is_err c.stage.result ≡ true = search rules in
     let still = c.refuse-then-is_err.ensures.still in
-    ends_short begin.schema changes held c.refuse-then-is_err.new.held s b short c.refuse-then-is_err.result (still.stands changes j) (same_then held c.stage.new.held c.refuse-then-is_err.new.held c.stage.ensures.same still.same)
+    ends_short begin.schema changes held c.refuse-then-is_err.new.held s half c.refuse-then-is_err.result (still.stands changes j) (same_then held c.stage.new.held c.refuse-then-is_err.new.held c.stage.ensures.same still.same)
     c.refuse-then-is_err.ensures.reply (c.refuse-then-is_err.ensures.state changes ∙ ap (λ (x : State). refused x s Memory) (err_gives c.stage.result failed c.stage.ensures.err changes))
 
 pub commit_with-requires-clause-within : goal.commit_with-requires-clause-within
@@ -84,9 +84,9 @@ commit_with-requires-clause-stands c =
     let p = c.args.parcel in
     let same : c.deref-2.result.now ≡ write_keys list = c.deref-2.ensures.value ∙ c.in-Ok.ensures ∙ ap write_keys c.deref.ensures.value in
     let none : c.obstacle.result ≡ None = search rules in
-    let clear = judged_as y.begin y.changes held s y.bound y.short list present n p w c.deref-2.result.now c.deref-3.result.now c.obstacle.result None same c.deref-3.ensures.value none
-    (c.obstacle.ensures (state_of y.changes held) w.begun.snapshot w.stands refl (snap y.begin y.changes held s y.bound y.short list present n p w)) in
-    (y.changes, c.stage.ensures.stands y.changes w.begun.snapshot w.stands (may_stage y.begin y.changes held s y.bound y.short list present n p w clear))
+    let clear = judged_as y.begin y.changes held s y.half list present n p w c.deref-2.result.now c.deref-3.result.now c.obstacle.result None same c.deref-3.ensures.value none
+    (c.obstacle.ensures (state_of y.changes held) w.begun.snapshot w.stands refl (snap y.begin y.changes held s y.half list present n p w)) in
+    (y.changes, c.stage.ensures.stands y.changes w.begun.snapshot w.stands (may_stage y.begin y.changes held s y.half list present n p w clear))
 
 pub commit_with-requires-clause-parcel : goal.commit_with-requires-clause-parcel
 commit_with-requires-clause-parcel c =
@@ -100,14 +100,14 @@ commit_with-requires-clause-parcel c =
     let p = c.args.parcel in
     let same : c.deref-2.result.now ≡ write_keys list = c.deref-2.ensures.value ∙ c.in-Ok.ensures ∙ ap write_keys c.deref.ensures.value in
     let none : c.obstacle.result ≡ None = search rules in
-    let clear = judged_as y.begin y.changes held s y.bound y.short list present n p w c.deref-2.result.now c.deref-3.result.now c.obstacle.result None same c.deref-3.ensures.value none
-    (c.obstacle.ensures (state_of y.changes held) w.begun.snapshot w.stands refl (snap y.begin y.changes held s y.bound y.short list present n p w)) in
+    let clear = judged_as y.begin y.changes held s y.half list present n p w c.deref-2.result.now c.deref-3.result.now c.obstacle.result None same c.deref-3.ensures.value none
+    (c.obstacle.ensures (state_of y.changes held) w.begun.snapshot w.stands refl (snap y.begin y.changes held s y.half list present n p w)) in
     let done : is_err c.stage.result ≡ false = search rules in
-    let own = ap own_of (ok_gives c.stage.result done c.stage.ensures.own) ∙ ap (λ o. own_of (widened list o)) (has y.begin y.changes held s y.bound y.short list present n p w) in
-    parcel_for y.begin y.changes held s y.bound y.short list present n p w clear c.in-Some-parcel.parcel c.in-Some-parcel.is c.stage.new.held c.stage.ensures.same own
+    let own = ap own_of (ok_gives c.stage.result done c.stage.ensures.own) ∙ ap (λ o. own_of (widened list o)) (has y.begin y.changes held s y.half list present n p w) in
+    parcel_for y.begin y.changes held s y.half list present n p w clear c.in-Some-parcel.parcel c.in-Some-parcel.is c.stage.new.held c.stage.ensures.same own
 
 pub returns-in-Some-parcel : goal.returns-in-Some-parcel
-returns-in-Some-parcel c = λ begin changes b short w.
+returns-in-Some-parcel c = λ begin changes half w.
     let held = c.args.held.now in
     let s = c.args.session in
     let list = c.args.writes.items in
@@ -116,17 +116,17 @@ returns-in-Some-parcel c = λ begin changes b short w.
     let p = c.args.parcel in
     let same : c.deref-2.result.now ≡ write_keys list = c.deref-2.ensures.value ∙ c.in-Ok.ensures ∙ ap write_keys c.deref.ensures.value in
     let none : c.obstacle.result ≡ None = search rules in
-    let clear = judged_as begin changes held s b short list present n p w c.deref-2.result.now c.deref-3.result.now c.obstacle.result None same c.deref-3.ensures.value none
-    (c.obstacle.ensures (state_of changes held) w.begun.snapshot w.stands refl (snap begin changes held s b short list present n p w)) in
-    let j = c.stage.ensures.stands changes w.begun.snapshot w.stands (may_stage begin changes held s b short list present n p w clear) in
+    let clear = judged_as begin changes held s half list present n p w c.deref-2.result.now c.deref-3.result.now c.obstacle.result None same c.deref-3.ensures.value none
+    (c.obstacle.ensures (state_of changes held) w.begun.snapshot w.stands refl (snap begin changes held s half list present n p w)) in
+    let j = c.stage.ensures.stands changes w.begun.snapshot w.stands (may_stage begin changes held s half list present n p w clear) in
     let done : is_err c.stage.result ≡ false = search rules in
-    let own = ap own_of (ok_gives c.stage.result done c.stage.ensures.own) ∙ ap (λ o. own_of (widened list o)) (has begin changes held s b short list present n p w) in
-    let state = staged_state begin changes held s b short list present n p w clear (state_of changes c.stage.new.held) (ok_gives c.stage.result done c.stage.ensures.ok changes) in
-    ends_implicit begin changes held s b short list present n p w clear c.stage.new.held c.commit_with.new.held c.commit_with.result c.stage.ensures.same j state own
-    (depth_implicit begin changes held s b short list present n p w clear c.in-Some-parcel.parcel c.in-Some-parcel.is) (c.commit_with.ensures changes j)
+    let own = ap own_of (ok_gives c.stage.result done c.stage.ensures.own) ∙ ap (λ o. own_of (widened list o)) (has begin changes held s half list present n p w) in
+    let state = staged_state begin changes held s half list present n p w clear (state_of changes c.stage.new.held) (ok_gives c.stage.result done c.stage.ensures.ok changes) in
+    ends_implicit begin changes held s half list present n p w clear c.stage.new.held c.commit_with.new.held c.commit_with.result c.stage.ensures.same j state own
+    (depth_implicit begin changes held s half list present n p w clear c.in-Some-parcel.parcel c.in-Some-parcel.is) (c.commit_with.ensures changes j)
 
 pub returns : goal.returns
-returns c = λ begin changes b short w.
+returns c = λ begin changes half w.
     let held = c.args.held.now in
     let s = c.args.session in
     let list = c.args.writes.items in
@@ -135,9 +135,9 @@ returns c = λ begin changes b short w.
     let p = c.args.parcel in
     let same : c.deref-2.result.now ≡ write_keys list = c.deref-2.ensures.value ∙ c.in-Ok.ensures ∙ ap write_keys c.deref.ensures.value in
     let none : c.obstacle.result ≡ None = search rules in
-    let clear = judged_as begin changes held s b short list present n p w c.deref-2.result.now c.deref-3.result.now c.obstacle.result None same c.deref-3.ensures.value none
-    (c.obstacle.ensures (state_of changes held) w.begun.snapshot w.stands refl (snap begin changes held s b short list present n p w)) in
-    let j = c.stage.ensures.stands changes w.begun.snapshot w.stands (may_stage begin changes held s b short list present n p w clear) in
+    let clear = judged_as begin changes held s half list present n p w c.deref-2.result.now c.deref-3.result.now c.obstacle.result None same c.deref-3.ensures.value none
+    (c.obstacle.ensures (state_of changes held) w.begun.snapshot w.stands refl (snap begin changes held s half list present n p w)) in
+    let j = c.stage.ensures.stands changes w.begun.snapshot w.stands (may_stage begin changes held s half list present n p w clear) in
     let done : is_err c.stage.result ≡ false = search rules in
-    let state = staged_state begin changes held s b short list present n p w clear (state_of changes c.stage.new.held) (ok_gives c.stage.result done c.stage.ensures.ok changes) in
-    ends_explicit begin changes held s b short list present n p w clear c.stage.new.held _ c.stage.ensures.same j state refl (depth_explicit begin changes held s b short list present n p w clear c.in-None.is)
+    let state = staged_state begin changes held s half list present n p w clear (state_of changes c.stage.new.held) (ok_gives c.stage.result done c.stage.ensures.ok changes) in
+    ends_explicit begin changes held s half list present n p w clear c.stage.new.held _ c.stage.ensures.same j state refl (depth_explicit begin changes held s half list present n p w clear c.in-None.is)

@@ -1,14 +1,14 @@
-use Rattle.std.proofs.Common.{◌≡◌, ◌++◌, ◌∷◌, [], arith, length, sym, subst, ◌∙◌, ap, false, Some, refl}
+use Rattle.std.proofs.Common.{◌≡◌, ◌++◌, ◌∷◌, [], arith, length, sym, subst, ◌∙◌, ap, refl}
 use Rattle.cs_types.specs.declared.Schema.{Schema}
 use Rattle.cs_types.specs.Schemas.{IsSchema}
 use Rattle.cs_model.specs.declared.entry.Bound.TheVariants.{SegmentReport}
 use Rattle.cs_model.specs.Held.{AreFit}
-use Rattle.cs_model.specs.Kinds.{is_of_table}
 use Rattle.cs_model.specs.Text.{IsPrintableReply}
 use Rattle.cs_model.specs.declared.entry.Entry.TheVariants.{Finish}
 use Rattle.cs_model.specs.declared.work.Actor.TheVariants.{Session}
 use Rattle.cs_model.specs.State.{begin_of, Half}
 use Rattle.cs_model.specs.Steps.{IsFinish}
+use Rattle.log_laws.specs.Started.{half_by}
 use Rattle.log_laws.proofs.Beginnings.{may_begin}
 use Rattle.log_laws.proofs.Room.{room_finish}
 use Rattle.log_laws.proofs.StartedOn.{shows_begun}
@@ -22,16 +22,13 @@ use Rattle.statement_core.specs.Fit.{IsReadyHalf}
 use Rattle.statement_core.specs.Terms.{sizes_of}
 use Rattle.statement_core.proofs.Going.{going_stays}
 use Rattle.statement_core.proofs.Counting.{tells_after}
-use Rattle.statement_core.proofs.Finishing.{never_short, done_of}
+use Rattle.statement_core.proofs.Finishing.{done_of}
 use Rattle.statement_core.proofs.Fits.{fits_after, prints_after}
 use Rattle.statement_core.proofs.Reports.{changes_fit}
 use Rattle.statement_core.proofs.Keeping.{core_legal, within, ready_at, core_push}
 use Rattle.statement_core.proofs.Leaving.{leaving, told_by}
 use Rattle.statement_core.proofs.Turns.{free_in_book}
 use Rattle.statement_core.proofs.core_calls.Core.finish.Goals as goal
-
-report_half : (half : Half) → half.bound ≡ SegmentReport → half.short ≡ false → half ≡ record { bound = SegmentReport; short = false }
-report_half half a b = λ k. record { bound = a k; short = b k }
 
 pub finish-reply-requires-clause-within : goal.finish-reply-requires-clause-within
 finish-reply-requires-clause-within c =
@@ -103,17 +100,15 @@ invariant_of-self c =
     let cap = c.push_reserved.ensures.capacity in
     let ready = ready_at made old inside.log.items _ inside.sessions.items i s c.args.outcome done in
     let f = c.finish-reply.ensures.finished (begin_of schema) i.changes ready in
-    let half : Half = record { bound = done.begun.bound; short = done.begun.short } in
+    let half : Half = half_by done.begun in
     let at = done_of (begin_of schema) i.changes old old s half c.args.outcome shows.half (λ k. old.directory) ready in
     let x = subst (λ h. IsFinish schema (state_of i.changes old) s h r (state_of f.later new)) shows.half f.step in
     let fit = i.fit in
     let bound_ready = subst (IsReadyHalf schema) shows.half (fit.halves s) in
     let moves = subst (λ (sizes : Sizes). Finishes (record { begin = begin_of schema; sizes = sizes; book = empty }) (state_of i.changes old) (groups_of old) s r (state_of f.later new) (groups_of new)) i.sizes (f.moves empty free) in
     let segments = λ (e : done.begun.bound ≡ SegmentReport).
-    let found : done.begun.short ≡ false = never_short done.begun.bound done.begun.short bound_ready.1 (ap is_of_table e) in
-    let report : Some half ≡ Some (record { bound = SegmentReport; short = false }) = (λ k. Some (report_half half e found k)) in
     subst (λ (x : Schema). IsPrintableReply x r) i.schema
-    (c.finish-reply.ensures.printable i.changes i.stands (subst (λ (x : Schema). AreFit x i.changes) (sym i.schema) (changes_fit schema i.changes fit.changes)) (shows.half ∙ report)) in
+    (c.finish-reply.ensures.printable i.changes half i.stands (subst (λ (x : Schema). AreFit x i.changes) (sym i.schema) (changes_fit schema i.changes fit.changes)) shows.half e) in
     rw c.push_reserved.ensures.items (
       core_push made old new inside.log.items _ _ inside.sessions.items (Finish s r) i f.later f.stands f.sizes f.schema f.step moves
           (fits_after (begin_of schema) i.changes old s half r shows.half c.args.outcome at c.finish-reply.ensures.short c.finish-reply.ensures.given (state_of f.later new) x fit)

@@ -98,6 +98,7 @@ returns-clause-started c =
       record {
         bound = sym c.in_ok-in_half.ensures ∙ sym t.bound;
         short = t.short;
+        note = t.note;
         implicit = t.implicit;
         schema = ap (λ (x : Terms). x.schema.value) c.in_ok-terms.ensures ∙ sym shows.schema;
         own = t.own;
