@@ -1,5 +1,6 @@
 -- The printed text of replies and events, and of a log.
-use Rattle.std.specs.Prelude.{ℕ, ◌+◌, List, [], ◌∷◌, ◌++◌, length, codes, decimal, count_by, Bool, true, false, ◌-◌, ◌==◌, slice_get, All, IsTrue, Option, None, Some}
+use Rattle.std.specs.Prelude.{◌≡◌, refl, ℕ, ◌+◌, pos, List, [], ◌∷◌, ◌++◌, length, map, codes, decimal, count_by, Bool, true, false, ◌-◌, ◌==◌, slice_get, All, IsTrue, Option, None, Some}
+use Rattle.std.specs.Fmt.{digits}
 use Rattle.std.specs.List.{flat_map}
 use Rattle.cs_types.specs.declared.Column.{Column}
 use Rattle.cs_types.specs.declared.ColumnType.{ColumnType}
@@ -8,6 +9,7 @@ use Rattle.cs_types.specs.declared.Encoding.{Encoding}
 use Rattle.cs_types.specs.declared.Encoding.TheVariants.{ValuePacked, ValueRuns, DictPacked, DictRuns}
 use Rattle.cs_types.specs.declared.Key.{Key}
 use Rattle.cs_types.specs.declared.Loose.{Loose}
+use Rattle.cs_types.specs.declared.Loose.TheVariants as loose
 use Rattle.cs_types.specs.declared.Schema.{Schema}
 use Rattle.cs_types.specs.declared.Value.{Value}
 use Rattle.cs_types.specs.declared.Value.TheVariants.{Number}
@@ -38,7 +40,7 @@ cells_text (cell ∷ cells) = loose_text cell ++ flat_map next_cell cells
 
 -- a line under a reply begins with two spaces
 abbrev pub row_line : List Loose → List ℕ
-row_line row = codes "  " ++ cells_text row ++ codes "\n"
+row_line row = codes "  " ++ cells_text row
 
 abbrev pub kind_or : Option Column → ColumnType
 kind_or None = BigInt
@@ -66,9 +68,9 @@ refusal_text schema (NoTxn number) = codes "error " ++ decimal number
 refusal_text schema Memory = codes "error 701"
 
 -- the last line under an answer, where STATISTICS IO is on
-abbrev pub segments_line : Option (ℕ × ℕ) → List ℕ
-segments_line None = []
-segments_line (Some counts) = codes "  segments read " ++ decimal counts.0 ++ codes ", skipped " ++ decimal counts.1 ++ codes "\n"
+abbrev pub segments_lines : Option (ℕ × ℕ) → List (List ℕ)
+segments_lines None = []
+segments_lines (Some counts) = (codes "  segments read " ++ decimal counts.0 ++ codes ", skipped " ++ decimal counts.1) ∷ []
 
 -- ---- reports
 
@@ -81,7 +83,7 @@ parts_text [] = []
 parts_text (part ∷ parts) = part ++ flat_map next_part parts
 
 abbrev pub report_line : List (List ℕ) → List ℕ
-report_line parts = codes "  " ++ parts_text parts ++ codes "\n"
+report_line parts = codes "  " ++ parts_text parts
 
 abbrev pub state_code : GroupState → ℕ
 state_code Invisible = 0
@@ -133,22 +135,59 @@ segment_line schema line = report_line (
 abbrev pub left_line : ℕ × Actor → List ℕ
 left_line held = report_line (decimal held.0 ∷ actor_text held.1 ∷ [])
 
--- the reply, and the lines under it
-abbrev pub reply_text : Schema → Reply → List ℕ
-reply_text schema Done = codes "ok\n"
-reply_text schema (Affected count) = codes "ok " ++ decimal count ++ codes " affected\n"
-reply_text schema (Rows rows segments) = codes "ok " ++ decimal (length rows) ++ codes " rows\n" ++ flat_map row_line rows ++ segments_line segments
-reply_text schema (Groups lines buffered) = codes "ok " ++ decimal (length lines) ++ codes " groups, " ++ decimal buffered ++ codes " buffered\n" ++ flat_map group_line lines
-reply_text schema (Segments lines) = codes "ok " ++ decimal (length lines) ++ codes " segments\n" ++ flat_map (segment_line schema) lines
-reply_text schema (Left groups) = codes "ok " ++ decimal (length groups) ++ codes " left\n" ++ flat_map left_line groups
-reply_text schema (Refused refusal) = refusal_text schema refusal ++ codes "\n"
+-- ---- lines
 
--- the text of an entry: event is its number, place that of its statement in its session, both from 1
+-- `ok`, a count and what is counted
+abbrev pub ok_line : ℕ → List ℕ → List ℕ
+ok_line count counted = codes "ok " ++ decimal count ++ counted
+
+-- the line that a reply begins with
+abbrev pub head_line : Schema → Reply → List ℕ
+head_line schema Done = codes "ok"
+head_line schema (Affected count) = ok_line count (codes " affected")
+head_line schema (Rows rows segments) = ok_line (length rows) (codes " rows")
+head_line schema (Groups lines buffered) = ok_line (length lines) (codes " groups, ") ++ decimal buffered ++ codes " buffered"
+head_line schema (Segments lines) = ok_line (length lines) (codes " segments")
+head_line schema (Left groups) = ok_line (length groups) (codes " left")
+head_line schema (Refused refusal) = refusal_text schema refusal
+
+-- the lines under it
+abbrev pub under_lines : Schema → Reply → List (List ℕ)
+under_lines schema Done = []
+under_lines schema (Affected count) = []
+under_lines schema (Rows rows segments) = map row_line rows ++ segments_lines segments
+under_lines schema (Groups lines buffered) = map group_line lines
+under_lines schema (Segments lines) = map (segment_line schema) lines
+under_lines schema (Left groups) = map left_line groups
+under_lines schema (Refused refusal) = []
+
+-- `<event> s<session>.<place>`
+abbrev pub statement_text : ℕ → ℕ → ℕ → List ℕ
+statement_text event session place = decimal event ++ codes " " ++ session_text session ++ codes "." ++ decimal place
+
+-- the lines of an entry: event is its number, place that of its statement in its session, both from 1
+abbrev pub entry_lines : Schema → ℕ → ℕ → Entry → List (List ℕ)
+entry_lines schema event place (Start session bound short) = (statement_text event session place ++ codes " >") ∷ []
+entry_lines schema event place (Finish session reply) = (statement_text event session place ++ codes " < " ++ head_line schema reply) ∷ under_lines schema reply
+entry_lines schema event place (End session) = (decimal event ++ codes " " ++ session_text session ++ codes " end") ∷ []
+entry_lines schema event place (Mover actor work) = (decimal event ++ codes " " ++ actor_text actor ++ codes " " ++ work_text work) ∷ []
+
+-- worked: the lines of an answer with two rows
+pub two_rows : (schema : Schema)
+    → entry_lines schema 2 1 (Finish 1 (Rows ((loose.Number (pos 1) 0 ∷ loose.Text (codes "a") ∷ []) ∷ (loose.Number (pos 2) 0 ∷ loose.Null ∷ []) ∷ []) None))
+    ≡ codes "2 s1.1 < ok 2 rows" ∷ codes "  1, 'a'" ∷ codes "  2, NULL" ∷ []
+unfolding digits
+two_rows schema = refl
+
+-- ---- the text of a log
+
+-- lines, each with the byte 10 after it
+abbrev pub lines_text : List (List ℕ) → List ℕ
+lines_text lines = flat_map (λ line. line ++ codes "\n") lines
+
+-- the text of an entry
 abbrev pub entry_text : Schema → ℕ → ℕ → Entry → List ℕ
-entry_text schema event place (Start session bound short) = decimal event ++ codes " " ++ session_text session ++ codes "." ++ decimal place ++ codes " >\n"
-entry_text schema event place (Finish session reply) = decimal event ++ codes " " ++ session_text session ++ codes "." ++ decimal place ++ codes " < " ++ reply_text schema reply
-entry_text schema event place (End session) = decimal event ++ codes " " ++ session_text session ++ codes " end\n"
-entry_text schema event place (Mover actor work) = decimal event ++ codes " " ++ actor_text actor ++ codes " " ++ work_text work ++ codes "\n"
+entry_text schema event place entry = lines_text (entry_lines schema event place entry)
 
 abbrev pub is_start_of : ℕ → Entry → Bool
 is_start_of session (Start s bound short) = s == session

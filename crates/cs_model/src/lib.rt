@@ -17,6 +17,7 @@ mod log;
 mod plan;
 mod pred;
 mod print;
+mod print_lines;
 mod print_report;
 mod print_work;
 mod report;

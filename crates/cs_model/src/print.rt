@@ -3,12 +3,12 @@ ghost use Rattle.std.specs.Prelude.{◌≡◌, ◌++◌, All, OnOk, OnErr, IsTru
 ghost use Rattle.std.specs.List.{flat_map};
 ghost use Rattle.cs_types.specs.Text.{IsPrintable};
 ghost use Rattle.cs_model.specs.Works.{session_text};
-ghost use Rattle.cs_model.specs.Text.{next_cell, cells_text, row_line, key_kind, key_text, valued_text, refusal_text, segments_line, group_line, segment_line, reply_text, entry_text, IsPrintableRow, IsPrintableKey, IsPrintableRefusal, IsPrintableReply, IsPrintableEntry};
+ghost use Rattle.cs_model.specs.Text.{next_cell, cells_text, key_kind, key_text, valued_text, refusal_text, segments_lines, ok_line, head_line, under_lines, statement_text, lines_text, entry_text, IsPrintableKey, IsPrintableRefusal, IsPrintableReply, IsPrintableEntry};
 ghost use Rattle.cs_types.specs.Kinds.{keeps};
 ghost use Rattle.cs_types.specs.declared.Value.TheVariants as value;
 
 use crate::entry::{AnswerRow, Entry, Refusal, Reply};
-use crate::print_report::{append_groups, append_left, append_segments};
+use crate::print_lines::{ReplyLine, append_lines};
 use crate::print_work::{append_actor, append_work};
 use cs_base::Memory;
 use cs_types::{ColumnType, Key, Line, Loose, Schema, Value, print_loose, print_value};
@@ -38,17 +38,17 @@ fn append_cells(cells: &[Loose], line: &mut Line) -> Result<(), Memory>
     append_next_cells(others, line)
 }
 
-/// Adds a line for each row.
-fn append_rows(rows: &[AnswerRow], line: &mut Line) -> Result<(), Memory>
-    requires { All IsPrintableRow rows.now }
-    ensures { OnOk result (line.new ≡ line.old ++ flat_map row_line rows.now) }
-{
-    for row in rows {
+impl ReplyLine for AnswerRow {
+    ghost use Rattle.cs_model.specs.Text.{row_line, IsPrintableRow};
+
+    ghost is_printable = { λ _ row. IsPrintableRow row };
+
+    ghost line_of = { λ _ row. row_line row };
+
+    fn append_to(&self, _schema: &Schema, line: &mut Line) -> Result<(), Memory> {
         line.append(b"  ")?;
-        append_cells(row.as_slice(), line)?;
-        line.append(b"\n")?;
+        append_cells(self.as_slice(), line)
     }
-    Ok(())
 }
 
 /// The type of the key's column.
@@ -154,9 +154,38 @@ fn append_refusal(schema: &Schema, refusal: Refusal, line: &mut Line) -> Result<
     }
 }
 
-/// Adds the counts of segments, where there are some.
+/// Adds `ok`, a count and what is counted.
+fn append_ok(count: u64, counted: &[u8], line: &mut Line) -> Result<(), Memory>
+    ensures { OnOk result (line.new ≡ line.old ++ ok_line count counted.now) }
+{
+    line.append(b"ok ")?;
+    line.append_number(count)?;
+    line.append(counted)
+}
+
+/// Adds the line that a reply begins with, without the byte 10 at its end.
+fn append_head(schema: &Schema, reply: &Reply, line: &mut Line) -> Result<(), Memory>
+    requires { IsPrintableReply schema.now reply.now }
+    ensures { OnOk result (line.new ≡ line.old ++ head_line schema.now reply.now) }
+{
+    match reply {
+        Reply::Done => line.append(b"ok"),
+        Reply::Affected(count) => append_ok(*count, b" affected", line),
+        Reply::Rows { rows, .. } => append_ok(rows.len() as u64, b" rows", line),
+        Reply::Groups { lines, buffered } => {
+            append_ok(lines.len() as u64, b" groups, ", line)?;
+            line.append_number(*buffered)?;
+            line.append(b" buffered")
+        }
+        Reply::Segments(lines) => append_ok(lines.len() as u64, b" segments", line),
+        Reply::Left(groups) => append_ok(groups.len() as u64, b" left", line),
+        Reply::Refused(refusal) => append_refusal(schema, *refusal, line),
+    }
+}
+
+/// Adds the counts of segments, where there are some, with the byte 10 after them.
 fn append_segment_counts(segments: Option<(u64, u64)>, line: &mut Line) -> Result<(), Memory>
-    ensures { OnOk result (line.new ≡ line.old ++ segments_line segments) }
+    ensures { OnOk result (line.new ≡ line.old ++ lines_text (segments_lines segments)) }
 {
     let Some((read, skipped)) = segments else {
         return Ok(());
@@ -168,49 +197,20 @@ fn append_segment_counts(segments: Option<(u64, u64)>, line: &mut Line) -> Resul
     line.append(b"\n")
 }
 
-/// Adds a reply and the lines under it.
-fn append_reply(schema: &Schema, reply: &Reply, line: &mut Line) -> Result<(), Memory>
+/// Adds the lines under a reply, each with the byte 10 after it.
+fn append_under(schema: &Schema, reply: &Reply, line: &mut Line) -> Result<(), Memory>
     requires { IsPrintableReply schema.now reply.now }
-    ensures { OnOk result (line.new ≡ line.old ++ reply_text schema.now reply.now) }
+    ensures { OnOk result (line.new ≡ line.old ++ lines_text (under_lines schema.now reply.now)) }
 {
     match reply {
-        Reply::Done => line.append(b"ok\n"),
-        Reply::Affected(count) => {
-            line.append(b"ok ")?;
-            line.append_number(*count)?;
-            line.append(b" affected\n")
-        }
+        Reply::Done | Reply::Affected(_) | Reply::Refused(_) => Ok(()),
         Reply::Rows { rows, segments } => {
-            line.append(b"ok ")?;
-            line.append_number(rows.len() as u64)?;
-            line.append(b" rows\n")?;
-            append_rows(rows.as_slice(), line)?;
+            append_lines(schema, rows.as_slice(), line)?;
             append_segment_counts(*segments, line)
         }
-        Reply::Groups { lines, buffered } => {
-            line.append(b"ok ")?;
-            line.append_number(lines.len() as u64)?;
-            line.append(b" groups, ")?;
-            line.append_number(*buffered)?;
-            line.append(b" buffered\n")?;
-            append_groups(lines.as_slice(), line)
-        }
-        Reply::Segments(lines) => {
-            line.append(b"ok ")?;
-            line.append_number(lines.len() as u64)?;
-            line.append(b" segments\n")?;
-            append_segments(schema, lines.as_slice(), line)
-        }
-        Reply::Left(groups) => {
-            line.append(b"ok ")?;
-            line.append_number(groups.len() as u64)?;
-            line.append(b" left\n")?;
-            append_left(groups.as_slice(), line)
-        }
-        Reply::Refused(refusal) => {
-            append_refusal(schema, *refusal, line)?;
-            line.append(b"\n")
-        }
+        Reply::Groups { lines, .. } => append_lines(schema, lines.as_slice(), line),
+        Reply::Segments(lines) => append_lines(schema, lines.as_slice(), line),
+        Reply::Left(groups) => append_lines(schema, groups.as_slice(), line),
     }
 }
 
@@ -223,10 +223,11 @@ fn append_session(event: u64, session: u32, line: &mut Line) -> Result<(), Memor
     line.append_number(session as u64)
 }
 
-/// Adds a statement's place in its session.
-fn append_place(place: u64, line: &mut Line) -> Result<(), Memory>
-    ensures { OnOk result (line.new ≡ line.old ++ codes "." ++ decimal place) }
+/// Adds an event's number, its session and its statement's place there.
+fn append_statement(event: u64, session: u32, place: u64, line: &mut Line) -> Result<(), Memory>
+    ensures { OnOk result (line.new ≡ line.old ++ statement_text event session place) }
 {
+    append_session(event, session, line)?;
     line.append(b".")?;
     line.append_number(place)
 }
@@ -244,15 +245,15 @@ pub fn append_entry(
 {
     match entry {
         Entry::Start { session, .. } => {
-            append_session(event, *session, line)?;
-            append_place(place, line)?;
+            append_statement(event, *session, place, line)?;
             line.append(b" >\n")
         }
         Entry::Finish { session, reply } => {
-            append_session(event, *session, line)?;
-            append_place(place, line)?;
+            append_statement(event, *session, place, line)?;
             line.append(b" < ")?;
-            append_reply(schema, reply, line)
+            append_head(schema, reply, line)?;
+            line.append(b"\n")?;
+            append_under(schema, reply, line)
         }
         Entry::End { session } => {
             append_session(event, *session, line)?;

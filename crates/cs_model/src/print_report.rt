@@ -1,9 +1,9 @@
 // The text of the reports on row groups and their segments, and of what a REORGANIZE left.
-ghost use Rattle.std.specs.Prelude.{◌≡◌, ◌++◌, All, OnOk, codes, decimal};
-ghost use Rattle.std.specs.List.{flat_map};
+ghost use Rattle.std.specs.Prelude.{◌≡◌, ◌++◌, OnOk, codes, decimal};
 ghost use Rattle.cs_types.specs.Text.{value_text};
-ghost use Rattle.cs_model.specs.Text.{left_line, next_part, state_code, state_name, group_line, encoding_name, bit_of, column_kind, segment_line, IsPrintableCell, IsPrintableSegment};
+ghost use Rattle.cs_model.specs.Text.{next_part, state_code, state_name, encoding_name, bit_of, column_kind, IsPrintableCell, IsPrintableSegment};
 
+use crate::print_lines::ReplyLine;
 use crate::print_work::append_actor;
 use crate::report::{GroupLine, GroupState, SegmentLine};
 use crate::work::Actor;
@@ -82,27 +82,21 @@ fn append_cell(kind: ColumnType, cell: &Value, line: &mut Line) -> Result<(), Me
     print_loose(&loose_of(kind, cell)?, line)
 }
 
-/// Adds the line of a row group.
-fn append_group(group: &GroupLine, line: &mut Line) -> Result<(), Memory>
-    ensures { OnOk result (line.new ≡ line.old ++ group_line group.now) }
-{
-    line.append(b"  ")?;
-    line.append_number(group.id)?;
-    append_count(group.state.code(), line)?;
-    append_part(group.state.name(), line)?;
-    append_count(group.total, line)?;
-    append_count(group.deleted, line)?;
-    line.append(b"\n")
-}
+impl ReplyLine for GroupLine {
+    ghost use Rattle.cs_model.specs.Text.{group_line};
 
-/// Adds a line for each row group.
-pub fn append_groups(groups: &[GroupLine], line: &mut Line) -> Result<(), Memory>
-    ensures { OnOk result (line.new ≡ line.old ++ flat_map group_line groups.now) }
-{
-    for group in groups {
-        append_group(group, line)?;
+    ghost is_printable = { λ _ _. Unit {0} };
+
+    ghost line_of = { λ _ group. group_line group };
+
+    fn append_to(&self, _schema: &Schema, line: &mut Line) -> Result<(), Memory> {
+        line.append(b"  ")?;
+        line.append_number(self.id)?;
+        append_count(self.state.code(), line)?;
+        append_part(self.state.name(), line)?;
+        append_count(self.total, line)?;
+        append_count(self.deleted, line)
     }
-    Ok(())
 }
 
 /// The type of a column, counted from 1; BIGINT where the table has no such column.
@@ -144,49 +138,32 @@ fn append_bounds(schema: &Schema, segment: &SegmentLine, line: &mut Line) -> Res
     append_cell(kind, &segment.greatest, line)
 }
 
-/// Adds the line of a segment.
-pub fn append_segment(schema: &Schema, segment: &SegmentLine, line: &mut Line) -> Result<(), Memory>
-    requires { IsPrintableSegment schema.now segment.now }
-    ensures { OnOk result (line.new ≡ line.old ++ segment_line schema.now segment.now) }
-{
-    append_place(segment, line)?;
-    append_sizes(segment, line)?;
-    append_bounds(schema, segment, line)?;
-    line.append(b"\n")
-}
+impl ReplyLine for SegmentLine {
+    ghost use Rattle.cs_model.specs.Text.{segment_line, IsPrintableSegment};
 
-/// Adds a line for each segment.
-pub fn append_segments(
-    schema: &Schema,
-    segments: &[SegmentLine],
-    line: &mut Line,
-) -> Result<(), Memory>
-    requires { All (IsPrintableSegment schema.now) segments.now }
-    ensures { OnOk result (line.new ≡ line.old ++ flat_map (segment_line schema.now) segments.now) }
-{
-    for segment in segments {
-        append_segment(schema, segment, line)?;
+    ghost is_printable = { IsPrintableSegment };
+
+    ghost line_of = { segment_line };
+
+    fn append_to(&self, schema: &Schema, line: &mut Line) -> Result<(), Memory> {
+        append_place(self, line)?;
+        append_sizes(self, line)?;
+        append_bounds(schema, self, line)
     }
-    Ok(())
 }
 
-/// Adds a group that was left, with who held it.
-fn append_held(held: &(u64, Actor), line: &mut Line) -> Result<(), Memory>
-    ensures { OnOk result (line.new ≡ line.old ++ left_line held.now) }
-{
-    line.append(b"  ")?;
-    line.append_number(held.0)?;
-    line.append(b", ")?;
-    append_actor(held.1, line)?;
-    line.append(b"\n")
-}
+/// A group that was left, with who held it.
+impl ReplyLine for (u64, Actor) {
+    ghost use Rattle.cs_model.specs.Text.{left_line};
 
-/// Adds a line for each group that was left.
-pub fn append_left(groups: &[(u64, Actor)], line: &mut Line) -> Result<(), Memory>
-    ensures { OnOk result (line.new ≡ line.old ++ flat_map left_line groups.now) }
-{
-    for held in groups {
-        append_held(held, line)?;
+    ghost is_printable = { λ _ _. Unit {0} };
+
+    ghost line_of = { λ _ held. left_line held };
+
+    fn append_to(&self, _schema: &Schema, line: &mut Line) -> Result<(), Memory> {
+        line.append(b"  ")?;
+        line.append_number(self.0)?;
+        line.append(b", ")?;
+        append_actor(self.1, line)
     }
-    Ok(())
 }

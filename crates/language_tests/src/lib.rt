@@ -1,4 +1,4 @@
-//! Tests of the readers and the binder: tokens, tables, statements and scripts.
+//! Tests of the readers, and of what texts mean: tokens, tables, statements and scripts.
 //!
 //! Each module tests one crate through what it shows to others, so that the crate itself is proved once.
 #![tactic(auto)]
@@ -8,7 +8,7 @@ mod made;
 #[cfg(test)]
 mod script_reader_tests;
 #[cfg(test)]
-mod tsql_binder_tests;
+mod script_turns_tests;
 #[cfg(test)]
 mod tsql_create_tests;
 #[cfg(test)]

@@ -22,7 +22,6 @@ use Rattle.log_laws.specs.Laws.{IsSound}
 use Rattle.log_laws.proofs.Floors.{floor_one}
 use Rattle.cs_model.specs.Works.{lacks_memory}
 use Rattle.log_summary.specs.Summary.{replies_memory}
-use Rattle.tsql_binder.specs.Meaning.{Means}
 use Rattle.group_book.specs.Book.{Book, Choice, Claim}
 use Rattle.group_book.specs.Book.Choice.{Compress, Flush, Rebuild, Merge, Settle, Clear, Idle}
 use Rattle.group_book.specs.Choices.{choice, choice_work, install_work, release_work}
@@ -34,6 +33,7 @@ use Rattle.book_orders.proofs.Shuffled.{shuffled_back, shuffled_claim, shuffled_
 use Rattle.book_orders.proofs.Chosen.{shuffled_choice, shuffled_work}
 use Rattle.book_orders.proofs.Steps.{shuffled_full}
 use Rattle.statement_core.specs.Turns.{IsFirst, BeginsTurn, EndsBy, HasNoTurn, EndsTurn}
+use Rattle.script_turns.specs.Texts.{Means}
 use Rattle.script_turns.specs.Turns.{IsBound, IsStart}
 use Rattle.schedule_laws.specs.Agreeing.{without_segments, Agrees}
 use Rattle.schedule_laws.proofs.Texts.{means_one}

@@ -24,7 +24,8 @@ use Rattle.tsql_exprs.specs.Refusals.{number_at, place_at, AnswersOnly}
 use Rattle.tsql_reader.specs.Limits.{passed_limit}
 use Rattle.tsql_reader.specs.Statements.{grammar, IsStatement, IsNoStatement, FollowsTokens}
 use Rattle.tsql_reader.proofs.Clauses.{ok_only, ok_place, err_only, err_place}
-use Rattle.tsql_binder.specs.Meaning.{bound_of, bound_or, Means}
+use Rattle.tsql_binder.specs.Meaning.{bound_of}
+use Rattle.script_turns.specs.Texts.{bound_or, Means}
 
 -- ---- its tokens
 

@@ -1,3 +1,4 @@
 pub mod Entries
 pub mod Meanings
 pub mod Sessions
+pub mod Texts

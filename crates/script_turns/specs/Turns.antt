@@ -11,10 +11,10 @@ use Rattle.cs_model.specs.Actors.{turns_of}
 use Rattle.cs_model.specs.State.{State, Begin, schema_now}
 use Rattle.cs_model.specs.Steps.{Legal}
 use Rattle.cs_model.specs.Text.{statements_of}
-use Rattle.tsql_binder.specs.Meaning.{Means}
 use Rattle.script_reader.specs.declared.script.Script.{Script}
 use Rattle.script_reader.specs.declared.script.Step.{Step}
 use Rattle.script_reader.specs.declared.script.Step.TheVariants.{Whole, Begun, Finished, Turn, Claiming, Installing}
+use Rattle.script_turns.specs.Texts.{Means}
 
 -- ---- one statement
 

@@ -1,3 +1,4 @@
 pub mod Numbers
 pub mod Reader
 pub mod ReadBack
+pub mod OneLine

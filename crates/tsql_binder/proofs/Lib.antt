@@ -1,3 +1,2 @@
-pub mod Meanings
 pub mod Ready
 pub mod Reports

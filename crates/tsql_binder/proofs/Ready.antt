@@ -1,11 +1,10 @@
--- What a text is bound to can be run: an UPDATE without faults sets no key, and a refusal is one of reading.
-use Rattle.std.proofs.Common.{◌≡◌, ◌≢◌, ℕ, List, [], ◌∷◌, ◌++◌, map, refl, sym, subst, arith, cond, codes, Bool, true, false, All, inl, inr}
-use Rattle.std.specs.Prelude.{Option, None, Some, unwrap_or, Result, Ok, Err, IfOk}
+-- What a statement is bound to can be run: an UPDATE without faults sets no key.
+use Rattle.std.proofs.Common.{◌≡◌, ◌≢◌, ℕ, List, [], ◌∷◌, ◌++◌, map, refl, subst, arith, cond, codes, Bool, true, false, All}
+use Rattle.std.specs.Prelude.{Option, None, Some, unwrap_or, Ok}
 use Rattle.std.specs.List.{flat_map}
 use Rattle.std.specs.Option.{option_and_then}
 use Rattle.std.proofs.lemmas.List.Elements.{All-nil, All-cons}
 use Rattle.std.proofs.lemmas.Bool.Decides.{nat_tests}
-use Rattle.cs_base.specs.declared.memory.Memory.{Memory}
 use Rattle.cs_types.specs.declared.Schema.{Schema}
 use Rattle.cs_model.specs.declared.expr.Expr.{Expr}
 use Rattle.cs_base.specs.Names.{same_name}
@@ -25,7 +24,7 @@ use Rattle.bind_faults.specs.Faults.{faults, wrong_table, before_all, first_faul
 use Rattle.bind_faults.proofs.Leasts.{least_none}
 use Rattle.bind_forms.specs.Plans.{set_of}
 use Rattle.tsql_binder.specs.Reports.{groups_name, segments_name, report_named, report_behind, report_in, is_whole}
-use Rattle.tsql_binder.specs.Meaning.{plan_of, unless, reported, bound_but_for, bound_of, bound_or, Means}
+use Rattle.tsql_binder.specs.Meaning.{plan_of, unless, reported, bound_but_for, bound_of}
 
 -- ---- no faults at all
 
@@ -133,16 +132,3 @@ module _ (schema : Schema) where
       at : (report : Option Bound) → report_in statement ≡ report → bound_but_for schema statement report ≡ Ok bound → IsReady schema bound
       at None is h = without (first_fault schema statement) refl h
       at (Some report) is h = with (is_whole statement) report is h
-
-  -- what a text means
-  pub meant_ready : (text : List ℕ) (bound : Bound) → Means schema text bound → IsReady schema bound
-  meant_ready text bound (inl h) = subst (IsReady schema) (sym h.2) (at (bound_of schema h.0) refl)
-    where
-      at : (wanted : Result Bound Fault) → bound_of schema h.0 ≡ wanted → IsReady schema (bound_or wanted)
-      at (Ok b) e = bound_ready h.0 b e
-      at (Err f) e = tt
-  meant_ready text bound (inr h) = subst (IsReady schema) (sym h.3) tt
-
-  pub ready_of : (text : List ℕ) (r : Result Bound Memory) → IfOk r (Means schema text) → IfOk r (IsReady schema)
-  ready_of text (Ok bound) means = meant_ready text bound means
-  ready_of text (Err memory) means = tt

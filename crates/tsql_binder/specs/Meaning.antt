@@ -1,12 +1,10 @@
--- What the text of a statement means over a schema: its tree's bound form, or its first refusal.
-use Rattle.std.specs.Prelude.{◌≡◌, ◌⊎◌, ℕ, List, Bool, true, false, Option, None, Some, unwrap_or, Result, Ok, Err}
+-- What a statement means over a schema: its bound form, or its first fault.
+use Rattle.std.specs.Prelude.{◌≡◌, Bool, true, false, Option, None, Some, unwrap_or, Result, Ok, Err}
 use Rattle.cs_types.specs.declared.Schema.{Schema}
 use Rattle.cs_model.specs.declared.entry.Bound.{Bound}
-use Rattle.cs_model.specs.declared.entry.Bound.TheVariants.{Begin, Commit, Rollback, Nothing, Statistics, Insert, Update, Delete, Select, Reorganize, Refused}
-use Rattle.cs_model.specs.declared.entry.Refusal.TheVariants.{Reading}
+use Rattle.cs_model.specs.declared.entry.Bound.TheVariants.{Begin, Commit, Rollback, Nothing, Statistics, Insert, Update, Delete, Select, Reorganize}
 use Rattle.tsql_trees.specs.declared.statement.Statement.{Statement}
 use Rattle.tsql_trees.specs.declared.statement.Statement.TheVariants as statements
-use Rattle.tsql_reader.specs.Statements.{IsStatement, IsNoStatement}
 use Rattle.bind_faults.specs.declared.fault.Fault.{Fault}
 use Rattle.bind_faults.specs.Least.{fault}
 use Rattle.bind_faults.specs.Faults.{first_fault}
@@ -15,9 +13,6 @@ use Rattle.bind_forms.specs.Plans.{insert_plan, update_plan, query}
 use Rattle.tsql_binder.specs.declared.refusal.BindRefusal.{BindRefusal}
 use Rattle.tsql_binder.specs.declared.refusal.BindRefusal.TheVariants.{At, Memory}
 use Rattle.tsql_binder.specs.Reports.{report_in, is_whole}
-
-abbrev pub refused : Fault → Bound
-refused f = Refused (Reading f.number f.at)
 
 -- the bound form of a statement without a fault: a REORGANIZE closes the open store where its WITH says ON, under any index name
 abbrev pub plan_of : Schema → Statement → Bound
@@ -50,16 +45,6 @@ bound_but_for schema statement (Some report) = reported (is_whole statement) rep
 -- the bound form of a statement, or its first fault
 abbrev pub bound_of : Schema → Statement → Result Bound Fault
 bound_of schema statement = bound_but_for schema statement (report_in statement)
-
-abbrev pub bound_or : Result Bound Fault → Bound
-bound_or (Ok bound) = bound
-bound_or (Err f) = refused f
-
--- what a text means: the bound form of its statement, or that statement's refusal, or the refusal of a text that is none
-abbrev pub Means : Schema → List ℕ → Bound → Type 0
-Means schema text bound =
-    ((statement : Statement) × IsStatement text statement × (bound ≡ bound_or (bound_of schema statement)))
-    ⊎ ((number : ℕ) × (at : ℕ) × IsNoStatement text number at × (bound ≡ Refused (Reading number at)))
 
 -- ---- what binding answers
 

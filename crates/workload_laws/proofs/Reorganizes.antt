@@ -15,10 +15,11 @@ use Rattle.tsql_grammar.specs.Words.{symbols_of}
 use Rattle.tsql_reader.specs.Statements.{IsStatement}
 use Rattle.bind_faults.specs.declared.fault.Fault.{Fault}
 use Rattle.bind_faults.specs.Faults.{first_fault}
-use Rattle.tsql_binder.specs.Meaning.{plan_of, unless, reported, bound_but_for, bound_of, bound_or, Means}
+use Rattle.tsql_binder.specs.Meaning.{plan_of, unless, reported, bound_but_for, bound_of}
 use Rattle.tsql_binder.specs.Reports.{groups_name, segments_name, report_named, report_behind, is_whole}
 use Rattle.script_reader.specs.declared.script.Step.{Step}
 use Rattle.script_reader.specs.Scripts.{text_of}
+use Rattle.script_turns.specs.Texts.{bound_or, Means}
 use Rattle.script_workload.specs.declared.statement.Statement.{Statement as Drawn}
 use Rattle.script_workload.specs.declared.statement.Statement.TheVariants.{Begin, Commit, Rollback, Insert, Update, Delete, Select, Mover}
 use Rattle.script_workload.specs.Workload.{statement_after, number_at}

@@ -2,7 +2,7 @@
 //!
 //! `workload_is_script`: a workload is a script, so who reads one that it drew is refused for want of memory alone, and never
 //! for a bad line. `workload_has_no_reorganize`: none of its texts means a REORGANIZE. They stand on `script_workload`, which
-//! defines workloads, on `script_reader`, which defines scripts, and on `tsql_binder`, which defines what a text means.
+//! defines workloads, on `script_reader`, which defines scripts, and on `script_turns`, which defines what a text means.
 #![tactic(auto)]
 
 ghost use Rattle.std.specs.Prelude.{◌≡◌, ◌≤◌, ◌<◌, ℕ, length, Bool, true, All};
@@ -10,8 +10,8 @@ ghost use Rattle.std.specs.List.{list_all};
 ghost use Rattle.cs_model.specs.declared.entry.Bound.TheVariants.{Reorganize};
 ghost use Rattle.script_reader.specs.declared.script.Mode.TheVariants as Mode;
 ghost use Rattle.script_reader.specs.Scripts.{text_of, IsScript};
+ghost use Rattle.script_turns.specs.Texts.{Means};
 ghost use Rattle.script_workload.specs.Workload.{workload};
-ghost use Rattle.tsql_binder.specs.Meaning.{Means};
 ghost use Rattle.workload_laws.specs.Scripts.{workload_table, workload_script, is_whole};
 
 /// The workload of a number, for 1 to 64 sessions, is a script: that of its table and of the step of each of its lines, whose

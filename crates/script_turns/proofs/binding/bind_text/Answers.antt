@@ -1,7 +1,6 @@
 use Rattle.tsql_binder.specs.Meaning.{bound_of}
-use Rattle.tsql_binder.proofs.Meanings.{read_found, read_only, unread_found, unread_only}
-use Rattle.tsql_binder.proofs.Ready.{ready_of}
-use Rattle.tsql_binder.proofs.statement.bind_text.Goals as goal
+use Rattle.script_turns.proofs.Texts.{read_found, read_only, unread_found, unread_only, ready_of}
+use Rattle.script_turns.proofs.binding.bind_text.Goals as goal
 
 pub returns-in-Ok-clause-found : goal.returns-in-Ok-clause-found
 returns-in-Ok-clause-found c =

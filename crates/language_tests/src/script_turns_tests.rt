@@ -1,9 +1,9 @@
 use cs_base::{Items, Memory};
 use cs_model::{Bound, Refusal};
 use cs_types::{Bytes, Column, ColumnType, Schema};
+use script_turns::bind_text;
 use std::alloc::Global;
 use std::process::Abort;
-use tsql_binder::bind_text;
 
 /// What a text means, in short.
 #[derive(Clone, Copy, Debug, PartialEq, Eq)]
