@@ -1,7 +1,6 @@
 -- The text of lines, one line more.
-use Rattle.std.proofs.Common.{◌≡◌, ℕ, ◌+◌, ◌<◌, List, [], ◌∷◌, ◌++◌, length, take, get_or, map, sym, ap, ◌∙◌, append_assoc, append-nil, codes}
+use Rattle.std.proofs.Common.{◌≡◌, ℕ, ◌+◌, ◌<◌, List, [], ◌∷◌, ◌++◌, length, take, get_or, map, sym, ap, ◌∙◌, append_assoc, codes}
 use Rattle.std.proofs.lemmas.List.{flat_map_more, map_more}
-use Rattle.std.proofs.lemmas.List.Concat.{flat_map-append}
 use Rattle.cs_model.specs.Text.{lines_text}
 
 -- a line, and then the byte 10, after the lines of the first i elements
@@ -11,11 +10,3 @@ lines_more line_of xs i x within is out before after added so_far =
     added ∙ append_assoc before (line_of x) (codes "\n") ∙ ap (λ z. z ++ (line_of x ++ codes "\n")) so_far
     ∙ flat_map_more (λ line. line ++ codes "\n") out (map line_of (take i xs)) (line_of x)
     ∙ ap (λ lines. out ++ lines_text lines) (sym (map_more line_of xs i x within ∙ ap (λ y. map line_of (take i xs) ++ line_of y ∷ []) (sym is)))
-
--- lines after others
-pub lines_joined : (lines more : List (List ℕ)) → lines_text (lines ++ more) ≡ lines_text lines ++ lines_text more
-lines_joined lines more = flat_map-append (λ line. line ++ codes "\n") lines more
-
--- one line
-pub one_line : (line : List ℕ) → lines_text (line ∷ []) ≡ line ++ codes "\n"
-one_line line = append-nil (line ++ codes "\n")
