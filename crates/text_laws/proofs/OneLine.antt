@@ -1,5 +1,5 @@
 -- No line of an event holds a byte 10.
-use Rattle.std.proofs.Common.{◌≡◌, ℕ, zero, suc, ◌-◌, ◌/◌, ◌%◌, ◌^◌, ◌==◌, ℤ, pos, int_lt, unsigned_abs, List, [], ◌∷◌, ◌++◌, length, map, replicate, refl, sym, ◌∙◌, cond, not, Bool, true, false, true≢false, nat_le, nat_lt, slice_index_or, All, codes, decimal, arith, IsTrue, Option, None, Some}
+use Rattle.std.proofs.Common.{◌≡◌, ℕ, zero, suc, ◌+◌, ◌-◌, ◌/◌, ◌%◌, ◌^◌, ◌==◌, ℤ, pos, int_lt, unsigned_abs, List, [], ◌∷◌, ◌++◌, length, map, replicate, refl, sym, ◌∙◌, cond, not, Bool, true, false, true≢false, nat_le, nat_lt, slice_index_or, All, codes, decimal, arith, IsTrue, Option, None, Some}
 use Rattle.std.specs.Fmt.{digits, digits_onto, digit_glyph, sign_text}
 use Rattle.std.specs.List.{AllByRecursion, list_all, flat_map}
 use Rattle.std.proofs.lemmas.Bool.{and_from, and_parts, leb-true, ne_eqb, not_from_false}
@@ -14,11 +14,10 @@ use Rattle.cs_types.specs.declared.Key.{Key}
 use Rattle.cs_types.specs.declared.Loose.{Loose}
 use Rattle.cs_types.specs.declared.Loose.TheVariants as loose
 use Rattle.cs_types.specs.declared.Schema.{Schema}
-use Rattle.cs_types.specs.declared.Value.{Value}
 use Rattle.cs_types.specs.declared.Value.TheVariants as value
 use Rattle.cs_types.specs.Calendar.{year_of, month_of, day_of_month}
 use Rattle.cs_types.specs.Kinds.{is_text_byte, has_text_bytes}
-use Rattle.cs_types.specs.Text.{padded_decimal, scaled_text, number_text, civil_text, day_text, quoted_byte, quoted_text, loose_text, loose_of, value_text}
+use Rattle.cs_types.specs.Text.{padded_decimal, scaled_text, number_text, civil_text, quoted_byte, loose_text, loose_of, value_text}
 use Rattle.cs_model.specs.declared.entry.Entry.{Entry}
 use Rattle.cs_model.specs.declared.entry.Entry.TheVariants.{Start, Finish, End, Mover}
 use Rattle.cs_model.specs.declared.entry.Refusal.{Refusal}
@@ -35,7 +34,7 @@ use Rattle.cs_model.specs.declared.work.Work.{Work}
 use Rattle.cs_model.specs.declared.work.Work.TheVariants as work
 use Rattle.cs_model.specs.Works.{session_text, actor_text, renewed_text, merged_text, rows_text, counted_text, work_text}
 use Rattle.cs_model.specs.Text.{next_cell, cells_text, row_line, key_kind, key_text, refusal_text, segments_lines, next_part, parts_text, report_line, state_code, state_name, group_line, encoding_name, bit_of, column_kind, segment_line, left_line, ok_line, head_line, under_lines, statement_text, entry_lines}
-use Rattle.text_laws.specs.Lines.{IsOneLine, HasRowBytes, HasCellBytes, HasSegmentBytes, HasReplyBytes, HasTextBytes}
+use Rattle.text_laws.specs.Lines.{IsOneLine, HasRowBytes, HasSegmentBytes, HasReplyBytes, HasTextBytes}
 
 -- ---- bytes that end no line
 
