@@ -15,11 +15,11 @@ use Rattle.tsql_grammar.specs.declared.terminal.Terminal.TheVariants as terminal
 use Rattle.tsql_grammar.specs.declared.terminal.Symbol.{Symbol}
 use Rattle.tsql_grammar.specs.Terminals.{subset}
 use Rattle.tsql_grammar.specs.Forms.{Form}
-use Rattle.tsql_grammar.specs.Values.{name_of, number_of, sign_of, signed, text_of, factor_of, null_of, nested_of, times_of, term_of, expr_of, is_some, is_odd, null_const, cmp_of, nested_pred, neg_of, conj_of, pred_of, table_of, row_of, series_of, set_of, all_of, oitem_of, is_word_on, begin_tran_of, commit_of, rollback_of, snapshot_of, all_indexes, one_index, alter_of, insert_of, update_of, delete_of, select_of, plain_of, decimal_of, varchar_of}
-use Rattle.tsql_grammar.specs.Grammar.{all_names, other_names, column_aggregates, begins_part, begins_primary, atom_lines, item_lines, set_lines, with_left, with_name, with_low, with_list, with_pattern, with_null, with_not, applied, applied_const, counted_star, counted_name, named_or, name, sign, unsigned, literal, table, names, whole, constant, operand, cmp, maybe_not, compared, between, within_list, like, tested, maybe_tested, is_null, after_name, atom_read, atom, nots, neg_from, conj_from, pred_from, part_at, pred, plain, times, factor_from, term_from, expr_from, primary_at, expr, row, counted, aggregated, item_read, item, items, oitem, where_part, on_off, values, series, set_part, index, group_part, order_part, begin_statement, commit_statement, rollback_statement, set_snapshot, set_statistics, set_lock_timeout, set_read, set_statement, compress_part, alter_index, alter_statement, insert_statement, update_statement, delete_statement, select_statement, statement, line, plain_types, decimal_types, digits_part, size_part, column_type}
+use Rattle.tsql_grammar.specs.Values.{name_of, number_of, sign_of, signed, text_of, factor_of, null_of, nested_of, times_of, term_of, expr_of, is_some, is_odd, null_const, cmp_of, nested_pred, neg_of, conj_of, pred_of, table_of, row_of, series_of, set_of, all_of, oitem_of, is_word_on, begin_tran_of, commit_of, rollback_of, snapshot_of, all_indexes, one_index, alter_of, insert_of, update_of, delete_of, plain_of, decimal_of, varchar_of}
+use Rattle.tsql_grammar.specs.Grammar.{all_names, other_names, column_aggregates, begins_part, begins_primary, atom_lines, item_lines, set_lines, select_lines, with_left, with_name, with_low, with_list, with_pattern, with_null, with_not, with_items, applied, applied_const, counted_star, counted_name, named_or, name, sign, unsigned, literal, table, names, whole, constant, operand, cmp, maybe_not, compared, between, within_list, like, tested, maybe_tested, is_null, after_name, atom_read, atom, nots, neg_from, conj_from, pred_from, part_at, pred, plain, times, factor_from, term_from, expr_from, primary_at, expr, row, counted, aggregated, item_read, item, all_items, item_list, oitem, where_part, on_off, values, series, set_part, index, group_part, order_part, begin_statement, commit_statement, rollback_statement, set_snapshot, set_statistics, set_lock_timeout, set_read, set_statement, compress_part, alter_index, altered, alter_statement, insert_statement, update_statement, delete_statement, query_part, queried, select_read, select_statement, statement, line, plain_types, decimal_types, digits_part, size_part, column_type}
 use Rattle.tsql_grammar.proofs.Laws.{Laws}
 use Rattle.tsql_grammar.proofs.Makers.{one_of, made, both, choose, maybe, repeated, declared_laws, word_laws, behind_laws, maybe_behind_laws, within_laws, listed_laws}
-use Rattle.tsql_grammar.proofs.Written.{written_laws, atom_to, atom_from, item_to, item_from, set_to, set_from}
+use Rattle.tsql_grammar.proofs.Written.{written_laws, atom_to, atom_from, item_to, item_from, set_to, set_from, select_to, select_from}
 
 pub name_laws : (text : List ℕ) → Laws (name text)
 unfolding name
@@ -237,118 +237,141 @@ pub item_laws : (text : List ℕ) → Laws (item text)
 unfolding name sign unsigned literal table names whole constant operand cmp maybe_not compared between within_list like tested maybe_tested is_null after_name atom_read atom nots neg_from conj_from pred_from part_at pred plain times factor_from term_from expr_from primary_at expr row counted aggregated item_read item
 item_laws text = written_laws (item_lines text) (item_read text) (item_read_laws text) (item_to text) (item_from text)
 
-pub items_laws : (text : List ℕ) → Laws (items text)
-unfolding name sign unsigned literal table names whole constant operand cmp maybe_not compared between within_list like tested maybe_tested is_null after_name atom_read atom nots neg_from conj_from pred_from part_at pred plain times factor_from term_from expr_from primary_at expr row counted aggregated item_read item items
-items_laws text = choose (made all_of (word_laws terminal.StarSign refl)) (made shown.List (listed_laws (item_laws text) refl refl)) refl refl refl
+pub all_items_laws : Laws all_items
+unfolding all_items
+all_items_laws = made all_of (word_laws terminal.StarSign refl)
+
+pub item_list_laws : (text : List ℕ) → Laws (item_list text)
+unfolding name sign unsigned literal table names whole constant operand cmp maybe_not compared between within_list like tested maybe_tested is_null after_name atom_read atom nots neg_from conj_from pred_from part_at pred plain times factor_from term_from expr_from primary_at expr row counted aggregated item_read item all_items item_list
+item_list_laws text = made shown.List (listed_laws (item_laws text) refl refl)
 
 pub oitem_laws : (text : List ℕ) → Laws (oitem text)
-unfolding name sign unsigned literal table names whole constant operand cmp maybe_not compared between within_list like tested maybe_tested is_null after_name atom_read atom nots neg_from conj_from pred_from part_at pred plain times factor_from term_from expr_from primary_at expr row counted aggregated item_read item items oitem
+unfolding name sign unsigned literal table names whole constant operand cmp maybe_not compared between within_list like tested maybe_tested is_null after_name atom_read atom nots neg_from conj_from pred_from part_at pred plain times factor_from term_from expr_from primary_at expr row counted aggregated item_read item all_items item_list oitem
 oitem_laws text = made oitem_of (both (name_laws text) (maybe (one_of (terminal.Asc ∷ terminal.Desc ∷ []) terminal.Asc refl) refl) refl)
 
 pub where_part_laws : (text : List ℕ) (n : ℕ) → Laws (where_part text n)
-unfolding name sign unsigned literal table names whole constant operand cmp maybe_not compared between within_list like tested maybe_tested is_null after_name atom_read atom nots neg_from conj_from pred_from part_at pred plain times factor_from term_from expr_from primary_at expr row counted aggregated item_read item items oitem where_part
+unfolding name sign unsigned literal table names whole constant operand cmp maybe_not compared between within_list like tested maybe_tested is_null after_name atom_read atom nots neg_from conj_from pred_from part_at pred plain times factor_from term_from expr_from primary_at expr row counted aggregated item_read item all_items item_list oitem where_part
 where_part_laws text n = behind_laws terminal.Where refl (pred_laws text n)
 
 pub on_off_laws : Laws on_off
-unfolding name sign unsigned literal table names whole constant operand cmp maybe_not compared between within_list like tested maybe_tested is_null after_name atom_read atom nots neg_from conj_from pred_from part_at pred plain times factor_from term_from expr_from primary_at expr row counted aggregated item_read item items oitem where_part on_off
+unfolding name sign unsigned literal table names whole constant operand cmp maybe_not compared between within_list like tested maybe_tested is_null after_name atom_read atom nots neg_from conj_from pred_from part_at pred plain times factor_from term_from expr_from primary_at expr row counted aggregated item_read item all_items item_list oitem where_part on_off
 on_off_laws = made is_word_on (one_of (terminal.On ∷ terminal.Off ∷ []) terminal.On refl)
 
 pub values_laws : (text : List ℕ) (n : ℕ) → Laws (values text n)
-unfolding name sign unsigned literal table names whole constant operand cmp maybe_not compared between within_list like tested maybe_tested is_null after_name atom_read atom nots neg_from conj_from pred_from part_at pred plain times factor_from term_from expr_from primary_at expr row counted aggregated item_read item items oitem where_part on_off values
+unfolding name sign unsigned literal table names whole constant operand cmp maybe_not compared between within_list like tested maybe_tested is_null after_name atom_read atom nots neg_from conj_from pred_from part_at pred plain times factor_from term_from expr_from primary_at expr row counted aggregated item_read item all_items item_list oitem where_part on_off values
 values_laws text n = made sources.Values (behind_laws terminal.Values refl (listed_laws (row_laws text n) refl refl))
 
 pub series_laws : (text : List ℕ) (n : ℕ) → Laws (series text n)
-unfolding name sign unsigned literal table names whole constant operand cmp maybe_not compared between within_list like tested maybe_tested is_null after_name atom_read atom nots neg_from conj_from pred_from part_at pred plain times factor_from term_from expr_from primary_at expr row counted aggregated item_read item items oitem where_part on_off values series
+unfolding name sign unsigned literal table names whole constant operand cmp maybe_not compared between within_list like tested maybe_tested is_null after_name atom_read atom nots neg_from conj_from pred_from part_at pred plain times factor_from term_from expr_from primary_at expr row counted aggregated item_read item all_items item_list oitem where_part on_off values series
 series_laws text n = made sources.Series (made series_of (behind_laws terminal.Select refl (both (listed_laws (expr_laws text n) refl refl)
     (behind_laws terminal.From refl (both (word_laws terminal.GenerateSeries refl)
     (within_laws (both (whole_laws text) (behind_laws terminal.CommaSign refl (whole_laws text)) refl) refl) refl)) refl)))
 
 pub set_part_laws : (text : List ℕ) (n : ℕ) → Laws (set_part text n)
-unfolding name sign unsigned literal table names whole constant operand cmp maybe_not compared between within_list like tested maybe_tested is_null after_name atom_read atom nots neg_from conj_from pred_from part_at pred plain times factor_from term_from expr_from primary_at expr row counted aggregated item_read item items oitem where_part on_off values series set_part
+unfolding name sign unsigned literal table names whole constant operand cmp maybe_not compared between within_list like tested maybe_tested is_null after_name atom_read atom nots neg_from conj_from pred_from part_at pred plain times factor_from term_from expr_from primary_at expr row counted aggregated item_read item all_items item_list oitem where_part on_off values series set_part
 set_part_laws text n = made set_of (both (name_laws text) (behind_laws terminal.EqualSign refl (expr_laws text n)) refl)
 
 pub index_laws : (text : List ℕ) → Laws (index text)
-unfolding name sign unsigned literal table names whole constant operand cmp maybe_not compared between within_list like tested maybe_tested is_null after_name atom_read atom nots neg_from conj_from pred_from part_at pred plain times factor_from term_from expr_from primary_at expr row counted aggregated item_read item items oitem where_part on_off values series set_part index
+unfolding name sign unsigned literal table names whole constant operand cmp maybe_not compared between within_list like tested maybe_tested is_null after_name atom_read atom nots neg_from conj_from pred_from part_at pred plain times factor_from term_from expr_from primary_at expr row counted aggregated item_read item all_items item_list oitem where_part on_off values series set_part index
 index_laws text = choose (made all_indexes (word_laws terminal.All refl)) (made one_index (name_laws text)) refl refl refl
 
 pub group_part_laws : (text : List ℕ) → Laws (group_part text)
-unfolding name sign unsigned literal table names whole constant operand cmp maybe_not compared between within_list like tested maybe_tested is_null after_name atom_read atom nots neg_from conj_from pred_from part_at pred plain times factor_from term_from expr_from primary_at expr row counted aggregated item_read item items oitem where_part on_off values series set_part index group_part
+unfolding name sign unsigned literal table names whole constant operand cmp maybe_not compared between within_list like tested maybe_tested is_null after_name atom_read atom nots neg_from conj_from pred_from part_at pred plain times factor_from term_from expr_from primary_at expr row counted aggregated item_read item all_items item_list oitem where_part on_off values series set_part index group_part
 group_part_laws text = behind_laws terminal.Group refl (behind_laws terminal.By refl (names_laws text))
 
 pub order_part_laws : (text : List ℕ) → Laws (order_part text)
-unfolding name sign unsigned literal table names whole constant operand cmp maybe_not compared between within_list like tested maybe_tested is_null after_name atom_read atom nots neg_from conj_from pred_from part_at pred plain times factor_from term_from expr_from primary_at expr row counted aggregated item_read item items oitem where_part on_off values series set_part index group_part order_part
+unfolding name sign unsigned literal table names whole constant operand cmp maybe_not compared between within_list like tested maybe_tested is_null after_name atom_read atom nots neg_from conj_from pred_from part_at pred plain times factor_from term_from expr_from primary_at expr row counted aggregated item_read item all_items item_list oitem where_part on_off values series set_part index group_part order_part
 order_part_laws text = behind_laws terminal.Order refl (behind_laws terminal.By refl (listed_laws (oitem_laws text) refl refl))
 
 pub begin_statement_laws : Laws begin_statement
-unfolding name sign unsigned literal table names whole constant operand cmp maybe_not compared between within_list like tested maybe_tested is_null after_name atom_read atom nots neg_from conj_from pred_from part_at pred plain times factor_from term_from expr_from primary_at expr row counted aggregated item_read item items oitem where_part on_off values series set_part index group_part order_part begin_statement
+unfolding name sign unsigned literal table names whole constant operand cmp maybe_not compared between within_list like tested maybe_tested is_null after_name atom_read atom nots neg_from conj_from pred_from part_at pred plain times factor_from term_from expr_from primary_at expr row counted aggregated item_read item all_items item_list oitem where_part on_off values series set_part index group_part order_part begin_statement
 begin_statement_laws = behind_laws terminal.Begin refl (made begin_tran_of (one_of (terminal.Tran ∷ terminal.Transaction ∷ []) terminal.Tran refl))
 
 pub commit_statement_laws : Laws commit_statement
-unfolding name sign unsigned literal table names whole constant operand cmp maybe_not compared between within_list like tested maybe_tested is_null after_name atom_read atom nots neg_from conj_from pred_from part_at pred plain times factor_from term_from expr_from primary_at expr row counted aggregated item_read item items oitem where_part on_off values series set_part index group_part order_part begin_statement commit_statement
+unfolding name sign unsigned literal table names whole constant operand cmp maybe_not compared between within_list like tested maybe_tested is_null after_name atom_read atom nots neg_from conj_from pred_from part_at pred plain times factor_from term_from expr_from primary_at expr row counted aggregated item_read item all_items item_list oitem where_part on_off values series set_part index group_part order_part begin_statement commit_statement
 commit_statement_laws = behind_laws terminal.Commit refl (made commit_of (maybe (one_of (terminal.Tran ∷ terminal.Transaction ∷ terminal.Work ∷ []) terminal.Tran refl) refl))
 
 pub rollback_statement_laws : Laws rollback_statement
-unfolding name sign unsigned literal table names whole constant operand cmp maybe_not compared between within_list like tested maybe_tested is_null after_name atom_read atom nots neg_from conj_from pred_from part_at pred plain times factor_from term_from expr_from primary_at expr row counted aggregated item_read item items oitem where_part on_off values series set_part index group_part order_part begin_statement commit_statement rollback_statement
+unfolding name sign unsigned literal table names whole constant operand cmp maybe_not compared between within_list like tested maybe_tested is_null after_name atom_read atom nots neg_from conj_from pred_from part_at pred plain times factor_from term_from expr_from primary_at expr row counted aggregated item_read item all_items item_list oitem where_part on_off values series set_part index group_part order_part begin_statement commit_statement rollback_statement
 rollback_statement_laws = behind_laws terminal.Rollback refl (made rollback_of (maybe (one_of (terminal.Tran ∷ terminal.Transaction ∷ terminal.Work ∷ []) terminal.Tran refl) refl))
 
 pub set_snapshot_laws : Laws set_snapshot
-unfolding name sign unsigned literal table names whole constant operand cmp maybe_not compared between within_list like tested maybe_tested is_null after_name atom_read atom nots neg_from conj_from pred_from part_at pred plain times factor_from term_from expr_from primary_at expr row counted aggregated item_read item items oitem where_part on_off values series set_part index group_part order_part begin_statement commit_statement rollback_statement set_snapshot
+unfolding name sign unsigned literal table names whole constant operand cmp maybe_not compared between within_list like tested maybe_tested is_null after_name atom_read atom nots neg_from conj_from pred_from part_at pred plain times factor_from term_from expr_from primary_at expr row counted aggregated item_read item all_items item_list oitem where_part on_off values series set_part index group_part order_part begin_statement commit_statement rollback_statement set_snapshot
 set_snapshot_laws = behind_laws terminal.Transaction refl (behind_laws terminal.Isolation refl (behind_laws terminal.Level refl (made snapshot_of (word_laws terminal.Snapshot refl))))
 
 pub set_statistics_laws : Laws set_statistics
-unfolding name sign unsigned literal table names whole constant operand cmp maybe_not compared between within_list like tested maybe_tested is_null after_name atom_read atom nots neg_from conj_from pred_from part_at pred plain times factor_from term_from expr_from primary_at expr row counted aggregated item_read item items oitem where_part on_off values series set_part index group_part order_part begin_statement commit_statement rollback_statement set_snapshot set_statistics
+unfolding name sign unsigned literal table names whole constant operand cmp maybe_not compared between within_list like tested maybe_tested is_null after_name atom_read atom nots neg_from conj_from pred_from part_at pred plain times factor_from term_from expr_from primary_at expr row counted aggregated item_read item all_items item_list oitem where_part on_off values series set_part index group_part order_part begin_statement commit_statement rollback_statement set_snapshot set_statistics
 set_statistics_laws = behind_laws terminal.Statistics refl (behind_laws terminal.Io refl (made statements.SetStatistics on_off_laws))
 
 pub set_lock_timeout_laws : (text : List ℕ) → Laws (set_lock_timeout text)
-unfolding name sign unsigned literal table names whole constant operand cmp maybe_not compared between within_list like tested maybe_tested is_null after_name atom_read atom nots neg_from conj_from pred_from part_at pred plain times factor_from term_from expr_from primary_at expr row counted aggregated item_read item items oitem where_part on_off values series set_part index group_part order_part begin_statement commit_statement rollback_statement set_snapshot set_statistics set_lock_timeout
+unfolding name sign unsigned literal table names whole constant operand cmp maybe_not compared between within_list like tested maybe_tested is_null after_name atom_read atom nots neg_from conj_from pred_from part_at pred plain times factor_from term_from expr_from primary_at expr row counted aggregated item_read item all_items item_list oitem where_part on_off values series set_part index group_part order_part begin_statement commit_statement rollback_statement set_snapshot set_statistics set_lock_timeout
 set_lock_timeout_laws text = behind_laws terminal.LockTimeout refl (made statements.SetLockTimeout (unsigned_laws text))
 
 pub set_read_laws : (text : List ℕ) → Laws (set_read text)
-unfolding name sign unsigned literal table names whole constant operand cmp maybe_not compared between within_list like tested maybe_tested is_null after_name atom_read atom nots neg_from conj_from pred_from part_at pred plain times factor_from term_from expr_from primary_at expr row counted aggregated item_read item items oitem where_part on_off values series set_part index group_part order_part begin_statement commit_statement rollback_statement set_snapshot set_statistics set_lock_timeout set_read
+unfolding name sign unsigned literal table names whole constant operand cmp maybe_not compared between within_list like tested maybe_tested is_null after_name atom_read atom nots neg_from conj_from pred_from part_at pred plain times factor_from term_from expr_from primary_at expr row counted aggregated item_read item all_items item_list oitem where_part on_off values series set_part index group_part order_part begin_statement commit_statement rollback_statement set_snapshot set_statistics set_lock_timeout set_read
 set_read_laws text = behind_laws terminal.Set refl (choose set_snapshot_laws (choose set_statistics_laws (set_lock_timeout_laws text) refl refl refl) refl refl refl)
 
 pub set_statement_laws : (text : List ℕ) → Laws (set_statement text)
-unfolding name sign unsigned literal table names whole constant operand cmp maybe_not compared between within_list like tested maybe_tested is_null after_name atom_read atom nots neg_from conj_from pred_from part_at pred plain times factor_from term_from expr_from primary_at expr row counted aggregated item_read item items oitem where_part on_off values series set_part index group_part order_part begin_statement commit_statement rollback_statement set_snapshot set_statistics set_lock_timeout set_read set_statement
+unfolding name sign unsigned literal table names whole constant operand cmp maybe_not compared between within_list like tested maybe_tested is_null after_name atom_read atom nots neg_from conj_from pred_from part_at pred plain times factor_from term_from expr_from primary_at expr row counted aggregated item_read item all_items item_list oitem where_part on_off values series set_part index group_part order_part begin_statement commit_statement rollback_statement set_snapshot set_statistics set_lock_timeout set_read set_statement
 set_statement_laws text = written_laws (set_lines text) (set_read text) (set_read_laws text) (set_to text) (set_from text)
 
 pub compress_part_laws : Laws compress_part
-unfolding name sign unsigned literal table names whole constant operand cmp maybe_not compared between within_list like tested maybe_tested is_null after_name atom_read atom nots neg_from conj_from pred_from part_at pred plain times factor_from term_from expr_from primary_at expr row counted aggregated item_read item items oitem where_part on_off values series set_part index group_part order_part begin_statement commit_statement rollback_statement set_snapshot set_statistics set_lock_timeout set_read set_statement compress_part
+unfolding name sign unsigned literal table names whole constant operand cmp maybe_not compared between within_list like tested maybe_tested is_null after_name atom_read atom nots neg_from conj_from pred_from part_at pred plain times factor_from term_from expr_from primary_at expr row counted aggregated item_read item all_items item_list oitem where_part on_off values series set_part index group_part order_part begin_statement commit_statement rollback_statement set_snapshot set_statistics set_lock_timeout set_read set_statement compress_part
 compress_part_laws = behind_laws terminal.With refl (within_laws (behind_laws terminal.CompressAllRowGroups refl (behind_laws terminal.EqualSign refl on_off_laws)) refl)
 
 pub alter_index_laws : (text : List ℕ) → Laws (alter_index text)
-unfolding name sign unsigned literal table names whole constant operand cmp maybe_not compared between within_list like tested maybe_tested is_null after_name atom_read atom nots neg_from conj_from pred_from part_at pred plain times factor_from term_from expr_from primary_at expr row counted aggregated item_read item items oitem where_part on_off values series set_part index group_part order_part begin_statement commit_statement rollback_statement set_snapshot set_statistics set_lock_timeout set_read set_statement compress_part alter_index
+unfolding name sign unsigned literal table names whole constant operand cmp maybe_not compared between within_list like tested maybe_tested is_null after_name atom_read atom nots neg_from conj_from pred_from part_at pred plain times factor_from term_from expr_from primary_at expr row counted aggregated item_read item all_items item_list oitem where_part on_off values series set_part index group_part order_part begin_statement commit_statement rollback_statement set_snapshot set_statistics set_lock_timeout set_read set_statement compress_part alter_index
 alter_index_laws text = made alter_of (behind_laws terminal.Index refl (both (index_laws text)
     (behind_laws terminal.On refl (both (table_laws text) (behind_laws terminal.Reorganize refl (maybe compress_part_laws refl)) refl)) refl))
 
+pub altered_laws : (text : List ℕ) → Laws (altered text)
+unfolding name sign unsigned literal table names whole constant operand cmp maybe_not compared between within_list like tested maybe_tested is_null after_name atom_read atom nots neg_from conj_from pred_from part_at pred plain times factor_from term_from expr_from primary_at expr row counted aggregated item_read item all_items item_list oitem where_part on_off values series set_part index group_part order_part begin_statement commit_statement rollback_statement set_snapshot set_statistics set_lock_timeout set_read set_statement compress_part alter_index altered
+altered_laws text = alter_index_laws text
+
 pub alter_statement_laws : (text : List ℕ) → Laws (alter_statement text)
-unfolding name sign unsigned literal table names whole constant operand cmp maybe_not compared between within_list like tested maybe_tested is_null after_name atom_read atom nots neg_from conj_from pred_from part_at pred plain times factor_from term_from expr_from primary_at expr row counted aggregated item_read item items oitem where_part on_off values series set_part index group_part order_part begin_statement commit_statement rollback_statement set_snapshot set_statistics set_lock_timeout set_read set_statement compress_part alter_index alter_statement
-alter_statement_laws text = behind_laws terminal.Alter refl (alter_index_laws text)
+unfolding name sign unsigned literal table names whole constant operand cmp maybe_not compared between within_list like tested maybe_tested is_null after_name atom_read atom nots neg_from conj_from pred_from part_at pred plain times factor_from term_from expr_from primary_at expr row counted aggregated item_read item all_items item_list oitem where_part on_off values series set_part index group_part order_part begin_statement commit_statement rollback_statement set_snapshot set_statistics set_lock_timeout set_read set_statement compress_part alter_index altered alter_statement
+alter_statement_laws text = behind_laws terminal.Alter refl (altered_laws text)
 
 pub insert_statement_laws : (text : List ℕ) (n : ℕ) → Laws (insert_statement text n)
-unfolding name sign unsigned literal table names whole constant operand cmp maybe_not compared between within_list like tested maybe_tested is_null after_name atom_read atom nots neg_from conj_from pred_from part_at pred plain times factor_from term_from expr_from primary_at expr row counted aggregated item_read item items oitem where_part on_off values series set_part index group_part order_part begin_statement commit_statement rollback_statement set_snapshot set_statistics set_lock_timeout set_read set_statement compress_part alter_index alter_statement insert_statement
+unfolding name sign unsigned literal table names whole constant operand cmp maybe_not compared between within_list like tested maybe_tested is_null after_name atom_read atom nots neg_from conj_from pred_from part_at pred plain times factor_from term_from expr_from primary_at expr row counted aggregated item_read item all_items item_list oitem where_part on_off values series set_part index group_part order_part begin_statement commit_statement rollback_statement set_snapshot set_statistics set_lock_timeout set_read set_statement compress_part alter_index altered alter_statement insert_statement
 insert_statement_laws text n = made insert_of (behind_laws terminal.Insert refl (maybe_behind_laws terminal.Into refl (both (table_laws text)
     (both (maybe (within_laws (names_laws text) refl) refl) (choose (values_laws text n) (series_laws text n) refl refl refl) refl) refl) refl))
 
 pub update_statement_laws : (text : List ℕ) (n : ℕ) → Laws (update_statement text n)
-unfolding name sign unsigned literal table names whole constant operand cmp maybe_not compared between within_list like tested maybe_tested is_null after_name atom_read atom nots neg_from conj_from pred_from part_at pred plain times factor_from term_from expr_from primary_at expr row counted aggregated item_read item items oitem where_part on_off values series set_part index group_part order_part begin_statement commit_statement rollback_statement set_snapshot set_statistics set_lock_timeout set_read set_statement compress_part alter_index alter_statement insert_statement update_statement
+unfolding name sign unsigned literal table names whole constant operand cmp maybe_not compared between within_list like tested maybe_tested is_null after_name atom_read atom nots neg_from conj_from pred_from part_at pred plain times factor_from term_from expr_from primary_at expr row counted aggregated item_read item all_items item_list oitem where_part on_off values series set_part index group_part order_part begin_statement commit_statement rollback_statement set_snapshot set_statistics set_lock_timeout set_read set_statement compress_part alter_index altered alter_statement insert_statement update_statement
 update_statement_laws text n = made update_of (behind_laws terminal.Update refl (both (table_laws text)
     (behind_laws terminal.Set refl (both (listed_laws (set_part_laws text n) refl refl) (maybe (where_part_laws text n) refl) refl)) refl))
 
 pub delete_statement_laws : (text : List ℕ) (n : ℕ) → Laws (delete_statement text n)
-unfolding name sign unsigned literal table names whole constant operand cmp maybe_not compared between within_list like tested maybe_tested is_null after_name atom_read atom nots neg_from conj_from pred_from part_at pred plain times factor_from term_from expr_from primary_at expr row counted aggregated item_read item items oitem where_part on_off values series set_part index group_part order_part begin_statement commit_statement rollback_statement set_snapshot set_statistics set_lock_timeout set_read set_statement compress_part alter_index alter_statement insert_statement update_statement delete_statement
+unfolding name sign unsigned literal table names whole constant operand cmp maybe_not compared between within_list like tested maybe_tested is_null after_name atom_read atom nots neg_from conj_from pred_from part_at pred plain times factor_from term_from expr_from primary_at expr row counted aggregated item_read item all_items item_list oitem where_part on_off values series set_part index group_part order_part begin_statement commit_statement rollback_statement set_snapshot set_statistics set_lock_timeout set_read set_statement compress_part alter_index altered alter_statement insert_statement update_statement delete_statement
 delete_statement_laws text n = made delete_of (behind_laws terminal.Delete refl (maybe_behind_laws terminal.From refl (both (table_laws text) (maybe (where_part_laws text n) refl) refl) refl))
 
+pub query_part_laws : (text : List ℕ) (n : ℕ) → Laws (query_part text n)
+unfolding name sign unsigned literal table names whole constant operand cmp maybe_not compared between within_list like tested maybe_tested is_null after_name atom_read atom nots neg_from conj_from pred_from part_at pred plain times factor_from term_from expr_from primary_at expr row counted aggregated item_read item all_items item_list oitem where_part on_off values series set_part index group_part order_part begin_statement commit_statement rollback_statement set_snapshot set_statistics set_lock_timeout set_read set_statement compress_part alter_index altered alter_statement insert_statement update_statement delete_statement query_part
+query_part_laws text n = both (table_laws text) (both (maybe (where_part_laws text n) refl)
+    (both (maybe (group_part_laws text) refl) (maybe (order_part_laws text) refl) refl) refl) refl
+
+pub queried_laws : (text : List ℕ) (n : ℕ) → Laws (queried text n)
+unfolding name sign unsigned literal table names whole constant operand cmp maybe_not compared between within_list like tested maybe_tested is_null after_name atom_read atom nots neg_from conj_from pred_from part_at pred plain times factor_from term_from expr_from primary_at expr row counted aggregated item_read item all_items item_list oitem where_part on_off values series set_part index group_part order_part begin_statement commit_statement rollback_statement set_snapshot set_statistics set_lock_timeout set_read set_statement compress_part alter_index altered alter_statement insert_statement update_statement delete_statement query_part queried
+queried_laws text n = made with_items (query_part_laws text n)
+
+pub select_read_laws : (text : List ℕ) (n : ℕ) → Laws (select_read text n)
+unfolding name sign unsigned literal table names whole constant operand cmp maybe_not compared between within_list like tested maybe_tested is_null after_name atom_read atom nots neg_from conj_from pred_from part_at pred plain times factor_from term_from expr_from primary_at expr row counted aggregated item_read item all_items item_list oitem where_part on_off values series set_part index group_part order_part begin_statement commit_statement rollback_statement set_snapshot set_statistics set_lock_timeout set_read set_statement compress_part alter_index altered alter_statement insert_statement update_statement delete_statement query_part queried select_read
+select_read_laws text n = behind_laws terminal.Select refl
+    (choose (made applied (both all_items_laws (behind_laws terminal.From refl (queried_laws text n)) refl))
+    (made applied (both (item_list_laws text) (behind_laws terminal.From refl (queried_laws text n)) refl)) refl refl refl)
+
 pub select_statement_laws : (text : List ℕ) (n : ℕ) → Laws (select_statement text n)
-unfolding name sign unsigned literal table names whole constant operand cmp maybe_not compared between within_list like tested maybe_tested is_null after_name atom_read atom nots neg_from conj_from pred_from part_at pred plain times factor_from term_from expr_from primary_at expr row counted aggregated item_read item items oitem where_part on_off values series set_part index group_part order_part begin_statement commit_statement rollback_statement set_snapshot set_statistics set_lock_timeout set_read set_statement compress_part alter_index alter_statement insert_statement update_statement delete_statement select_statement
-select_statement_laws text n = made select_of (behind_laws terminal.Select refl (both (items_laws text) (behind_laws terminal.From refl (both (table_laws text)
-    (both (maybe (where_part_laws text n) refl) (both (maybe (group_part_laws text) refl) (maybe (order_part_laws text) refl) refl) refl) refl)) refl))
+unfolding name sign unsigned literal table names whole constant operand cmp maybe_not compared between within_list like tested maybe_tested is_null after_name atom_read atom nots neg_from conj_from pred_from part_at pred plain times factor_from term_from expr_from primary_at expr row counted aggregated item_read item all_items item_list oitem where_part on_off values series set_part index group_part order_part begin_statement commit_statement rollback_statement set_snapshot set_statistics set_lock_timeout set_read set_statement compress_part alter_index altered alter_statement insert_statement update_statement delete_statement query_part queried select_read select_statement
+select_statement_laws text n =
+    written_laws (select_lines text n) (select_read text n) (select_read_laws text n) (select_to text n) (select_from text n)
 
 pub statement_laws : (text : List ℕ) (n : ℕ) → Laws (statement text n)
-unfolding name sign unsigned literal table names whole constant operand cmp maybe_not compared between within_list like tested maybe_tested is_null after_name atom_read atom nots neg_from conj_from pred_from part_at pred plain times factor_from term_from expr_from primary_at expr row counted aggregated item_read item items oitem where_part on_off values series set_part index group_part order_part begin_statement commit_statement rollback_statement set_snapshot set_statistics set_lock_timeout set_read set_statement compress_part alter_index alter_statement insert_statement update_statement delete_statement select_statement statement
+unfolding name sign unsigned literal table names whole constant operand cmp maybe_not compared between within_list like tested maybe_tested is_null after_name atom_read atom nots neg_from conj_from pred_from part_at pred plain times factor_from term_from expr_from primary_at expr row counted aggregated item_read item all_items item_list oitem where_part on_off values series set_part index group_part order_part begin_statement commit_statement rollback_statement set_snapshot set_statistics set_lock_timeout set_read set_statement compress_part alter_index altered alter_statement insert_statement update_statement delete_statement query_part queried select_read select_statement statement
 statement_laws text n = choose begin_statement_laws (choose commit_statement_laws (choose rollback_statement_laws (choose (set_statement_laws text)
     (choose (alter_statement_laws text) (choose (insert_statement_laws text n) (choose (update_statement_laws text n)
     (choose (delete_statement_laws text n) (select_statement_laws text n) refl refl refl) refl refl refl) refl refl refl) refl refl refl) refl refl refl) refl refl refl) refl refl refl) refl refl refl
 
 pub line_laws : (text : List ℕ) (n : ℕ) → Laws (line text n)
-unfolding name sign unsigned literal table names whole constant operand cmp maybe_not compared between within_list like tested maybe_tested is_null after_name atom_read atom nots neg_from conj_from pred_from part_at pred plain times factor_from term_from expr_from primary_at expr row counted aggregated item_read item items oitem where_part on_off values series set_part index group_part order_part begin_statement commit_statement rollback_statement set_snapshot set_statistics set_lock_timeout set_read set_statement compress_part alter_index alter_statement insert_statement update_statement delete_statement select_statement statement line
+unfolding name sign unsigned literal table names whole constant operand cmp maybe_not compared between within_list like tested maybe_tested is_null after_name atom_read atom nots neg_from conj_from pred_from part_at pred plain times factor_from term_from expr_from primary_at expr row counted aggregated item_read item all_items item_list oitem where_part on_off values series set_part index group_part order_part begin_statement commit_statement rollback_statement set_snapshot set_statistics set_lock_timeout set_read set_statement compress_part alter_index altered alter_statement insert_statement update_statement delete_statement query_part queried select_read select_statement statement line
 line_laws text n = made (λ (x : Statement × Option Symbol). x.0) (both (statement_laws text n) (maybe (word_laws terminal.SemicolonSign refl) refl) refl)

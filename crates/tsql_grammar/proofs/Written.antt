@@ -6,6 +6,7 @@ use Rattle.tsql_trees.specs.declared.pred.AtomTree.{AtomTree}
 use Rattle.tsql_trees.specs.declared.pred.OperandTree.{OperandTree}
 use Rattle.tsql_trees.specs.declared.pred.OperandTree.TheVariants as operands
 use Rattle.tsql_trees.specs.declared.statement.Statement.{Statement}
+use Rattle.tsql_trees.specs.declared.statement.ItemsTree.{ItemsTree}
 use Rattle.tsql_trees.specs.declared.statement.ItemTree.{ItemTree}
 use Rattle.tsql_trees.specs.declared.statement.ItemTree.TheVariants as its
 use Rattle.tsql_grammar.specs.declared.terminal.Terminal.{Terminal}
@@ -13,8 +14,8 @@ use Rattle.tsql_grammar.specs.declared.terminal.Terminal.TheVariants as terminal
 use Rattle.tsql_grammar.specs.declared.terminal.Symbol.{Symbol}
 use Rattle.tsql_grammar.specs.Terminals.{among, same}
 use Rattle.tsql_grammar.specs.Forms.{Symbols, Form, token, written}
-use Rattle.tsql_grammar.specs.Values.{name_of, aggregate_of, count_all_of}
-use Rattle.tsql_grammar.specs.Grammar.{other_names, column_aggregates, atom_lines, item_lines, set_lines, with_left, with_name, with_low, with_list, with_pattern, with_null, counted_star, counted_name, name, operand, compared, between, within_list, like, tested, maybe_tested, is_null, after_name, atom_read, counted, aggregated, item_read, set_read}
+use Rattle.tsql_grammar.specs.Values.{name_of, aggregate_of, count_all_of, QueryPart, select_of}
+use Rattle.tsql_grammar.specs.Grammar.{other_names, column_aggregates, atom_lines, item_lines, set_lines, select_lines, with_left, with_name, with_low, with_list, with_pattern, with_null, with_items, counted_star, counted_name, name, operand, compared, between, within_list, like, tested, maybe_tested, is_null, after_name, atom_read, counted, aggregated, item_read, set_read, items, queried, select_read}
 use Rattle.tsql_grammar.proofs.Laws.{Laws}
 
 pub written_laws : {X : Type 0} (lines a : Form X) → Laws a
@@ -74,6 +75,34 @@ unfolding set_read
 set_from text ts s (inl ((t, x), (u, v, e, ht, hx), q)) = ((t, x), (u, v, e, ht, inl hx), q)
 set_from text ts s (inr (inl ((t, x), (u, v, e, ht, hx), q))) = ((t, x), (u, v, e, ht, inr (inl hx)), q)
 set_from text ts s (inr (inr ((t, x), (u, v, e, ht, hx), q))) = ((t, x), (u, v, e, ht, inr (inr hx)), q)
+
+-- ---- SELECT
+
+pub select_to : (text : List ℕ) (n : ℕ) (ts : Symbols) (s : Statement) → (select_read text n).Has ts s → (select_lines text n).Has ts s
+unfolding select_read queried items
+select_to text n ts s ((t, y), (u, v, e, ht, inl ((i, f), (u1, v1, e1, hi, ((o, g), (u2, v2, e2, ho, (x, hx, kx)), kg)), k)), q) = (
+  (i, x),
+  ((t, (i, x)), (u, v, e, ht, (u1, v1, e1, inl hi, ((o, x), (u2, v2, e2, ho, hx), refl))), refl),
+  q ∙ k ∙ ap (λ (h : ItemsTree → Statement). h i) (kg ∙ kx),
+)
+select_to text n ts s ((t, y), (u, v, e, ht, inr ((i, f), (u1, v1, e1, hi, ((o, g), (u2, v2, e2, ho, (x, hx, kx)), kg)), k)), q) = (
+  (i, x),
+  ((t, (i, x)), (u, v, e, ht, (u1, v1, e1, inr hi, ((o, x), (u2, v2, e2, ho, hx), refl))), refl),
+  q ∙ k ∙ ap (λ (h : ItemsTree → Statement). h i) (kg ∙ kx),
+)
+
+pub select_from : (text : List ℕ) (n : ℕ) (ts : Symbols) (s : Statement) → (select_lines text n).Has ts s → (select_read text n).Has ts s
+unfolding select_read queried items
+select_from text n ts s (x, ((t, (i, y)), (u, v, e, ht, (u1, v1, e1, inl hi, ((o, z), (u2, v2, e2, ho, hz), kz))), k), q) = (
+  (t, select_of (i, z)),
+  (u, v, e, ht, inl ((i, with_items z), (u1, v1, e1, hi, ((o, with_items z), (u2, v2, e2, ho, (z, hz, refl)), refl)), refl)),
+  q ∙ ap select_of k ∙ ap (λ (w : QueryPart). select_of (i, w)) kz,
+)
+select_from text n ts s (x, ((t, (i, y)), (u, v, e, ht, (u1, v1, e1, inr hi, ((o, z), (u2, v2, e2, ho, hz), kz))), k), q) = (
+  (t, select_of (i, z)),
+  (u, v, e, ht, inr ((i, with_items z), (u1, v1, e1, hi, ((o, with_items z), (u2, v2, e2, ho, (z, hz, refl)), refl)), refl)),
+  q ∙ ap select_of k ∙ ap (λ (w : QueryPart). select_of (i, w)) kz,
+)
 
 -- ---- items
 

@@ -39,7 +39,7 @@ use Rattle.tsql_grammar.specs.declared.terminal.Terminal.{Terminal}
 use Rattle.tsql_grammar.specs.declared.terminal.Terminal.TheVariants.{All, Alter, And, Asc, Begin, Between, By, Commit, Delete, Desc, From, Group, In, Index, Insert, Into, Is, Like, Not, Null, Off, On, Or, Order, Rollback, Select, Set, Tran, Transaction, Update, Values, Where, With, Plain, Work, Isolation, Level, Snapshot, Statistics, Io, LockTimeout, Reorganize, CompressAllRowGroups, GenerateSeries, Count, Sum, Min, Max, Avg, Tinyint, Smallint, Int, Integer, Bigint, Date, Decimal, Numeric, Varchar, Columnstore, OpenSign, CloseSign, CommaSign, PointSign, SemicolonSign, StarSign, PlusSign, MinusSign, SlashSign, PercentSign, EqualSign, UnequalSign, BangEqualSign, LessSign, LessEqualSign, GreaterSign, GreaterEqualSign, Number, Text}
 use Rattle.tsql_grammar.specs.declared.terminal.Symbol.{Symbol}
 use Rattle.tsql_grammar.specs.Forms.{Form, token, mapped, seq, either, optional, many, declared, written}
-use Rattle.tsql_grammar.specs.Values.{name_of, number_of, sign_of, signed, text_of, factor_of, null_of, nested_of, times_of, term_of, expr_of, is_some, is_odd, null_const, cmp_of, compare_of, between_of, in_of, like_of, is_null_of, nested_pred, neg_of, conj_of, pred_of, table_of, row_of, series_of, set_of, aggregate_of, count_all_of, all_of, oitem_of, is_word_on, begin_tran_of, commit_of, rollback_of, snapshot_of, all_indexes, one_index, alter_of, insert_of, update_of, delete_of, select_of, plain_of, decimal_of, varchar_of}
+use Rattle.tsql_grammar.specs.Values.{name_of, number_of, sign_of, signed, text_of, factor_of, null_of, nested_of, times_of, term_of, expr_of, is_some, is_odd, null_const, cmp_of, compare_of, between_of, in_of, like_of, is_null_of, nested_pred, neg_of, conj_of, pred_of, table_of, row_of, series_of, set_of, aggregate_of, count_all_of, all_of, oitem_of, is_word_on, begin_tran_of, commit_of, rollback_of, snapshot_of, all_indexes, one_index, alter_of, insert_of, update_of, delete_of, QueryPart, select_of, plain_of, decimal_of, varchar_of}
 
 -- ---- ways to write lines
 
@@ -318,9 +318,17 @@ item_read text =
 unfoldable pub item : List ℕ → Form ItemTree
 item text = written (item_lines text) (item_read text)
 
+-- "*"
+unfoldable pub all_items : Form ItemsTree
+all_items = mapped all_of (word StarSign)
+
+-- item {"," item}
+unfoldable pub item_list : List ℕ → Form ItemsTree
+item_list text = mapped shown.List (listed (item text))
+
 -- items = "*" | item {"," item}
 unfoldable pub items : List ℕ → Form ItemsTree
-items text = either (mapped all_of (word StarSign)) (mapped shown.List (listed (item text)))
+items text = either all_items (item_list text)
 
 -- oitem = name [ASC | DESC]
 unfoldable pub oitem : List ℕ → Form OitemTree
@@ -407,9 +415,13 @@ compress_part = behind With (within (behind CompressAllRowGroups (behind EqualSi
 unfoldable pub alter_index : List ℕ → Form Statement
 alter_index text = mapped alter_of (behind Index (seq (index text) (behind On (seq (table text) (behind Reorganize (optional compress_part))))))
 
+-- what is altered, one line for each of its branches
+unfoldable pub altered : List ℕ → Form Statement
+altered text = alter_index text
+
 -- ALTER and what is altered
 unfoldable pub alter_statement : List ℕ → Form Statement
-alter_statement text = behind Alter (alter_index text)
+alter_statement text = behind Alter (altered text)
 
 -- INSERT [INTO] table ["(" names ")"] (VALUES .. | SELECT ..)
 unfoldable pub insert_statement : List ℕ → ℕ → Form Statement
@@ -424,10 +436,29 @@ update_statement text n = mapped update_of (behind Update (seq (table text) (beh
 unfoldable pub delete_statement : List ℕ → ℕ → Form Statement
 delete_statement text n = mapped delete_of (behind Delete (maybe_behind From (seq (table text) (optional (where_part text n)))))
 
+-- table [WHERE pred] [GROUP BY names] [ORDER BY oitem {"," oitem}]
+unfoldable pub query_part : List ℕ → ℕ → Form QueryPart
+query_part text n =
+    seq (table text) (seq (optional (where_part text n)) (seq (optional (group_part text)) (optional (order_part text))))
+
 -- SELECT items FROM table [WHERE pred] [GROUP BY names] [ORDER BY oitem {"," oitem}]
+abbrev pub select_lines : List ℕ → ℕ → Form Statement
+select_lines text n = mapped select_of (behind Select (seq (items text) (behind From (query_part text n))))
+
+-- the same line, by what is shown, a "*" or a list of items, and then by what follows FROM
+abbrev pub with_items : QueryPart → ItemsTree → Statement
+with_items x items = select_of (items, x)
+
+unfoldable pub queried : List ℕ → ℕ → Form (ItemsTree → Statement)
+queried text n = mapped with_items (query_part text n)
+
+unfoldable pub select_read : List ℕ → ℕ → Form Statement
+select_read text n =
+    behind Select (either (mapped applied (seq all_items (behind From (queried text n))))
+    (mapped applied (seq (item_list text) (behind From (queried text n)))))
+
 unfoldable pub select_statement : List ℕ → ℕ → Form Statement
-select_statement text n =
-    mapped select_of (behind Select (seq (items text) (behind From (seq (table text) (seq (optional (where_part text n)) (seq (optional (group_part text)) (optional (order_part text))))))))
+select_statement text n = written (select_lines text n) (select_read text n)
 
 -- statement, one line for each of its branches
 unfoldable pub statement : List ℕ → ℕ → Form Statement

@@ -248,7 +248,11 @@ update_of (table, (sets, filter)) = statements.Update table sets filter
 abbrev pub delete_of : TableTree × Option PredTree → Statement
 delete_of (table, filter) = statements.Delete table filter
 
-abbrev pub select_of : ItemsTree × (TableTree × (Option PredTree × (Option (List NameTree) × Option (List OitemTree)))) → Statement
+-- what follows FROM in a query: its table, and what stands after WHERE, GROUP BY and ORDER BY
+abbrev pub QueryPart : Type 0
+QueryPart = TableTree × (Option PredTree × (Option (List NameTree) × Option (List OitemTree)))
+
+abbrev pub select_of : ItemsTree × QueryPart → Statement
 select_of (items, (table, (filter, (groups, order)))) = statements.Select items table filter groups order
 
 -- ---- columns' types

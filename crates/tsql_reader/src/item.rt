@@ -4,7 +4,7 @@ ghost use Rattle.std.specs.Prelude.{◌≡◌, [], ◌∷◌, ℕ, false, None, 
 ghost use Rattle.tsql_grammar.specs.Terminals.{among};
 ghost use Rattle.tsql_grammar.specs.Forms.{next_among, token, optional, mapped, many, seq, with_front};
 ghost use Rattle.tsql_grammar.specs.Values.{name_of, aggregate_in};
-ghost use Rattle.tsql_grammar.specs.Grammar.{behind, within, listed, word, name, names, column_aggregates, other_names, counted, aggregated, item, items, named_or};
+ghost use Rattle.tsql_grammar.specs.Grammar.{behind, within, listed, word, name, names, column_aggregates, other_names, counted, aggregated, item, all_items, item_list, named_or};
 ghost use Rattle.tsql_trees.specs.declared.statement.ItemTree.TheVariants as its;
 ghost use Rattle.tsql_exprs.specs.Steps.{Steps};
 
@@ -137,15 +137,20 @@ impl Line for ItemLine {
     }
 }
 
-/// Reads what a SELECT shows.
-#[tactic(auto, unfolding(tsql_grammar::specs::Grammar::items))]
-pub fn items(grammar: &Grammar<'_>, reader: &mut Reader<'_>) -> Result<ItemsTree, ReadError>
-    ensures { Steps result reader.new.rest.now ((items grammar.now.text.now).reads reader.old.rest.now) }
+/// Reads the `*` of a SELECT that shows all.
+#[tactic(auto, unfolding(tsql_grammar::specs::Grammar::all_items))]
+pub fn all_items(reader: &mut Reader<'_>) -> Result<ItemsTree, ReadError>
+    ensures { Steps result reader.new.rest.now (all_items.reads reader.old.rest.now) }
 {
-    if reader.begins(Terminal::StarSign) {
-        let star = reader.take(Terminal::StarSign)?;
-        return Ok(ItemsTree::All { place: star.place });
-    }
+    let star = reader.take(Terminal::StarSign)?;
+    Ok(ItemsTree::All { place: star.place })
+}
+
+/// Reads the list of what a SELECT shows.
+#[tactic(auto, unfolding(tsql_grammar::specs::Grammar::item_list))]
+pub fn item_list(grammar: &Grammar<'_>, reader: &mut Reader<'_>) -> Result<ItemsTree, ReadError>
+    ensures { Steps result reader.new.rest.now ((item_list grammar.now.text.now).reads reader.old.rest.now) }
+{
     let list = grammar.listed::<ItemLine>(reader)?;
     Ok(ItemsTree::List(list))
 }

@@ -3,14 +3,14 @@
 ghost use Rattle.std.specs.Prelude.{◌≡◌, [], ◌∷◌, ℕ};
 ghost use Rattle.tsql_grammar.specs.Terminals.{among};
 ghost use Rattle.tsql_grammar.specs.Forms.{next_among, token, optional, mapped, many, seq, with_front};
-ghost use Rattle.tsql_grammar.specs.Grammar.{behind, maybe_behind, begin_statement, commit_statement, rollback_statement, set_snapshot, set_statistics, set_lock_timeout, set_read, set_statement, alter_statement, insert_statement, update_statement, delete_statement, select_statement, statement, line};
+ghost use Rattle.tsql_grammar.specs.Grammar.{behind, maybe_behind, begin_statement, commit_statement, rollback_statement, set_snapshot, set_statistics, set_lock_timeout, set_read, set_statement, alter_index, alter_statement, insert_statement, update_statement, delete_statement, queried, select_statement, statement, line};
 ghost use Rattle.tsql_exprs.specs.Steps.{Steps};
 
-use crate::item::items;
+use crate::item::{all_items, item_list};
 use crate::parts::{column_names, compress, filter, groups, index, order, sets, source};
 use tsql_exprs::{Grammar, ReadError, Reader};
 use tsql_grammar::{Symbol, Terminal, is_same};
-use tsql_trees::Statement;
+use tsql_trees::{ItemsTree, Statement};
 
 #[tactic(auto, unfolding(tsql_grammar::specs::Grammar::begin_statement))]
 fn begin(reader: &mut Reader<'_>) -> Result<Statement, ReadError>
@@ -83,11 +83,10 @@ fn set(grammar: &Grammar<'_>, reader: &mut Reader<'_>) -> Result<Statement, Read
     set_lock_timeout(grammar, reader)
 }
 
-#[tactic(auto, unfolding(tsql_grammar::specs::Grammar::alter_statement, tsql_grammar::specs::Grammar::alter_index))]
-fn alter(grammar: &Grammar<'_>, reader: &mut Reader<'_>) -> Result<Statement, ReadError>
-    ensures { Steps result reader.new.rest.now ((alter_statement grammar.now.text.now).reads reader.old.rest.now) }
+#[tactic(auto, unfolding(tsql_grammar::specs::Grammar::alter_index))]
+fn alter_index(grammar: &Grammar<'_>, reader: &mut Reader<'_>) -> Result<Statement, ReadError>
+    ensures { Steps result reader.new.rest.now ((alter_index grammar.now.text.now).reads reader.old.rest.now) }
 {
-    reader.take(Terminal::Alter)?;
     reader.take(Terminal::Index)?;
     let index = index(grammar, reader)?;
     reader.take(Terminal::On)?;
@@ -99,6 +98,14 @@ fn alter(grammar: &Grammar<'_>, reader: &mut Reader<'_>) -> Result<Statement, Re
         table,
         compress,
     })
+}
+
+#[tactic(auto, unfolding(tsql_grammar::specs::Grammar::alter_statement, tsql_grammar::specs::Grammar::altered))]
+fn alter(grammar: &Grammar<'_>, reader: &mut Reader<'_>) -> Result<Statement, ReadError>
+    ensures { Steps result reader.new.rest.now ((alter_statement grammar.now.text.now).reads reader.old.rest.now) }
+{
+    reader.take(Terminal::Alter)?;
+    alter_index(grammar, reader)
 }
 
 #[tactic(auto, unfolding(tsql_grammar::specs::Grammar::insert_statement))]
@@ -144,13 +151,15 @@ fn delete(grammar: &Grammar<'_>, reader: &mut Reader<'_>) -> Result<Statement, R
     Ok(Statement::Delete { table, filter })
 }
 
-#[tactic(auto, unfolding(tsql_grammar::specs::Grammar::select_statement))]
-fn select(grammar: &Grammar<'_>, reader: &mut Reader<'_>) -> Result<Statement, ReadError>
-    ensures { Steps result reader.new.rest.now ((select_statement grammar.now.text.now grammar.now.depth).reads reader.old.rest.now) }
+/// Reads what follows FROM in a query that shows these items.
+#[tactic(auto, unfolding(tsql_grammar::specs::Grammar::queried, tsql_grammar::specs::Grammar::query_part))]
+fn queried(
+    grammar: &Grammar<'_>,
+    reader: &mut Reader<'_>,
+    items: ItemsTree,
+) -> Result<Statement, ReadError>
+    ensures { Steps result reader.new.rest.now ((mapped (λ f. f items) (queried grammar.now.text.now grammar.now.depth)).reads reader.old.rest.now) }
 {
-    reader.take(Terminal::Select)?;
-    let items = items(grammar, reader)?;
-    reader.take(Terminal::From)?;
     let table = grammar.table(reader)?;
     let filter = filter(grammar, reader)?;
     let groups = groups(grammar, reader)?;
@@ -162,6 +171,21 @@ fn select(grammar: &Grammar<'_>, reader: &mut Reader<'_>) -> Result<Statement, R
         groups,
         order,
     })
+}
+
+#[tactic(auto, unfolding(tsql_grammar::specs::Grammar::select_statement, tsql_grammar::specs::Grammar::select_read, tsql_grammar::specs::Grammar::all_items))]
+fn select(grammar: &Grammar<'_>, reader: &mut Reader<'_>) -> Result<Statement, ReadError>
+    ensures { Steps result reader.new.rest.now ((select_statement grammar.now.text.now grammar.now.depth).reads reader.old.rest.now) }
+{
+    reader.take(Terminal::Select)?;
+    if reader.begins(Terminal::StarSign) {
+        let items = all_items(reader)?;
+        reader.take(Terminal::From)?;
+        return queried(grammar, reader, items);
+    }
+    let items = item_list(grammar, reader)?;
+    reader.take(Terminal::From)?;
+    queried(grammar, reader, items)
 }
 
 #[tactic(auto, unfolding(tsql_grammar::specs::Grammar::begin_statement))]

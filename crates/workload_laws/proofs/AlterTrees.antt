@@ -5,7 +5,7 @@ use Rattle.tsql_trees.specs.declared.statement.Statement.TheVariants as statemen
 use Rattle.tsql_grammar.specs.declared.terminal.Terminal.{Terminal}
 use Rattle.tsql_grammar.specs.declared.terminal.Terminal.TheVariants as terminal
 use Rattle.tsql_grammar.specs.Forms.{Symbols, Form, next_among, token, mapped, optional}
-use Rattle.tsql_grammar.specs.Grammar.{word, behind, unsigned, on_off, begin_statement, commit_statement, rollback_statement, set_snapshot, set_statistics, set_lock_timeout, set_statement, alter_index, alter_statement, insert_statement, update_statement, delete_statement, select_statement, statement, line}
+use Rattle.tsql_grammar.specs.Grammar.{word, behind, unsigned, on_off, begin_statement, commit_statement, rollback_statement, set_snapshot, set_statistics, set_lock_timeout, set_statement, altered, alter_statement, insert_statement, update_statement, delete_statement, select_statement, statement, line}
 use Rattle.tsql_grammar.specs.Values.{begin_tran_of, commit_of, rollback_of, snapshot_of, insert_of, update_of, delete_of, select_of}
 use Rattle.tsql_grammar.proofs.Laws.{next_append}
 use Rattle.tsql_reader.specs.Statements.{grammar}
@@ -85,7 +85,7 @@ module _ (text : List ℕ) where
 
   alter_begins : BeginsIt (alter_statement text)
   unfolding alter_statement
-  alter_begins = begins_behind (alter_index text)
+  alter_begins = begins_behind (altered text)
 
   none_insert : (n : ℕ) → HasNone (insert_statement text n)
   unfolding insert_statement
