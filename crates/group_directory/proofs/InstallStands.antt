@@ -15,7 +15,7 @@ use Rattle.cs_model.specs.declared.work.Actor.{Actor}
 use Rattle.cs_model.specs.Changes.{Change}
 use Rattle.delete_bitmap.specs.declared.Marks.{Marks}
 use Rattle.group_book.specs.Book as book
-use Rattle.group_book.specs.Book.{Version, Ending, Book, is_invisible}
+use Rattle.group_book.specs.Book.{Ending, Book, is_invisible}
 use Rattle.group_book.specs.Book.Choice.{Compress, Flush, Rebuild, Merge, Settle, Clear, Idle}
 use Rattle.group_book.specs.Turns.{is_by, is_id_of, is_gone, raised, same_actor, made_of, first_claim, claim_by, installed, installed_with, after_install, after_flush, after_work}
 use Rattle.group_book.specs.Invariant.{makes_group, may_be_source, IsClaim, IsBookOf}

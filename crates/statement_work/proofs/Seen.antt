@@ -1,6 +1,5 @@
 -- What was begun, as what is pinned for it shows it.
-use Rattle.std.proofs.Common.{◌≡◌, ℕ, List, [], ◌∷◌, length, map, refl, sym, ap, ◌∙◌, subst, arith, Bool, false}
-use Rattle.std.specs.Prelude.{None, Some}
+use Rattle.std.proofs.Common.{◌≡◌, ℕ, List, [], ◌∷◌, length, map, refl, sym, ap, ◌∙◌, subst}
 use Rattle.std.specs.List.{All, AllByRecursion}
 use Rattle.std.proofs.lemmas.List.Elements.{All-map, All-nil, recursion_from_All}
 use Rattle.cs_types.specs.declared.Key.{Key}
@@ -8,12 +7,11 @@ use Rattle.cs_types.specs.declared.Value.{Value}
 use Rattle.cs_types.proofs.PaddedLemmas.{padded_itself}
 use Rattle.cs_model.specs.Changes.{Edit, Change, Table, laid}
 use Rattle.cs_model.specs.Held.{IsFit, IsFitTable, IsWhole}
-use Rattle.cs_model.specs.Obstacles.{has_row}
 use Rattle.edit_laws.specs.Edits.{edits_of}
 use Rattle.edit_laws.proofs.Rows.{Holds, laid_all}
 use Rattle.log_laws.specs.Started.{Begun, snapshot_table, seen_by}
 use Rattle.group_view.specs.declared.view.Pinned.{Pinned}
-use Rattle.group_view.specs.Views.{padded_table, shown_table}
+use Rattle.group_view.specs.Views.{padded_table}
 use Rattle.row_work.specs.Reads.{read_by, shown_by, MayRead}
 use Rattle.statement_core.specs.Begun.{MayWork, Pins}
 use Rattle.statement_core.specs.Outcomes.{width_of}
